@@ -1,0 +1,5 @@
+pub mod Charging
+pub mod Load
+pub mod Demand
+pub mod Supply
+pub mod Passes

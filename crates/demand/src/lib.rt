@@ -1,0 +1,1 @@
+// Demand and supply of a server at one length.
