@@ -1,0 +1,5 @@
+pub mod Digit
+pub mod Number
+pub mod Table
+pub mod Line
+pub mod Refused
