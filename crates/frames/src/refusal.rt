@@ -1,5 +1,5 @@
 // The refusals of document 01 as one enum, each with what its place needs.
-// `Outcome` is the answer of whatever is done or refused.
+// `Outcome` answers for what is done or refused, `Written` for a text of so many bytes at a buffer's start.
 ghost use mathlib.Core.Path.{_≡_};
 ghost use Rattle.frames.specs.Refused.{numberOf, placeOf};
 
@@ -20,6 +20,11 @@ pub enum Refusal {
 
 pub enum Outcome {
     Done,
+    Refused(Refusal),
+}
+
+pub enum Written {
+    Bytes(usize),
     Refused(Refusal),
 }
 

@@ -1,0 +1,35 @@
+-- The task set as a value: its tasks in file order, the all-zero set, and the set with its unused room at zero.
+-- Document 01, "The numbers of a task set" and "Refusal numbers and their order".
+use Prim.Native.Nat.{ℕ, _-_}
+use mathlib.Core.List.{List, _++_}
+use lib.ListN.{length, take, replicate}
+use Rattle.tasks.specs.declared.set.Header.{Header}
+use Rattle.tasks.specs.declared.set.Task.{Task}
+use Rattle.tasks.specs.declared.set.TaskSet.{TaskSet}
+
+-- the limits of document 01
+abbrev pub mostTasks : ℕ
+mostTasks = 64
+
+abbrev pub mostProcessors : ℕ
+mostProcessors = 64
+
+abbrev pub longestPeriod : ℕ
+longestPeriod = 1000000
+
+abbrev pub zeroHeader : Header
+zeroHeader = record { processors = 0; slot = 0; relj = 0; relo = 0; ctswo = 0; resd = 0; cpmdo = 0 }
+
+abbrev pub zeroTask : Task
+zeroTask = record { id = 0; cost = 0; deadline = 0; period = 0 }
+
+abbrev pub zeroSet : TaskSet
+zeroSet = record { header = zeroHeader; count = 0; tasks = replicate 64 zeroTask }
+
+-- the tasks that count, in file order
+abbrev pub members : TaskSet → List Task
+members set = take (set .count) (set .tasks)
+
+-- a set of these tasks, its unused room at zero
+unfoldable pub setOf : Header → List Task → TaskSet
+setOf header ts = record { header = header; count = length ts; tasks = ts ++ replicate (mostTasks - length ts) zeroTask }

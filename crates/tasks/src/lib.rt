@@ -1,0 +1,3 @@
+// Task files: the task set with its limits, the reader of any bytes and the writer of any set.
+pub mod read;
+pub mod set;

@@ -1,0 +1,61 @@
+// The task set: the header's figures and the tasks in file order, with the limits of document 01 as its constants.
+// A set may also be built by a caller, so its types hold more than a file's fields do.
+ghost use mathlib.Core.Path.{_≡_};
+ghost use Rattle.tasks.specs.Set.{zeroSet};
+
+pub struct Header {
+    pub processors: u8,
+    pub slot: u32,
+    pub relj: u16,
+    pub relo: u16,
+    pub ctswo: u16,
+    pub resd: u16,
+    pub cpmdo: u16,
+}
+
+pub struct Task {
+    pub id: u8,
+    pub cost: u32,
+    pub deadline: u32,
+    pub period: u32,
+}
+
+pub struct TaskSet {
+    pub header: Header,
+    pub count: usize,
+    pub tasks: [Task; 64],
+}
+
+impl TaskSet {
+    pub const MOST_TASKS: usize = 64;
+
+    pub const MOST_PROCESSORS: u8 = 64;
+
+    pub const LONGEST_PERIOD: u32 = 1_000_000;
+
+    pub const LONGEST_HORIZON: u64 = 10_000_000;
+
+    // The all-zero set, which a refused read answers.
+    pub fn zero() -> TaskSet
+        ensures { λ r. ⌜ r ≡ zeroSet ⌝ }
+    {
+        TaskSet {
+            header: Header {
+                processors: 0,
+                slot: 0,
+                relj: 0,
+                relo: 0,
+                ctswo: 0,
+                resd: 0,
+                cpmdo: 0,
+            },
+            count: 0,
+            tasks: [Task {
+                id: 0,
+                cost: 0,
+                deadline: 0,
+                period: 0,
+            }; 64],
+        }
+    }
+}
