@@ -1,0 +1,191 @@
+-- Laws of demand: it grows with the length, turns with every common multiple of the periods, and stays between steps.
+-- Assumes nothing.
+use Prim.Native.Nat.{ℕ, zero, suc, _+_, _*_, _-_, _/_, _%_, _≤_, _<_, _∣_}
+use mathlib.Core.Path.{_≡_, refl, ap, ap₂, subst, sym, _∙_}
+use mathlib.Core.List.{List, [], _∷_, _++_}
+use mathlib.Core.Logic.{_⊎_, inl, inr, ⊎-elim}
+use native.Mathlib.Nat.{add-assoc, add-zero, zero-add, add-le-add, mul-add, mul-zero, mul-le-mul, mul-le-mul-left, mul-le-mul-right, le-refl, le-trans, le-of-eq, div-mul-le-self, div-eq-of-lt, add-div-right, add-mul-div-left, mul-div-cancel', le-div-iff-mul-le, le-antisymm, le-suc-iff}
+use native.Mathlib.Numerals.{add-one}
+use native.Mathlib.Omega.{arith}
+use lib.Arith.{le-zero}
+use lib.ListN.{length, getD, length-append}
+use Rattle.demand.specs.Load.{Load, Sound, Every, Loaded, loadAt, loadsOf}
+use Rattle.demand.specs.Demand.{pick, jobs, demand}
+use Rattle.demand.proofs.Cases.{le-or-lt, pick-le, pick-lt}
+
+-- ---- the jobs of one load
+
+pub jobs-due : {d t : ℕ} (T : ℕ) → d ≤ t → jobs d T t ≡ (t - d) / T + 1
+unfolding jobs
+jobs-due {d} {t} T h = pick-le ((t - d) / T + 1) 0 h
+
+pub jobs-none : {d t : ℕ} (T : ℕ) → t < d → jobs d T t ≡ 0
+unfolding jobs
+jobs-none {d} {t} T h = pick-lt ((t - d) / T + 1) 0 h
+
+-- what one division computes
+pub jobs-code : (d T t : ℕ) → 1 ≤ T → d ≤ T → jobs d T t ≡ (t + T - d) / T
+jobs-code d T t h g =
+    ⊎-elim
+    (λ (p : d ≤ t).
+    let e : t - d + T ≡ t + T - d = omega arith in
+    jobs-due T p ∙ sym (add-div-right (t - d) h) ∙ ap (λ (n : ℕ). n / T) e)
+    (λ (p : t < d). jobs-none T p ∙ sym (div-eq-of-lt (omega arith)))
+    (le-or-lt d t)
+
+-- a larger number has no smaller quotient
+pub div-mono : (T : ℕ) {a b : ℕ} → 1 ≤ T → a ≤ b → a / T ≤ b / T
+div-mono T {a} h g = le-div-iff-mul-le h .1 (le-trans (div-mul-le-self a T) g)
+
+-- in a longer window there are no fewer jobs
+pub jobs-mono : (d T : ℕ) {t u : ℕ} → 1 ≤ T → d ≤ T → t ≤ u → jobs d T t ≤ jobs d T u
+jobs-mono d T {t} {u} h g p =
+    let le : t + T - d ≤ u + T - d = omega arith in
+    rw (jobs-code d T t h g, jobs-code d T u h g) (div-mono T h le)
+
+-- in a common multiple of its period a load has a job for each period
+pub jobs-full : (d T H : ℕ) → 1 ≤ d → d ≤ T → T ∣ H → jobs d T H ≡ H / T
+jobs-full d T H h g v =
+    let m : T * (H / T) ≡ H = mul-div-cancel' T v in
+    let e : H + T - d ≡ T - d + T * (H / T) = omega arith in
+    jobs-code d T H (omega arith) g ∙ ap (λ (n : ℕ). n / T) e ∙ add-mul-div-left (T - d) (H / T) (omega arith) ∙
+    ap (λ (n : ℕ). n + H / T) (div-eq-of-lt (omega arith)) ∙ zero-add (H / T)
+
+-- and H ticks more bring as many jobs as H ticks have
+pub jobs-turn : (d T t H : ℕ) → 1 ≤ d → d ≤ T → T ∣ H → jobs d T (t + H) ≡ jobs d T t + jobs d T H
+jobs-turn d T t H h g v =
+    let m : T * (H / T) ≡ H = mul-div-cancel' T v in
+    let e : t + H + T - d ≡ t + T - d + T * (H / T) = omega arith in
+    jobs-code d T (t + H) (omega arith) g ∙ ap (λ (n : ℕ). n / T) e ∙ add-mul-div-left (t + T - d) (H / T) (omega arith) ∙
+    ap₂ _+_ (sym (jobs-code d T t (omega arith) g)) (sym (jobs-full d T H h g v))
+
+-- ---- one load
+
+within-sums : (c d T q t : ℕ) → c ≤ d → d ≤ T → d ≤ t → q * T ≤ t - d → c * (q + 1) ≤ t
+within-sums c d T q t hc hd ht hq =
+    let m : c * q ≤ T * q = mul-le-mul {m₁ = q} (le-trans hc hd) (le-refl q) in
+    omega arith
+
+-- a sound load never asks more than the length
+pub term-within : (l : Load) (t : ℕ) → Sound l → l .cost * jobs (l .deadline) (l .period) t ≤ t
+term-within l t s =
+    ⊎-elim
+    (λ (p : l .deadline ≤ t).
+    rw (jobs-due (l .period) p)
+    (within-sums (l .cost) (l .deadline) (l .period) ((t - l .deadline) / l .period) t (s .meets) (s .constrained) p (div-mul-le-self (t - l .deadline) (l .period))))
+    (λ (p : t < l .deadline). rw (jobs-none (l .period) p) (omega (arith, mul-zero (l .cost))))
+    (le-or-lt (l .deadline) t)
+
+-- ---- lists of loads
+
+pub every-snoc : (P : Load → Type 0) (ls : List Load) (l : Load) → Every P ls → P l → Every P (ls ++ (l ∷ []))
+every-snoc P [] l e p = (p, tt)
+every-snoc P (x ∷ ls) l e p = (e .0, every-snoc P ls l (e .1) p)
+
+pub every-front : (P : Load → Type 0) (ls : List Load) (l : Load) → Every P (ls ++ (l ∷ [])) → Every P ls
+every-front P [] l e = tt
+every-front P (x ∷ ls) l e = (e .0, every-front P ls l (e .1))
+
+pub every-last : (P : Load → Type 0) (ls : List Load) (l : Load) → Every P (ls ++ (l ∷ [])) → P l
+every-last P [] l e = e .0
+every-last P (x ∷ ls) l e = every-last P ls l (e .1)
+
+pub demand-nil : (t : ℕ) → demand [] t ≡ 0
+unfolding demand
+demand-nil t = refl
+
+pub demand-cons : (l : Load) (ls : List Load) (t : ℕ) → demand (l ∷ ls) t ≡ l .cost * jobs (l .deadline) (l .period) t + demand ls t
+unfolding demand
+demand-cons l ls t = refl
+
+-- one load more adds its term
+pub demand-snoc : (ls : List Load) (l : Load) (t : ℕ) → demand (ls ++ (l ∷ [])) t ≡ demand ls t + l .cost * jobs (l .deadline) (l .period) t
+unfolding demand
+demand-snoc [] l t = omega arith
+demand-snoc (x ∷ ls) l t = omega (arith, demand-snoc ls l t)
+
+-- demand never falls as the length grows
+pub demand-mono : (ls : List Load) {t u : ℕ} → Every Sound ls → t ≤ u → demand ls t ≤ demand ls u
+unfolding demand
+demand-mono [] e h = le-refl 0
+demand-mono (l ∷ ls) e h =
+    let s = e .0 in
+    add-le-add (mul-le-mul-left (l .cost) (jobs-mono (l .deadline) (l .period) (omega arith) (s .constrained) h)) (demand-mono ls (e .1) h)
+
+-- at length 0 nothing is asked
+pub demand-zero : (ls : List Load) → Every Sound ls → demand ls 0 ≡ 0
+unfolding demand
+demand-zero [] e = refl
+demand-zero (l ∷ ls) e = omega (arith, term-within l 0 (e .0), demand-zero ls (e .1))
+
+-- each load asks at most the length
+pub demand-within : (ls : List Load) (t : ℕ) → Every Sound ls → demand ls t ≤ length ls * t
+unfolding demand
+demand-within [] t e = omega arith
+demand-within (l ∷ ls) t e = omega (arith, term-within l t (e .0), demand-within ls t (e .1))
+
+turn-sums : (c j k a b : ℕ) {x y : ℕ} → x ≡ j + k → y ≡ a + b → c * x + y ≡ c * j + a + (c * k + b)
+turn-sums c j k a b e g = rw (e, g) (omega arith)
+
+-- demand turns with each common multiple of the periods
+pub demand-turn : (ls : List Load) (t H : ℕ) → Every Sound ls → Every (λ (l : Load). l .period ∣ H) ls → demand ls (t + H) ≡ demand ls t + demand ls H
+unfolding demand
+demand-turn [] t H e v = refl
+demand-turn (l ∷ ls) t H e v =
+    let s = e .0 in
+    turn-sums (l .cost) (jobs (l .deadline) (l .period) t) (jobs (l .deadline) (l .period) H) (demand ls t) (demand ls H)
+    (jobs-turn (l .deadline) (l .period) t H (omega arith) (s .constrained) (v .0))
+    (demand-turn ls t H (e .1) (v .1))
+
+-- ---- the loads that stand in three slices
+
+module _ (costs deadlines periods : List ℕ) where
+  pub loads-next : (i : ℕ) → loadsOf costs deadlines periods (i + 1) ≡ loadsOf costs deadlines periods i ++ (loadAt costs deadlines periods i ∷ [])
+  unfolding loadsOf
+  loads-next i = rw add-one
+
+  pub loads-length : (n : ℕ) → length (loadsOf costs deadlines periods n) ≡ n
+  unfolding loadsOf
+  loads-length zero = refl
+  loads-length (suc n) =
+      length-append (loadsOf costs deadlines periods n) (loadAt costs deadlines periods n ∷ []) ∙ omega (arith, loads-length n)
+
+  -- what holds of the first n loads holds of the first i, and of each
+  pub every-first : (P : Load → Type 0) (n : ℕ) {i : ℕ} → i ≤ n → Every P (loadsOf costs deadlines periods n) → Every P (loadsOf costs deadlines periods i)
+  unfolding loadsOf
+  every-first P zero h e = subst (λ (k : ℕ). Every P (loadsOf costs deadlines periods k)) (sym (le-zero h)) e
+  every-first P (suc n) h e =
+      ⊎-elim
+      (λ p. every-first P n p (every-front P (loadsOf costs deadlines periods n) (loadAt costs deadlines periods n) e))
+      (λ q. subst (λ (k : ℕ). Every P (loadsOf costs deadlines periods k)) (sym q) e)
+      (le-suc-iff .0 h)
+
+  pub every-at : (P : Load → Type 0) (n : ℕ) {i : ℕ} → i < n → Every P (loadsOf costs deadlines periods n) → P (loadAt costs deadlines periods i)
+  every-at P n {i} h e =
+      every-last P (loadsOf costs deadlines periods i) (loadAt costs deadlines periods i) (rw (loads-next i) at (every-first P n {i = i + 1} (omega arith) e))
+
+  -- the demand of one load more
+  pub demand-next : (i t : ℕ) →
+      demand (loadsOf costs deadlines periods (i + 1)) t ≡ demand (loadsOf costs deadlines periods i) t + getD costs i 0 * jobs (getD deadlines i 0) (getD periods i 0) t
+  demand-next i t =
+      rw (loads-next i) (demand-snoc (loadsOf costs deadlines periods i) (loadAt costs deadlines periods i) t)
+
+  -- it adds nothing before its deadline, and its term from there on
+  pub next-none : (i : ℕ) {t : ℕ} → t < getD deadlines i 0 → demand (loadsOf costs deadlines periods (i + 1)) t ≡ demand (loadsOf costs deadlines periods i) t
+  next-none i {t} h =
+      demand-next i t ∙
+      ap (λ (j : ℕ). demand (loadsOf costs deadlines periods i) t + getD costs i 0 * j) (jobs-none (getD periods i 0) h) ∙
+      omega (arith, mul-zero (getD costs i 0))
+
+  pub next-due : (i : ℕ) {t : ℕ} → getD deadlines i 0 ≤ t →
+      demand (loadsOf costs deadlines periods (i + 1)) t ≡
+      demand (loadsOf costs deadlines periods i) t + getD costs i 0 * ((t - getD deadlines i 0) / getD periods i 0 + 1)
+  next-due i {t} h =
+      demand-next i t ∙
+      ap (λ (j : ℕ). demand (loadsOf costs deadlines periods i) t + getD costs i 0 * j) (jobs-due (getD periods i 0) h)
+
+  -- the demand of the first i of few loads
+  pub demand-room : (n i t : ℕ) → Loaded costs deadlines periods n → i ≤ n → demand (loadsOf costs deadlines periods i) t ≤ 256 * t
+  demand-room n i t h g =
+      le-trans (demand-within (loadsOf costs deadlines periods i) t (every-first Sound n g (h .sound)))
+      (rw (loads-length i) (mul-le-mul-right t (le-trans g (h .few))))

@@ -1,0 +1,16 @@
+-- `charging::charged_deadline` meets its contract: the sums fit, and the result is the definition's.
+-- Assumes nothing.
+use borrow.Author.Needs.{needs}
+use Rattle.demand.specs.Charging.{effectiveDeadline}
+use Rattle.demand.proofs.charging.charged_deadline.Statement.{statement}
+use Rattle.demand.proofs.charging.charged_deadline.Tie as tie
+
+sub-result : tie.Need-sub-result
+sub-result c = search needs
+
+returns : tie.Need-returns
+unfolding effectiveDeadline
+returns c = search needs
+
+pub charged-deadline-spec : {M : Type 1} → statement M
+charged-deadline-spec = tie.close (tie.spec sub-result returns)

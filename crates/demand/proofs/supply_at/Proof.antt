@@ -1,0 +1,41 @@
+-- `supply_at` meets its contract: supply is at most the length, so nothing wraps.
+-- Assumes nothing.
+use mathlib.Core.Path.{refl}
+use native.Mathlib.Omega.{arith}
+use Rattle.demand.specs.Supply.{supplyPast}
+use Rattle.demand.proofs.Supply.{slots-within, supply-within}
+use borrow.Author.Needs.{needs}
+use Rattle.demand.proofs.supply_at.Statement.{statement}
+use Rattle.demand.proofs.supply_at.Tie as tie
+
+rem-rest : tie.Need-rem-rest
+rem-rest c = search needs
+
+div-whole : tie.Need-div-whole
+div-whole c = search needs
+
+sub-whole : tie.Need-sub-whole
+sub-whole c = search needs
+
+mul-whole : tie.Need-mul-whole
+mul-whole c = omega (arith, slots-within (c .args .slot) (c .args .gap) (c .args .t))
+
+sub-result : tie.Need-sub-result
+sub-result c = search needs
+
+add-result : tie.Need-add-result
+unfolding supplyPast
+add-result c = omega (arith, supply-within (c .before .args .slot) (c .before .args .gap) (c .before .args .t))
+
+returns : tie.Need-returns
+unfolding supplyPast
+returns c = refl
+
+returns-2 : tie.Need-returns-2
+unfolding supplyPast
+returns-2 c = omega arith
+
+pub supply-at-spec : {M : Type 1} → statement M
+supply-at-spec =
+    tie.close
+    (tie.spec rem-rest div-whole sub-whole mul-whole sub-result add-result returns returns-2)
