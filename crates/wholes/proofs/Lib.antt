@@ -1,0 +1,4 @@
+-- The laws of the common measure, the least common multiple and the rounded quotient, for the proofs here and for callers.
+pub mod MeasureLaws
+pub mod MultipleLaws
+pub mod CeilingLaws

@@ -1,0 +1,239 @@
+-- The least common multiple is one, and the only one, of two numbers and of a list; it grows with the list; worked values.
+-- Assumes nothing.
+use Prim.Native.Nat.{ℕ, zero, suc, _+_, _*_, _-_, _/_, _≤_, _<_, _∣_, zero-le, suc-le-suc}
+use mathlib.Core.Path.{_≡_, refl, sym, ap, subst, _∙_}
+use mathlib.Core.Logic.{_⊎_, inl, inr}
+use mathlib.Core.List.{List, [], _∷_, _++_}
+use native.Mathlib.Nat.{
+  le-of-suc-le-suc,
+  not-suc-le-zero,
+  add-sub-of-le,
+  mul-assoc,
+  mul-comm,
+  mul-zero,
+  mul-right-comm,
+  mul-pos,
+  eq-zero-or-pos,
+  div-mul-cancel,
+  mul-div-cancel',
+  dvd-refl,
+  dvd-zero,
+  dvd-trans,
+  dvd-mul-left,
+  dvd-mul-right,
+  mul-dvd-mul-right,
+  dvd-of-mul-dvd-mul-right,
+  eq-zero-of-zero-dvd,
+  dvd-antisymm,
+  pos-of-dvd-of-pos,
+  le-of-dvd,
+}
+use mathlib.Core.Bool.{Bool, true, false}
+use lib.Dec.{leb}
+use borrow.Author.Tests.{le-leb, lt-leb, leb-true, leb-false}
+use native.Mathlib.Numerals.{add-one}
+use native.Mathlib.Omega.{arith}
+use lib.ListN.{length, getD, take, drop}
+use lib.Seq.{length-take-le, take-add, take-suc, getD-take}
+use Rattle.wholes.specs.Measure.{CommonMeasure, measureIn, commonMeasure}
+use Rattle.wholes.specs.Multiple.{LeastMultiple, leastMultiple, Divide, LeastMultipleOf, leastMultipleOf, Some, Positive, pickMultiple, within}
+use Rattle.wholes.specs.declared.Multiple.{Multiple}
+use Rattle.wholes.specs.declared.Multiple.the-variants.{Within, Past}
+use Rattle.wholes.proofs.MeasureLaws.{common-measure, scaled-measure}
+
+module _ (a b : ℕ) where
+  abbrev g : ℕ
+  g = commonMeasure a b
+
+  parts : CommonMeasure a b g
+  parts = common-measure a b
+
+  first-divides : a ∣ leastMultiple a b
+  unfolding leastMultiple
+  first-divides =
+      subst (λ (n : ℕ). a ∣ n)
+      (ap (λ (n : ℕ). n * (b / g)) (sym (div-mul-cancel g (parts .of-first))) ∙ mul-assoc (a / g) g (b / g)
+      ∙ ap (λ (n : ℕ). a / g * n) (mul-div-cancel' g (parts .of-second)))
+      (dvd-mul-right a (b / g))
+
+  -- the multiple times the measure is the product
+  times-measure : leastMultiple a b * g ≡ a * b
+  unfolding leastMultiple
+  times-measure = mul-right-comm (a / g) b g ∙ ap (λ (n : ℕ). n * b) (div-mul-cancel g (parts .of-first))
+
+  product-divides : (n : ℕ) → a ∣ n → b ∣ n → leastMultiple a b * g ∣ n * g
+  product-divides n p q =
+      subst (λ (k : ℕ). k ∣ n * g) (sym times-measure)
+      (scaled-measure a b n (a * b) (subst (λ (k : ℕ). k ∣ n * a) (mul-comm b a) (mul-dvd-mul-right b q a))
+      (mul-dvd-mul-right a p b))
+
+  divides-each : (n : ℕ) → a ∣ n → b ∣ n → (g ≡ 0) ⊎ (0 < g) → leastMultiple a b ∣ n
+  divides-each n p q (inl e) =
+      subst (λ (k : ℕ). leastMultiple a b ∣ k) (sym (eq-zero-of-zero-dvd (subst (λ (k : ℕ). k ∣ n) none q)))
+      (dvd-zero (leastMultiple a b))
+    where
+      none : b ≡ 0
+      none = eq-zero-of-zero-dvd (subst (λ (k : ℕ). k ∣ b) e (parts .of-second))
+  divides-each n p q (inr h) = dvd-of-mul-dvd-mul-right (leastMultiple a b) h (product-divides n p q)
+
+  second-divides : b ∣ leastMultiple a b
+  unfolding leastMultiple
+  second-divides = dvd-mul-left b (a / g)
+
+  -- `leastMultiple` is the least common multiple
+  pub least-multiple : LeastMultiple a b (leastMultiple a b)
+  least-multiple = record {
+    of-first = first-divides;
+    of-second = second-divides;
+    least = λ n p q. divides-each n p q (eq-zero-or-pos g);
+  }
+
+  -- of positive numbers it is positive
+  pub multiple-pos : 1 ≤ a → 1 ≤ b → 1 ≤ leastMultiple a b
+  multiple-pos p q =
+      pos-of-dvd-of-pos (least-multiple .least (a * b) (dvd-mul-right a b) (dvd-mul-left b a)) (mul-pos p q)
+
+-- with 0 it is 0
+pub multiple-zero : (a b : ℕ) → b ≡ 0 → 0 ≡ leastMultiple a b
+unfolding leastMultiple
+multiple-zero a b e = sym (ap (λ (n : ℕ). a / commonMeasure a b * n) e ∙ mul-zero (a / commonMeasure a b))
+
+-- the quotient by the measure, times the second number
+pub multiple-by : (a b : ℕ) {g : ℕ} → g ≡ commonMeasure a b → a / g * b ≡ leastMultiple a b
+unfolding leastMultiple
+multiple-by a b e = ap (λ (n : ℕ). a / n * b) e
+
+-- two numbers have one least common multiple
+pub least-unique : {a b m n : ℕ} → LeastMultiple a b m → LeastMultiple a b n → m ≡ n
+least-unique {a} {b} {m} {n} x y =
+    dvd-antisymm (x .least n (y .of-first) (y .of-second)) (y .least m (x .of-first) (x .of-second))
+
+-- one number more at the head of the list
+least-cons : {a b k : ℕ} {bs : List ℕ} {m : ℕ} → LeastMultiple a b k → LeastMultipleOf k bs m → LeastMultipleOf a (b ∷ bs) m
+least-cons {a} {b} {k} {bs} {m} two rest = record {
+  of-first = dvd-trans a (two .of-first) (rest .of-first);
+  of-others = others;
+  least = λ n p q. rest .least n (two .least n p (q zero (suc-le-suc zero-le))) (λ i h. q (suc i) (suc-le-suc h));
+}
+  where
+    others : Divide (b ∷ bs) m
+    others zero h = dvd-trans b (two .of-second) (rest .of-first)
+    others (suc i) h = rest .of-others i (le-of-suc-le-suc h)
+
+-- `leastMultipleOf` is the least common multiple of its first number and the list
+pub least-multiple-of : (a : ℕ) (bs : List ℕ) → LeastMultipleOf a bs (leastMultipleOf a bs)
+unfolding leastMultipleOf
+least-multiple-of a [] = record {
+  of-first = dvd-refl a;
+  of-others = λ i h. absurd (not-suc-le-zero h);
+  least = λ n p q. p;
+}
+least-multiple-of a (b ∷ bs) = least-cons (least-multiple a b) (least-multiple-of (leastMultiple a b) bs)
+
+-- a first number and a list have one least common multiple
+pub least-of-unique : {a : ℕ} {bs : List ℕ} {m n : ℕ} → LeastMultipleOf a bs m → LeastMultipleOf a bs n → m ≡ n
+least-of-unique {a} {bs} {m} {n} x y =
+    dvd-antisymm (x .least n (y .of-first) (y .of-others)) (y .least m (x .of-first) (x .of-others))
+
+-- of positive numbers it is positive
+pub multiple-of-pos : (a : ℕ) (bs : List ℕ) → 1 ≤ a → Some bs → 1 ≤ leastMultipleOf a bs
+unfolding leastMultipleOf
+multiple-of-pos a [] p q = p
+multiple-of-pos a (b ∷ bs) p q =
+    multiple-of-pos (leastMultiple a b) bs (multiple-pos a b p (q zero (suc-le-suc zero-le))) (λ i h. q (suc i) (suc-le-suc h))
+
+-- its first number divides it
+pub first-divides-of : (a : ℕ) (bs : List ℕ) → a ∣ leastMultipleOf a bs
+first-divides-of a bs = least-multiple-of a bs .of-first
+
+-- each number of the list divides it
+pub others-divide-of : (a : ℕ) (bs : List ℕ) (i : ℕ) → i < length bs → getD bs i 0 ∣ leastMultipleOf a bs
+others-divide-of a bs = least-multiple-of a bs .of-others
+
+-- it divides every common multiple, and is at most each that is positive
+pub multiple-of-divides : (a : ℕ) (bs : List ℕ) (n : ℕ) → a ∣ n → Divide bs n → leastMultipleOf a bs ∣ n
+multiple-of-divides a bs = least-multiple-of a bs .least
+
+pub multiple-of-le : (a : ℕ) (bs : List ℕ) (n : ℕ) → 1 ≤ n → a ∣ n → Divide bs n → leastMultipleOf a bs ≤ n
+multiple-of-le a bs n h p q = le-of-dvd h (multiple-of-divides a bs n p q)
+
+-- a list in two parts
+pub multiple-of-append : (a : ℕ) (bs cs : List ℕ) → leastMultipleOf a (bs ++ cs) ≡ leastMultipleOf (leastMultipleOf a bs) cs
+unfolding leastMultipleOf
+multiple-of-append a [] cs = refl
+multiple-of-append a (b ∷ bs) cs = multiple-of-append (leastMultiple a b) bs cs
+
+module _ {a : ℕ} {bs : List ℕ} {n : ℕ} (s : Positive a bs n) where
+  some-taken : (k : ℕ) → k ≤ n → Some (take k bs)
+  some-taken k h i l =
+      let short : length (take k bs) ≡ k = length-take-le k bs (omega (arith, s .there)) in
+      let i<k : i < k = subst (λ (m : ℕ). i < m) short l in
+      subst (λ (x : ℕ). 1 ≤ x) (sym (getD-take k bs i 0 i<k)) (s .others-some i (omega arith))
+
+  -- of the first k, it is positive
+  pub taken-pos : (k : ℕ) → k ≤ n → 1 ≤ leastMultipleOf a (take k bs)
+  taken-pos k h = multiple-of-pos a (take k bs) (s .first-some) (some-taken k h)
+
+  -- one number more
+  pub taken-more : (i : ℕ) → i < n → leastMultipleOf a (take (i + 1) bs) ≡ leastMultiple (leastMultipleOf a (take i bs)) (getD bs i 0)
+  unfolding leastMultipleOf
+  taken-more i h =
+      ap (λ (k : ℕ). leastMultipleOf a (take k bs)) (add-one i)
+      ∙ ap (leastMultipleOf a) (take-suc bs i 0 (omega (arith, s .there)))
+      ∙ multiple-of-append a (take i bs) (getD bs i 0 ∷ [])
+
+  -- with more numbers it does not fall
+  pub taken-grows : (k : ℕ) → k ≤ n → leastMultipleOf a (take k bs) ≤ leastMultipleOf a (take n bs)
+  taken-grows k h = le-of-dvd (taken-pos n (omega arith)) (subst (λ (m : ℕ). leastMultipleOf a (take k bs) ∣ m) (sym e) (first-divides-of _ _))
+    where
+      e : leastMultipleOf a (take n bs) ≡ leastMultipleOf (leastMultipleOf a (take k bs)) (take (n - k) (drop k bs))
+      e =
+          ap (λ (m : ℕ). leastMultipleOf a (take m bs)) (sym (add-sub-of-le h)) ∙ ap (leastMultipleOf a) (take-add k (n - k) bs)
+          ∙ multiple-of-append a (take k bs) (take (n - k) (drop k bs))
+
+-- under a limit: at most the limit is the answer, past it is none, and each answer says which it was
+module _ (limit m : ℕ) where
+  pub within-is : m ≤ limit → within limit m ≡ Within m
+  unfolding within
+  within-is h = ap (λ (t : Bool). pickMultiple t (Within m) Past) (le-leb m limit h)
+
+  pub past-is : limit < m → within limit m ≡ Past
+  unfolding within
+  past-is h = ap (λ (t : Bool). pickMultiple t (Within m) Past) (lt-leb m limit h)
+
+  value-by : (n : ℕ) (t : Bool) → leb m limit ≡ t → pickMultiple t (Within m) Past ≡ Within n → (n ≡ m) × (m ≤ limit)
+  value-by n true e p = (cc, leb-true m limit e)
+  value-by n false e p = let z : _≡_ {A = ℕ} 0 1 = cc in absurd (omega arith)
+
+  pub within-value : (n : ℕ) → within limit m ≡ Within n → (n ≡ m) × (m ≤ limit)
+  unfolding within
+  within-value n p = value-by n (leb m limit) refl p
+
+  past-by : (t : Bool) → leb m limit ≡ t → pickMultiple t (Within m) Past ≡ Past → limit < m
+  past-by true e p = let z : _≡_ {A = ℕ} 0 1 = cc in absurd (omega arith)
+  past-by false e p = leb-false m limit e
+
+  pub past-value : within limit m ≡ Past → limit < m
+  unfolding within
+  past-value p = past-by (leb m limit) refl p
+
+-- worked values: example J's horizon, example K's, and the zeros
+pub horizon-J : leastMultipleOf 128 (1000000 ∷ 78125 ∷ []) ≡ 10000000
+unfolding leastMultipleOf leastMultiple commonMeasure measureIn
+horizon-J = refl
+
+pub horizon-K : leastMultipleOf 11 (1000000 ∷ []) ≡ 11000000
+unfolding leastMultipleOf leastMultiple commonMeasure measureIn
+horizon-K = refl
+
+pub multiple-1000000-78125 : leastMultiple 1000000 78125 ≡ 5000000
+unfolding leastMultiple commonMeasure measureIn
+multiple-1000000-78125 = refl
+
+pub multiple-1000000-128 : leastMultiple 1000000 128 ≡ 2000000
+unfolding leastMultiple commonMeasure measureIn
+multiple-1000000-128 = refl
+
+pub multiple-zeros : (leastMultiple 0 0 ≡ 0) × (leastMultiple 7 0 ≡ 0) × (leastMultiple 0 7 ≡ 0)
+unfolding leastMultiple commonMeasure measureIn
+multiple-zeros = (refl, refl, refl)

@@ -1,0 +1,33 @@
+-- `wholes::ceiling` meets its contract: the test on the remainder picks the case of `ceilingOf`.
+-- Assumes nothing.
+use Prim.Native.Nat.{_+_, _/_}
+use mathlib.Core.Path.{ap}
+use borrow.Author.Needs.{needs}
+use borrow.Author.Tests.{eq-eqb, ne-eqb}
+use native.Mathlib.Omega.{arith}
+use Rattle.wholes.specs.Ceiling.{ceilingOf}
+use Rattle.wholes.proofs.CeilingLaws.{quotient-below}
+use Rattle.wholes.proofs.ceiling.Statement.{statement}
+use Rattle.wholes.proofs.ceiling.Tie as tie
+use Rattle.wholes.proofs.ceiling.Reads as reads
+use Rattle.wholes.proofs.ceiling.Lts as lts
+
+div-q : tie.Need-div-q
+div-q c = search needs
+
+rem-if1 : tie.Need-rem-if1
+rem-if1 c = search needs
+
+add-result : tie.Need-add-result
+add-result c = omega (arith, quotient-below (c .before .args .a) (c .before .args .b) (c .before .pre) (c .if1 .left))
+
+returns : tie.Need-returns
+unfolding ceilingOf
+returns c = simp (eq-eqb _ _ (c .if1 .taken)) (omega arith)
+
+returns-2 : tie.Need-returns-2
+unfolding ceilingOf
+returns-2 c = simp (ne-eqb _ _ (c .if1 .left))
+
+pub ceiling-spec : {M : Type 1} → statement M
+ceiling-spec = tie.close (tie.spec div-q rem-if1 add-result returns returns-2)

@@ -1,0 +1,66 @@
+// Whole numbers: the common measure, the least common multiple within a limit, and a quotient rounded up.
+// The horizon of a task set and the processors of a ring are counted with them.
+ghost use mathlib.Core.Path.{_≡_};
+ghost use Prim.Native.Nat.{_≤_};
+ghost use lib.ListN.{take};
+ghost use Rattle.wholes.specs.Measure.{commonMeasure};
+ghost use Rattle.wholes.specs.Multiple.{leastMultiple, leastMultipleOf, within, Positive};
+ghost use Rattle.wholes.specs.Ceiling.{ceilingOf};
+
+// By remainders: the second number falls at each call.
+pub fn common_measure(a: u64, b: u64) -> u64
+    ensures { λ r. ⌜ r ≡ commonMeasure a b ⌝ }
+{
+    if b == 0 { a } else { common_measure(b, a % b) }
+}
+
+// A multiple that is at most the limit, or none.
+pub enum Multiple {
+    Within(u64),
+    Past,
+}
+
+// The quotient is held against the limit before it is multiplied, so that no product wraps.
+pub fn least_multiple(a: u64, b: u64, limit: u64) -> Multiple
+    ensures { λ r. ⌜ r ≡ within limit (leastMultiple a b) ⌝ }
+{
+    if b == 0 {
+        return Multiple::Within(0);
+    }
+    let g = common_measure(a, b);
+    let q = a / g;
+    if q <= limit / b {
+        Multiple::Within(q * b)
+    } else {
+        Multiple::Past
+    }
+}
+
+// Of `first` and the first n of `others`. Positive multiples only grow, so the first that is past the limit decides.
+pub fn least_multiple_of(first: u64, others: &[u64], n: usize, limit: u64) -> Multiple
+    requires { ⌜ Positive first (now others) n ⌝ }
+    ensures { λ r. ⌜ r ≡ within limit (leastMultipleOf first (take n (now (others .entry)))) ⌝ }
+{
+    if limit < first {
+        return Multiple::Past;
+    }
+    let mut m = first;
+    let mut i = 0;
+    while i < n {
+        let Multiple::Within(next) = least_multiple(m, others[i], limit) else {
+            return Multiple::Past;
+        };
+        m = next;
+        i += 1;
+    }
+    Multiple::Within(m)
+}
+
+// The least number of b's that hold a.
+pub fn ceiling(a: u64, b: u64) -> u64
+    requires { ⌜ 1 ≤ b ⌝ }
+    ensures { λ r. ⌜ r ≡ ceilingOf a b ⌝ }
+{
+    let q = a / b;
+    if a % b == 0 { q } else { q + 1 }
+}
