@@ -1,0 +1,4 @@
+pub mod Reserves
+pub mod Phase
+pub mod Cover
+pub mod Who
