@@ -11,6 +11,7 @@ use lib.Arith.{le-zero}
 use lib.ListN.{length, getD, length-append}
 use Rattle.demand.specs.Load.{Load, Sound, Every, Loaded, loadAt, loadsOf}
 use Rattle.demand.specs.Demand.{pick, jobs, demand}
+use Rattle.demand.specs.Steps.{Step}
 use Rattle.demand.proofs.Cases.{le-or-lt, pick-le, pick-lt}
 
 -- ---- the jobs of one load
@@ -136,6 +137,42 @@ demand-turn (l ∷ ls) t H e v =
     turn-sums (l .cost) (jobs (l .deadline) (l .period) t) (jobs (l .deadline) (l .period) H) (demand ls t) (demand ls H)
     (jobs-turn (l .deadline) (l .period) t H (omega arith) (s .constrained) (v .0))
     (demand-turn ls t H (e .1) (v .1))
+
+-- ---- between steps
+
+-- if no deadline of the load falls past t and up to u, no job is added
+pub jobs-stays : (d T : ℕ) {t u : ℕ} → 1 ≤ T → d ≤ T → t ≤ u → ((j : ℕ) → t < d + j * T → d + j * T ≤ u → ⊥) → jobs d T t ≡ jobs d T u
+jobs-stays d T {t} {u} h g le none =
+    ⊎-elim
+    (λ (p : d ≤ u).
+    let low : (u - d) / T * T ≤ u - d = div-mul-le-self (u - d) T in
+    ⊎-elim
+    (λ (q : d + (u - d) / T * T ≤ t).
+    let due : (u - d) / T ≤ (t - d) / T = le-div-iff-mul-le h .1 (omega arith) in
+    let same : jobs d T u ≤ jobs d T t = omega (arith, jobs-due {d = d} {t = u} T p, jobs-due {d = d} {t = t} T (omega arith)) in
+    le-antisymm (jobs-mono d T h g le) same)
+    (λ (q : t < d + (u - d) / T * T). absurd (none ((u - d) / T) q (omega arith)))
+    (le-or-lt (d + (u - d) / T * T) t))
+    (λ (p : u < d). jobs-none T (omega arith) ∙ sym (jobs-none T p))
+    (le-or-lt d u)
+
+-- if no length past t and up to u is a step, demand stays
+pub demand-stays : (ls : List Load) {t u : ℕ} → Every Sound ls → t ≤ u → ((x : ℕ) → t < x → x ≤ u → Step ls x → ⊥) → demand ls t ≡ demand ls u
+unfolding demand
+demand-stays [] e h none = refl
+demand-stays (l ∷ ls) e h none =
+    let s = e .0 in
+    ap₂ (λ (j w : ℕ). l .cost * j + w)
+    (jobs-stays (l .deadline) (l .period) (omega arith) (s .constrained) h (λ j p q. none (l .deadline + j * l .period) p q (omega arith, inl (j, refl))))
+    (demand-stays ls (e .1) h (λ x p q st. none x p q (st .0, inr (st .1))))
+
+-- the first load's deadline asks something
+pub demand-first : (l : Load) (ls : List Load) → Sound l → 1 ≤ demand (l ∷ ls) (l .deadline)
+unfolding demand
+demand-first l ls s =
+    let q = (l .deadline - l .deadline) / l .period in
+    let e : jobs (l .deadline) (l .period) (l .deadline) ≡ q + 1 = jobs-due (l .period) (le-refl (l .deadline)) in
+    rw e (omega arith)
 
 -- ---- the loads that stand in three slices
 

@@ -1,3 +1,8 @@
 pub mod Cases
 pub mod Supply
 pub mod Demand
+pub mod Literal
+pub mod Horizon
+pub mod Steps
+pub mod Fake
+pub mod Reserve

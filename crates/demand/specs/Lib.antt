@@ -3,3 +3,5 @@ pub mod Load
 pub mod Demand
 pub mod Supply
 pub mod Passes
+pub mod Steps
+pub mod Claims

@@ -1,0 +1,48 @@
+-- How the verdict goes with the reserve: never from yes to no as it grows, yes for a load alone, no where the loss eats it up.
+-- Assumes nothing.
+use Prim.Native.Nat.{ℕ, _+_, _*_, _-_, _≤_, _<_}
+use mathlib.Core.Path.{_≡_, refl, ap, sym, _∙_}
+use mathlib.Core.Logic.{⊎-elim}
+use mathlib.Core.List.{List, [], _∷_}
+use native.Mathlib.Nat.{le-refl, le-trans, le-of-eq}
+use native.Mathlib.Omega.{arith}
+use Rattle.demand.specs.Load.{Load, Sound}
+use Rattle.demand.specs.Demand.{demand}
+use Rattle.demand.specs.Supply.{Ring, Allowed, gap, supplyPast, supply}
+use Rattle.demand.specs.Claims.{NeverTurns, AlonePasses, LossNeverPasses}
+use Rattle.demand.proofs.Demand.{term-within, demand-cons, demand-nil, demand-first}
+use Rattle.demand.proofs.Supply.{supply-all, supply-part, supply-none, supply-within, supply-gap-mono}
+
+-- a whole processor supplies the most
+pub supply-most : (S L R t : ℕ) → Allowed S L R → supply S L R t ≤ t
+supply-most S L R t a =
+    ⊎-elim
+    (λ (r : Ring S L R). le-trans (le-of-eq (supply-part S L R t (λ (e : R ≡ S). omega arith))) (supply-within S (S - R + L) t))
+    (λ (e : R ≡ S). le-of-eq (supply-all S L R t e))
+    a
+
+-- a larger reserve never supplies less
+pub supply-rises : (S L R R′ t : ℕ) → Allowed S L R → Allowed S L R′ → R ≤ R′ → supply S L R t ≤ supply S L R′ t
+supply-rises S L R R′ t a a′ h =
+    ⊎-elim
+    (λ (r′ : Ring S L R′).
+    rw (supply-part S L R t (λ (e : R ≡ S). omega arith), supply-part S L R′ t (λ (e : R′ ≡ S). omega arith))
+    (supply-gap-mono S t (omega arith)))
+    (λ (e : R′ ≡ S). le-trans (supply-most S L R t a) (le-of-eq (sym (supply-all S L R′ t e))))
+    a′
+
+pub never-turns : NeverTurns
+never-turns ls S L R R′ a a′ h passes t p = le-trans (passes t p) (supply-rises S L R R′ t a a′ h)
+
+pub alone-passes : AlonePasses
+alone-passes l S L s t p = omega (arith, supply-all S L S t refl, demand-cons l [] t, demand-nil t, term-within l t s)
+
+loss-supplies : (S L R t : ℕ) → R < S → R ≤ L → supply S L R t ≡ 0
+loss-supplies S L R t h g = supply-part S L R t (λ (e : R ≡ S). omega arith) ∙ supply-none S (S - R + L) t (omega arith) (omega arith)
+
+pub loss-never-passes : LossNeverPasses
+loss-never-passes =
+    record {
+      nothing = loss-supplies;
+      short = λ l ls S L R s h g. omega (arith, loss-supplies S L R (l .deadline) h g, demand-first l ls s);
+    }

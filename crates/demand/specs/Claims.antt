@@ -1,0 +1,77 @@
+-- What is claimed of demand and supply, each claim as a type. The proofs stand under the same names in proofs/.
+-- Document 01, "Demand, supply, and the report's test", and "Shortcuts that give wrong rotas".
+use Prim.Native.Nat.{ℕ, _+_, _*_, _-_, _/_, _≤_, _<_, _∣_}
+use mathlib.Core.Path.{_≡_}
+use mathlib.Core.Logic.{_↔_}
+use mathlib.Core.List.{List, [], _∷_}
+use Rattle.demand.specs.Load.{Load, Sound, Every}
+use Rattle.demand.specs.Demand.{jobs, demand}
+use Rattle.demand.specs.Supply.{Ring, Allowed, gap, supplyPast, supply}
+use Rattle.demand.specs.Passes.{Passes, fake, FakePasses}
+use Rattle.demand.specs.Steps.{Step}
+
+-- The literal forms are the computed ones: jobs by one division, and supply by the gap, which is 0 for a whole processor.
+pub record LiteralForms : Type 0 where
+  pub jobs-form : (d T t : ℕ) → 1 ≤ T → d ≤ T → jobs d T t ≡ (t + T - d) / T
+  pub supply-form : (S L R t : ℕ) → 1 ≤ S → supply S L R t ≡ supplyPast S (gap S L R) t
+
+-- Lengths 1 to H decide for all, for any demand g and supply s: if H ticks more never add more than g H to the demand,
+-- nor less than s H to the supply.
+abbrev pub HorizonDecides : Type 0
+HorizonDecides =
+    (g s : ℕ → ℕ) (H : ℕ) → 1 ≤ H → ((t : ℕ) → g (t + H) ≤ g t + g H) → ((t : ℕ) → s t + s H ≤ s (t + H)) →
+    ((t : ℕ) → 1 ≤ t → t ≤ H → g t ≤ s t) →
+    (t : ℕ) → 1 ≤ t → g t ≤ s t
+
+-- So for sound loads a common multiple H of their periods decides, the file's horizon or a server's own.
+-- That S divides H is not needed.
+abbrev pub LoadsDecide : Type 0
+LoadsDecide =
+    (ls : List Load) (S L R H : ℕ) → Every Sound ls → 1 ≤ S → 1 ≤ H → Every (λ (l : Load). l .period ∣ H) ls →
+    ((t : ℕ) → 1 ≤ t → t ≤ H → demand ls t ≤ supply S L R t) →
+    Passes ls S L R
+
+-- Within 1 to H the lengths where a demand steps decide, in the supply form.
+abbrev pub StepsDecide : Type 0
+StepsDecide =
+    (ls : List Load) (S L R H : ℕ) → Every Sound ls → 1 ≤ S →
+    ((t : ℕ) → 1 ≤ t → t ≤ H → Step ls t → demand ls t ≤ supply S L R t) →
+    (t : ℕ) → 1 ≤ t → t ≤ H → demand ls t ≤ supply S L R t
+
+-- Over all lengths the report's fake-task form gives the same yes or no.
+abbrev pub FakeAgrees : Type 0
+FakeAgrees = (ls : List Load) (S L R : ℕ) → Every Sound ls → Ring S L R → Passes ls S L R ↔ FakePasses ls S L R
+
+-- At single lengths the two forms differ: example F, S 4, load 2/5/8, L 0, R 1, at its deadline 5.
+-- There demand exceeds supply, and the fake-task sum is no more than the length. At 7 the sum is.
+abbrev pub loadF : Load
+loadF = record { cost = 2; deadline = 5; period = 8 }
+
+pub record FakeDiffers : Type 0 where
+  pub demand-5 : demand (loadF ∷ []) 5 ≡ 2
+  pub supply-5 : supply 4 0 1 5 ≡ 1
+  pub sum-5 : demand (loadF ∷ []) 5 + fake 4 (4 - 1 + 0) 5 ≡ 5
+  pub sum-7 : demand (loadF ∷ []) 7 + fake 4 (4 - 1 + 0) 7 ≡ 8
+
+-- The fake-task sum at one length can rise as R grows, past the length even: S 4, load 3/6/8, L 0, length 6,
+-- with R 1 the sum is 6, with R 2 it is 7.
+abbrev pub loadRising : Load
+loadRising = record { cost = 3; deadline = 6; period = 8 }
+
+pub record FakeRises : Type 0 where
+  pub sum-1 : demand (loadRising ∷ []) 6 + fake 4 (4 - 1 + 0) 6 ≡ 6
+  pub sum-2 : demand (loadRising ∷ []) 6 + fake 4 (4 - 2 + 0) 6 ≡ 7
+
+-- As R grows the verdict over all lengths never turns from yes to no.
+abbrev pub NeverTurns : Type 0
+NeverTurns =
+    (ls : List Load) (S L R R′ : ℕ) → Allowed S L R → Allowed S L R′ → R ≤ R′ → Passes ls S L R → Passes ls S L R′
+
+-- A task alone passes on a whole processor.
+abbrev pub AlonePasses : Type 0
+AlonePasses = (l : Load) (S L : ℕ) → Sound l → Passes (l ∷ []) S L S
+
+-- A reserve that the entry loss eats up supplies nothing, so a server with a load falls short at that load's deadline.
+pub record LossNeverPasses : Type 0 where
+  pub nothing : (S L R t : ℕ) → R < S → R ≤ L → supply S L R t ≡ 0
+  pub short : (l : Load) (ls : List Load) (S L R : ℕ) → Sound l → R < S → R ≤ L → supply S L R (l .deadline) < demand (l ∷ ls) (l .deadline)
