@@ -1,6 +1,6 @@
 -- The rounded quotient is the least that covers, and the only one.
 -- Assumes nothing.
-use Prim.Native.Nat.{ℕ, _+_, _*_, _/_, _%_, _≤_, _<_}
+use Prim.Native.Nat.{ℕ, _+_, _/_, _%_, _≤_, _<_}
 use mathlib.Core.Path.{_≡_, refl}
 use mathlib.Core.Bool.{Bool, true, false}
 use native.Mathlib.Nat.{le-antisymm, add-mul, mod-lt, div-add-mod', pos-of-ne-zero, le-mul-of-pos-right, lt-of-mul-lt-mul-right, le-of-mul-le-mul-right}

@@ -1,4 +1,4 @@
--- The least common multiple is one, and the only one, of two numbers and of a list; it grows with the list; worked values.
+-- `leastMultiple` and `leastMultipleOf` are the least common multiple, and nothing else is; how the list's grows with the list.
 -- Assumes nothing.
 use Prim.Native.Nat.{ℕ, zero, suc, _+_, _*_, _-_, _/_, _≤_, _<_, _∣_, zero-le, suc-le-suc}
 use mathlib.Core.Path.{_≡_, refl, sym, ap, subst, _∙_}
@@ -28,17 +28,12 @@ use native.Mathlib.Nat.{
   pos-of-dvd-of-pos,
   le-of-dvd,
 }
-use mathlib.Core.Bool.{Bool, true, false}
-use lib.Dec.{leb}
-use borrow.Author.Tests.{le-leb, lt-leb, leb-true, leb-false}
 use native.Mathlib.Numerals.{add-one}
 use native.Mathlib.Omega.{arith}
 use lib.ListN.{length, getD, take, drop}
 use lib.Seq.{length-take-le, take-add, take-suc, getD-take}
-use Rattle.wholes.specs.Measure.{CommonMeasure, measureIn, commonMeasure}
-use Rattle.wholes.specs.Multiple.{LeastMultiple, leastMultiple, Divide, LeastMultipleOf, leastMultipleOf, Some, Positive, pickMultiple, within}
-use Rattle.wholes.specs.declared.Multiple.{Multiple}
-use Rattle.wholes.specs.declared.Multiple.the-variants.{Within, Past}
+use Rattle.wholes.specs.Measure.{CommonMeasure, commonMeasure}
+use Rattle.wholes.specs.Multiple.{LeastMultiple, leastMultiple, Divide, LeastMultipleOf, leastMultipleOf, AllPositive, Positive}
 use Rattle.wholes.proofs.MeasureLaws.{common-measure, scaled-measure}
 
 module _ (a b : ℕ) where
@@ -136,7 +131,7 @@ least-of-unique {a} {bs} {m} {n} x y =
     dvd-antisymm (x .least n (y .of-first) (y .of-others)) (y .least m (x .of-first) (x .of-others))
 
 -- of positive numbers it is positive
-pub multiple-of-pos : (a : ℕ) (bs : List ℕ) → 1 ≤ a → Some bs → 1 ≤ leastMultipleOf a bs
+pub multiple-of-pos : (a : ℕ) (bs : List ℕ) → 1 ≤ a → AllPositive bs → 1 ≤ leastMultipleOf a bs
 unfolding leastMultipleOf
 multiple-of-pos a [] p q = p
 multiple-of-pos a (b ∷ bs) p q =
@@ -163,8 +158,14 @@ unfolding leastMultipleOf
 multiple-of-append a [] cs = refl
 multiple-of-append a (b ∷ bs) cs = multiple-of-append (leastMultiple a b) bs cs
 
+-- each of the first n divides the multiple of the first n
+pub taken-divides : (a : ℕ) (bs : List ℕ) (n i : ℕ) → n ≤ length bs → i < n → getD bs i 0 ∣ leastMultipleOf a (take n bs)
+taken-divides a bs n i h l =
+    subst (λ (x : ℕ). x ∣ leastMultipleOf a (take n bs)) (getD-take n bs i 0 l)
+    (others-divide-of a (take n bs) i (subst (λ (k : ℕ). i < k) (sym (length-take-le n bs h)) l))
+
 module _ {a : ℕ} {bs : List ℕ} {n : ℕ} (s : Positive a bs n) where
-  some-taken : (k : ℕ) → k ≤ n → Some (take k bs)
+  some-taken : (k : ℕ) → k ≤ n → AllPositive (take k bs)
   some-taken k h i l =
       let short : length (take k bs) ≡ k = length-take-le k bs (omega (arith, s .there)) in
       let i<k : i < k = subst (λ (m : ℕ). i < m) short l in
@@ -190,50 +191,3 @@ module _ {a : ℕ} {bs : List ℕ} {n : ℕ} (s : Positive a bs n) where
       e =
           ap (λ (m : ℕ). leastMultipleOf a (take m bs)) (sym (add-sub-of-le h)) ∙ ap (leastMultipleOf a) (take-add k (n - k) bs)
           ∙ multiple-of-append a (take k bs) (take (n - k) (drop k bs))
-
--- under a limit: at most the limit is the answer, past it is none, and each answer says which it was
-module _ (limit m : ℕ) where
-  pub within-is : m ≤ limit → within limit m ≡ Within m
-  unfolding within
-  within-is h = ap (λ (t : Bool). pickMultiple t (Within m) Past) (le-leb m limit h)
-
-  pub past-is : limit < m → within limit m ≡ Past
-  unfolding within
-  past-is h = ap (λ (t : Bool). pickMultiple t (Within m) Past) (lt-leb m limit h)
-
-  value-by : (n : ℕ) (t : Bool) → leb m limit ≡ t → pickMultiple t (Within m) Past ≡ Within n → (n ≡ m) × (m ≤ limit)
-  value-by n true e p = (cc, leb-true m limit e)
-  value-by n false e p = let z : _≡_ {A = ℕ} 0 1 = cc in absurd (omega arith)
-
-  pub within-value : (n : ℕ) → within limit m ≡ Within n → (n ≡ m) × (m ≤ limit)
-  unfolding within
-  within-value n p = value-by n (leb m limit) refl p
-
-  past-by : (t : Bool) → leb m limit ≡ t → pickMultiple t (Within m) Past ≡ Past → limit < m
-  past-by true e p = let z : _≡_ {A = ℕ} 0 1 = cc in absurd (omega arith)
-  past-by false e p = leb-false m limit e
-
-  pub past-value : within limit m ≡ Past → limit < m
-  unfolding within
-  past-value p = past-by (leb m limit) refl p
-
--- worked values: example J's horizon, example K's, and the zeros
-pub horizon-J : leastMultipleOf 128 (1000000 ∷ 78125 ∷ []) ≡ 10000000
-unfolding leastMultipleOf leastMultiple commonMeasure measureIn
-horizon-J = refl
-
-pub horizon-K : leastMultipleOf 11 (1000000 ∷ []) ≡ 11000000
-unfolding leastMultipleOf leastMultiple commonMeasure measureIn
-horizon-K = refl
-
-pub multiple-1000000-78125 : leastMultiple 1000000 78125 ≡ 5000000
-unfolding leastMultiple commonMeasure measureIn
-multiple-1000000-78125 = refl
-
-pub multiple-1000000-128 : leastMultiple 1000000 128 ≡ 2000000
-unfolding leastMultiple commonMeasure measureIn
-multiple-1000000-128 = refl
-
-pub multiple-zeros : (leastMultiple 0 0 ≡ 0) × (leastMultiple 7 0 ≡ 0) × (leastMultiple 0 7 ≡ 0)
-unfolding leastMultiple commonMeasure measureIn
-multiple-zeros = (refl, refl, refl)

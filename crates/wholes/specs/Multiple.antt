@@ -42,8 +42,8 @@ unfoldable pub within : (limit m : ℕ) → Multiple
 within limit m = pickMultiple (leb m limit) (Within m) Past
 
 -- every number of the list is at least 1
-abbrev pub Some : List ℕ → Type 0
-Some bs = (i : ℕ) → i < length bs → 1 ≤ getD bs i 0
+abbrev pub AllPositive : List ℕ → Type 0
+AllPositive bs = (i : ℕ) → i < length bs → 1 ≤ getD bs i 0
 
 -- what a function over the first n of a slice asks of them
 pub record Positive (first : ℕ) (others : List ℕ) (n : ℕ) : Type 0 where

@@ -1,7 +1,7 @@
 -- `wholes::common_measure`, which calls itself, meets its contract. The measure is the second number.
 -- Assumes nothing.
 use Prim.Native.Nat.{ℕ, _<_, _%_}
-use mathlib.Core.Path.{_≡_, sym, subst, _∙_, ap}
+use mathlib.Core.Path.{sym, subst, _∙_, ap}
 use native.Mathlib.Nat.{pos-of-ne-zero, mod-lt}
 use borrow.Fn.Kinds.{In}
 use borrow.Fn.PlainCycle.{Measures, is, falls, and}

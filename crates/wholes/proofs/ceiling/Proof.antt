@@ -1,7 +1,5 @@
 -- `wholes::ceiling` meets its contract: the test on the remainder picks the case of `ceilingOf`.
 -- Assumes nothing.
-use Prim.Native.Nat.{_+_, _/_}
-use mathlib.Core.Path.{ap}
 use borrow.Author.Needs.{needs}
 use borrow.Author.Tests.{eq-eqb, ne-eqb}
 use native.Mathlib.Omega.{arith}
@@ -9,8 +7,6 @@ use Rattle.wholes.specs.Ceiling.{ceilingOf}
 use Rattle.wholes.proofs.CeilingLaws.{quotient-below}
 use Rattle.wholes.proofs.ceiling.Statement.{statement}
 use Rattle.wholes.proofs.ceiling.Tie as tie
-use Rattle.wholes.proofs.ceiling.Reads as reads
-use Rattle.wholes.proofs.ceiling.Lts as lts
 
 div-q : tie.Need-div-q
 div-q c = search needs

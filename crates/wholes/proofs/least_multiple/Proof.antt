@@ -7,15 +7,20 @@ use native.Mathlib.Nat.{pos-of-ne-zero, le-div-iff-mul-le, div-lt-iff-lt-mul}
 use native.Mathlib.Omega.{arith}
 use Rattle.wholes.specs.Measure.{commonMeasure}
 use Rattle.wholes.specs.Multiple.{leastMultiple, within}
-use Rattle.wholes.specs.declared.Multiple.the-variants.{Within, Past}
+use Rattle.wholes.specs.declared.Multiple.the-variants.{Within}
 use Rattle.wholes.proofs.MeasureLaws.{measure-pos}
-use Rattle.wholes.proofs.MultipleLaws.{multiple-zero, multiple-by, within-is, past-is}
+use Rattle.wholes.proofs.MultipleLaws.{multiple-zero, multiple-by}
+use Rattle.wholes.proofs.WithinLaws.{within-is, past-is}
 use Rattle.wholes.proofs.least_multiple.Statement.{statement}
 use Rattle.wholes.proofs.least_multiple.Tie as tie
 
 -- the number computed is the multiple, and is at most the limit
 answer : (limit m n : ℕ) → n ≡ m → n ≤ limit → Within n ≡ within limit m
 answer limit m n e h = ap Within e ∙ sym (within-is limit m (omega arith))
+
+-- the quotient is at most the limit's, so the multiple is at most the limit
+fits : (q b limit : ℕ) → (b ≡ 0 → ⊥) → q ≤ limit / b → q * b ≤ limit
+fits q b limit z h = le-div-iff-mul-le (pos-of-ne-zero z) .0 h
 
 -- the quotient is past the limit's
 past : (a b limit g : ℕ) → (b ≡ 0 → ⊥) → g ≡ commonMeasure a b → limit / b < a / g → limit < leastMultiple a b
@@ -34,23 +39,25 @@ div-q c =
 div-if2 : tie.Need-div-if2
 div-if2 c = search needs
 
--- the quotient is at most the limit's, so the multiple is at most the limit
-fits : (q b limit : ℕ) → (b ≡ 0 → ⊥) → q ≤ limit / b → q * b ≤ limit
-fits q b limit z h = le-div-iff-mul-le (pos-of-ne-zero z) .0 h
-
 mul-t9 : tie.Need-mul-t9
-mul-t9 c = omega (arith, fits _ (c .before .before .before .args .b) _ (c .before .before .if1 .left) (c .if2 .taken))
+mul-t9 c =
+    let x = c .before .before .before .args in
+    omega (arith, fits (x .a / c .before .common-measure .result) (x .b) (x .limit) (c .before .before .if1 .left) (omega arith))
 
 returns-2 : tie.Need-returns-2
 returns-2 c =
-    answer _ _ _ (multiple-by (c .before .before .before .args .a) (c .before .before .before .args .b) (c .before .common-measure .ensures))
-    (fits _ (c .before .before .before .args .b) _ (c .before .before .if1 .left) (c .if2 .taken))
+    let x = c .before .before .before .args in
+    answer (x .limit) (leastMultiple (x .a) (x .b)) (x .a / c .before .common-measure .result * x .b)
+    (multiple-by (x .a) (x .b) (c .before .common-measure .ensures))
+    (fits (x .a / c .before .common-measure .result) (x .b) (x .limit) (c .before .before .if1 .left) (omega arith))
 
 returns-3 : tie.Need-returns-3
 returns-3 c =
+    let x = c .before .before .before .args in
     sym
-    (past-is _ _ (past (c .before .before .before .args .a) (c .before .before .before .args .b) _ _ (c .before .before .if1 .left)
-    (c .before .common-measure .ensures) (c .if2 .left)))
+    (past-is (x .limit) (leastMultiple (x .a) (x .b))
+    (past (x .a) (x .b) (x .limit) (c .before .common-measure .result) (c .before .before .if1 .left)
+    (c .before .common-measure .ensures) (omega arith)))
 
 pub least-multiple-spec : {M : Type 1} → statement M
 least-multiple-spec =

@@ -6,10 +6,11 @@ use mathlib.Core.List.{List}
 use borrow.Author.Needs.{needs}
 use native.Mathlib.Nat.{lt-of-lt-of-le}
 use native.Mathlib.Omega.{arith}
-use lib.ListN.{length, take, getD}
+use lib.ListN.{take, getD}
 use Rattle.wholes.specs.Multiple.{Positive, leastMultiple, leastMultipleOf, within}
 use Rattle.wholes.specs.declared.Multiple.the-variants.{Within, Past}
-use Rattle.wholes.proofs.MultipleLaws.{within-is, past-is, within-value, past-value, taken-more, taken-grows}
+use Rattle.wholes.proofs.MultipleLaws.{taken-more, taken-grows}
+use Rattle.wholes.proofs.WithinLaws.{within-is, past-is, within-value, past-value}
 use Rattle.wholes.proofs.least_multiple_of.Statement.{statement}
 use Rattle.wholes.proofs.least_multiple_of.Tie as tie
 
