@@ -1,0 +1,108 @@
+-- Laws of the two bounded searches, over any property of lengths: what each finds, and that nothing else fits.
+use Prim.Native.Nat.{ℕ, zero, suc, _≤_, _<_}
+use native.Mathlib.Omega.{arith}
+use mathlib.Core.Path.{_≡_, refl, sym, ap, _∙_}
+use mathlib.Core.Logic.{_⊎_, inl, inr, ⊎-elim}
+use mathlib.Core.Bool.{Bool, true, false, false≢true}
+use native.Mathlib.Nat.{le-suc-iff, eq-or-lt-of-le}
+use native.Mathlib.Decide.{decLt}
+use Rattle.demand.specs.Demand.{pick}
+use Rattle.verdict.specs.Search.{lastUpTo, firstUpTo, orElse}
+use Rattle.verdict.specs.Search.{NoneIn, Last, First}
+
+-- a stretch without p, grown by one number without p at its top
+pub none-more : {p : ℕ → Bool} {a n : ℕ} → NoneIn p a n → p (suc n) ≡ false → NoneIn p a (suc n)
+none-more {p} {a} {n} below last x a<x x≤n =
+    ⊎-elim (λ h. below x a<x h) (λ (e : x ≡ suc n). ap p e ∙ last) (le-suc-iff .0 x≤n)
+
+-- a part of a stretch without p, cut at the top
+pub none-less : {p : ℕ → Bool} {a n m : ℕ} → NoneIn p a m → n ≤ m → NoneIn p a n
+none-less none n≤m x a<x x≤n = none x a<x (omega arith)
+
+-- two stretches without p that meet
+pub none-join : {p : ℕ → Bool} {a b n : ℕ} → NoneIn p a b → NoneIn p b n → NoneIn p a n
+none-join {p} {a} {b} {n} low high x a<x x≤n = by (decLt b x)
+  where
+    by : Dec (b < x) → p x ≡ false
+    by (yes h) = high x h x≤n
+    by (no h) = low x a<x (omega arith)
+
+-- one number cannot both have p and lie in a stretch without p
+pub none-has : {p : ℕ → Bool} {a n x : ℕ} {A : Type 0} → NoneIn p a n → a < x → x ≤ n → p x ≡ true → A
+none-has {x = x} none a<x x≤n has = absurd (false≢true (sym (none x a<x x≤n) ∙ has))
+
+-- the last search answers 0 where nothing has p, and else the last
+pub last-view : (p : ℕ → Bool) (n : ℕ) → ((lastUpTo p n ≡ 0) × NoneIn p 0 n) ⊎ Last p n (lastUpTo p n)
+unfolding lastUpTo
+last-view p zero = inl (refl, λ x a b. absurd (omega arith))
+last-view p (suc n) = by (p (suc n)) refl (last-view p n)
+  where
+    by : (b : Bool) → p (suc n) ≡ b → ((lastUpTo p n ≡ 0) × NoneIn p 0 n) ⊎ Last p n (lastUpTo p n)
+        → ((pick b (suc n) (lastUpTo p n) ≡ 0) × NoneIn p 0 (suc n)) ⊎ Last p (suc n) (pick b (suc n) (lastUpTo p n))
+    by true e v = inr (record { there = omega arith; within = omega arith; has = e; after = λ x a b. absurd (omega arith) })
+    by false e (inl v) = inl (v .0, none-more (v .1) e)
+    by false e (inr v) = inr (record { there = v .there; within = omega arith; has = v .has; after = none-more (v .after) e })
+
+pub last-none : (p : ℕ → Bool) (n : ℕ) → NoneIn p 0 n → lastUpTo p n ≡ 0
+last-none p n none =
+    ⊎-elim (λ v. v .0) (λ v. none-has none (v .there) (v .within) (v .has)) (last-view p n)
+
+pub last-zero : (p : ℕ → Bool) (n : ℕ) → lastUpTo p n ≡ 0 → NoneIn p 0 n
+last-zero p n e =
+    ⊎-elim (λ v. v .1) (λ v. let h : 1 ≤ lastUpTo p n = v .there in absurd (omega arith)) (last-view p n)
+
+pub last-found : (p : ℕ → Bool) (n t : ℕ) → lastUpTo p n ≡ t → 1 ≤ t → Last p n t
+last-found p n t e h =
+    ⊎-elim (λ v. let z : lastUpTo p n ≡ 0 = v .0 in absurd (omega arith)) (λ v. rw e at v) (last-view p n)
+
+-- two lasts are one
+last-same : {p : ℕ → Bool} {n t u : ℕ} → Last p n t → Last p n u → t ≡ u
+last-same {p} {n} {t} {u} l k = by (decLt t u) (decLt u t)
+  where
+    by : Dec (t < u) → Dec (u < t) → t ≡ u
+    by (yes h) d = none-has (l .after) h (k .within) (k .has)
+    by (no h) (yes g) = none-has (k .after) g (l .within) (l .has)
+    by (no h) (no g) = omega arith
+
+pub last-is : (p : ℕ → Bool) (n t : ℕ) → Last p n t → lastUpTo p n ≡ t
+last-is p n t l =
+    ⊎-elim (λ v. none-has (v .1) (l .there) (l .within) (l .has)) (λ v. last-same v l) (last-view p n)
+
+-- the first search answers 0 where nothing has p, and else the first
+pub first-view : (p : ℕ → Bool) (n : ℕ) → ((firstUpTo p n ≡ 0) × NoneIn p 0 n) ⊎ ((firstUpTo p n ≤ n) × First p (firstUpTo p n))
+unfolding firstUpTo
+first-view p zero = inl (refl, λ x a b. absurd (omega arith))
+first-view p (suc n) = by (firstUpTo p n) (p (suc n)) refl (first-view p n)
+  where
+    by : (t : ℕ) (b : Bool) → p (suc n) ≡ b → ((t ≡ 0) × NoneIn p 0 n) ⊎ ((t ≤ n) × First p t)
+        → ((orElse t (pick b (suc n) 0) ≡ 0) × NoneIn p 0 (suc n)) ⊎ ((orElse t (pick b (suc n) 0) ≤ suc n) × First p (orElse t (pick b (suc n) 0)))
+    by zero true e (inl v) = inr (omega arith, record { there = omega arith; has = e; before = λ x a b. v .1 x a (omega arith) })
+    by zero false e (inl v) = inl (refl, none-more (v .1) e)
+    by zero b e (inr v) = let h : 1 ≤ 0 = v .1 .there in absurd (omega arith)
+    by (suc t) b e (inl v) = let h : suc t ≡ 0 = v .0 in absurd (omega arith)
+    by (suc t) b e (inr v) = inr (omega arith, v .1)
+
+pub first-none : (p : ℕ → Bool) (n : ℕ) → NoneIn p 0 n → firstUpTo p n ≡ 0
+first-none p n none =
+    ⊎-elim (λ v. v .0) (λ v. none-has none (v .1 .there) (v .0) (v .1 .has)) (first-view p n)
+
+pub first-zero : (p : ℕ → Bool) (n : ℕ) → firstUpTo p n ≡ 0 → NoneIn p 0 n
+first-zero p n e =
+    ⊎-elim (λ v. v .1) (λ v. let h : 1 ≤ firstUpTo p n = v .1 .there in absurd (omega arith)) (first-view p n)
+
+pub first-found : (p : ℕ → Bool) (n t : ℕ) → firstUpTo p n ≡ t → 1 ≤ t → (t ≤ n) × First p t
+first-found p n t e h =
+    ⊎-elim (λ v. let z : firstUpTo p n ≡ 0 = v .0 in absurd (omega arith)) (λ v. rw e at v) (first-view p n)
+
+-- two firsts are one
+pub first-same : {p : ℕ → Bool} {t u : ℕ} → First p t → First p u → t ≡ u
+first-same {p} {t} {u} l k = by (decLt t u) (decLt u t)
+  where
+    by : Dec (t < u) → Dec (u < t) → t ≡ u
+    by (yes h) d = absurd (false≢true (sym (k .before t (l .there) h) ∙ l .has))
+    by (no h) (yes g) = absurd (false≢true (sym (l .before u (k .there) g) ∙ k .has))
+    by (no h) (no g) = omega arith
+
+pub first-is : (p : ℕ → Bool) (n t : ℕ) → t ≤ n → First p t → firstUpTo p n ≡ t
+first-is p n t t≤n l =
+    ⊎-elim (λ v. none-has (v .1) (l .there) t≤n (l .has)) (λ v. first-same (v .1) l) (first-view p n)

@@ -1,0 +1,81 @@
+-- The descent of `last_short`: why it may jump, and what holds at each turn.
+use Prim.Native.Nat.{ℕ, zero, suc, _+_, _*_, _-_, _/_, _%_, _^_, _≤_, _<_}
+use native.Mathlib.Omega.{arith}
+use native.Mathlib.Decide.{decLt}
+use mathlib.Core.Path.{_≡_, refl, sym, ap, _∙_}
+use mathlib.Core.Bool.{Bool, true}
+use mathlib.Core.List.{List}
+use lib.Dec.{ltb}
+use borrow.Author.Tests.{le-ltb, lt-ltb}
+use Rattle.demand.specs.Load.{Load, Sound, Every}
+use Rattle.demand.specs.Demand.{demand}
+use Rattle.demand.specs.Supply.{supplyPast}
+use Rattle.demand.proofs.Demand.{demand-mono}
+use Rattle.demand.proofs.Supply.{supply-mono}
+use Rattle.verdict.specs.Search.{short, lastUpTo, Searched, NoneIn, Last}
+use Rattle.verdict.proofs.Bounded.{none-join, last-none, last-is}
+use Rattle.verdict.proofs.Reach.{lastWith, past-last, supply-at-last}
+
+-- over any demand g that on 1..t is at most g t: past the last length with supply v, up to t, nothing falls short of v + 1 = g t
+pub descend : (g : ℕ → ℕ) (S f t v : ℕ) → f < S → ((x : ℕ) → x ≤ t → g x ≤ g t) → g t ≡ suc v
+    → NoneIn (λ x. ltb (supplyPast S f x) (g x)) (lastWith S f v) t
+descend g S f t v f<S top e x past x≤t =
+    le-ltb (supplyPast S f x) (g x) (omega (arith, past-last S f v x f<S past, top x x≤t))
+
+-- where the demand at t is 0, nothing up to t falls short
+pub descend-zero : (g : ℕ → ℕ) (S f t : ℕ) → ((x : ℕ) → x ≤ t → g x ≤ g t) → g t ≡ 0
+    → NoneIn (λ x. ltb (supplyPast S f x) (g x)) 0 t
+descend-zero g S f t top e x past x≤t = le-ltb (supplyPast S f x) (g x) (omega (arith, top x x≤t))
+
+-- what holds at each turn: s is the supply at t, and no length above t is short
+pub record Descended (ls : List Load) (S f extra hi t s : ℕ) : Type 0 where
+  pub within : t ≤ hi
+  pub supplied : s ≡ supplyPast S f t
+  pub none : NoneIn (short ls S f extra) t hi
+
+module _ (ls : List Load) (S f extra hi : ℕ) (sound : Every Sound ls) (searched : Searched S f extra hi) where
+  top : (t x : ℕ) → x ≤ t → demand ls x + extra ≤ demand ls t + extra
+  top t x h = omega (arith, demand-mono ls sound h)
+
+  pub descent-starts : (s : ℕ) → s ≡ supplyPast S f hi → Descended ls S f extra hi hi s
+  descent-starts s e = record { within = omega arith; supplied = e; none = λ x a b. absurd (omega arith) }
+
+  pub descent-finds : (t s : ℕ) → Descended ls S f extra hi t s → 0 < t → s < demand ls t + extra → t ≡ lastUpTo (short ls S f extra) hi
+  descent-finds t s d h falls = sym (last-is (short ls S f extra) hi t found)
+    where
+      is-short : short ls S f extra t ≡ true
+      is-short = unfold short in lt-ltb (supplyPast S f t) (demand ls t + extra) (omega (arith, d .supplied))
+
+      found : Last (short ls S f extra) hi t
+      found = record { there = h; within = d .within; has = is-short; after = d .none }
+
+  pub descent-ends : (t s : ℕ) → Descended ls S f extra hi t s → t ≡ 0 → 0 ≡ lastUpTo (short ls S f extra) hi
+  descent-ends t s d e = sym (last-none (short ls S f extra) hi (rw e at (d .none)))
+
+  pub descent-clears : (t s : ℕ) → Descended ls S f extra hi t s → demand ls t + extra ≡ 0 → 0 ≡ lastUpTo (short ls S f extra) hi
+  unfolding short
+  descent-clears t s d e =
+      sym (last-none (short ls S f extra) hi (none-join (descend-zero (λ (x : ℕ). demand ls x + extra) S f t (top t) e) (d .none)))
+
+  -- the jump goes below t
+  descent-falls : (t s v : ℕ) → Descended ls S f extra hi t s → v < s → lastWith S f v < t
+  descent-falls t s v d h = by (decLt (lastWith S f v) t)
+    where
+      by : Dec (lastWith S f v < t) → lastWith S f v < t
+      by (yes g) = g
+      by (no g) = absurd (omega (arith, d .supplied, supply-at-last S f v (searched .usable), supply-mono S f {t = t} {u = lastWith S f v} (omega (arith, searched .usable)) (omega arith)))
+
+  descent-jumps : (t s v : ℕ) → Descended ls S f extra hi t s → demand ls t + extra ≡ suc v → v < s → Descended ls S f extra hi (lastWith S f v) v
+  unfolding short
+  descent-jumps t s v d e h =
+      record {
+        within = omega (arith, descent-falls t s v d h, d .within);
+        supplied = sym (supply-at-last S f v (searched .usable));
+        none = none-join (descend (λ (x : ℕ). demand ls x + extra) S f t v (searched .usable) (top t) e) (d .none);
+      }
+
+  -- one turn, in the code's terms: w is the demand at t with the extra, and it is covered
+  pub descent-next : (t s w : ℕ) → Descended ls S f extra hi t s → w ≡ demand ls t + extra → (w ≡ 0 → ⊥) → w ≤ s
+      → Descended ls S f extra hi (lastWith S f (w - 1)) (w - 1) × (lastWith S f (w - 1) < t)
+  descent-next t s w d e some covered =
+      (descent-jumps t s (w - 1) d (omega arith) (omega arith), descent-falls t s (w - 1) d (omega arith))

@@ -1,0 +1,72 @@
+// The searches over lengths: the largest and the smallest length up to a bound at which demand, with an extra, exceeds supply.
+// What they mean stands in specs/Search.antt.
+ghost use mathlib.Core.Path.{_≡_};
+ghost use Rattle.demand.specs.Load.{Loaded, loadsOf};
+ghost use Rattle.verdict.specs.Search.{Searched, lastUpTo, firstUpTo, short};
+
+// From hi down. Where the demand w at t is covered, every length whose supply reaches w is covered too, up to t: the search goes
+// on at the last length whose supply is w - 1. Demand there is below w unless that length is the answer, so each turn but the
+// last stands past another step of the demand: never more turns than there are steps up to hi, plus one.
+pub fn last_short<'a>(
+    costs: &'a [u64],
+    deadlines: &'a [u64],
+    periods: &'a [u64],
+    n: usize,
+    slot: u64,
+    gap: u64,
+    extra: u64,
+    hi: u64,
+) -> u64
+    requires { ⌜ Loaded (now costs) (now deadlines) (now periods) n ⌝ }
+    requires { ⌜ Searched slot gap extra hi ⌝ }
+    ensures { λ r. ⌜ r ≡ lastUpTo (short (loadsOf (now (costs .entry)) (now (deadlines .entry)) (now (periods .entry)) n) slot gap extra) hi ⌝ }
+{
+    let usable = slot - gap;
+    let mut t = hi;
+    let mut supply = demand::supply_at(slot, gap, hi);
+    while 0 < t {
+        let w = demand::demand_at(costs, deadlines, periods, n, t) + extra;
+        if supply < w {
+            return t;
+        }
+        if w == 0 {
+            return 0;
+        }
+        supply = w - 1;
+        t = supply / usable * slot + (gap + supply % usable);
+    }
+    0
+}
+
+// By halving. "Some length in 1..x is short" only turns from no to yes as x grows, and `last_short` answers it. None up to
+// lo is short; top is, being an answer of `last_short`.
+pub fn first_short<'a>(
+    costs: &'a [u64],
+    deadlines: &'a [u64],
+    periods: &'a [u64],
+    n: usize,
+    slot: u64,
+    gap: u64,
+    extra: u64,
+    hi: u64,
+) -> u64
+    requires { ⌜ Loaded (now costs) (now deadlines) (now periods) n ⌝ }
+    requires { ⌜ Searched slot gap extra hi ⌝ }
+    ensures { λ r. ⌜ r ≡ firstUpTo (short (loadsOf (now (costs .entry)) (now (deadlines .entry)) (now (periods .entry)) n) slot gap extra) hi ⌝ }
+{
+    let mut lo = 0;
+    let mut top = last_short(costs, deadlines, periods, n, slot, gap, extra, hi);
+    if top == 0 {
+        return 0;
+    }
+    while lo + 1 < top {
+        let mid = lo + (top - lo) / 2;
+        let found = last_short(costs, deadlines, periods, n, slot, gap, extra, mid);
+        if found == 0 {
+            lo = mid;
+        } else {
+            top = found;
+        }
+    }
+    top
+}
