@@ -1,8 +1,9 @@
 -- The table of frames: each kind with its field widths in digits, and the lengths that follow.
 -- Document 01, "Lines of hexadecimal".
 use Prim.Native.Nat.{ℕ, zero, suc, _+_}
-use mathlib.Core.List.{List, [], _∷_}
-use lib.ListN.{getD, take}
+use mathlib.Core.List.{List, [], _∷_, _++_}
+use lib.ListN.{getD, take, replicate}
+use Rattle.frames.specs.declared.table.Row.{Row}
 use Rattle.frames.specs.declared.table.Frame.{Frame}
 use Rattle.frames.specs.declared.table.Frame.the-variants.{Header, Task, Plan, Server, Placed, Processor, Refused}
 
@@ -41,3 +42,21 @@ placeOf frame field = 2 + sum (take field (widthsOf frame))
 -- the digits of a line, its LF not counted
 abbrev pub lengthOf : Frame → ℕ
 lengthOf frame = 2 + sum (widthsOf frame)
+
+-- the table's row of a frame: its kind, and its widths filled up to seven by fields of no digits
+unfoldable pub rowOf : Frame → Row
+rowOf frame = record { kind = kindOf frame; widths = take 7 (widthsOf frame ++ replicate 7 0) }
+
+-- the mark FFFFFFFF, the ring start of a server on a whole processor
+unfoldable pub markOf : List ℕ
+markOf = replicate 8 70
+
+-- the place of a frame in the table
+abbrev pub indexOf : Frame → ℕ
+indexOf Header = 0
+indexOf Task = 1
+indexOf Plan = 2
+indexOf Server = 3
+indexOf Placed = 4
+indexOf Processor = 5
+indexOf Refused = 6

@@ -1,5 +1,9 @@
 // The one table of frame kinds and field widths. The reader and every writer go by it.
 // A frame with fewer than seven fields is filled up with fields of no digits.
+ghost use mathlib.Core.Path.{_≡_};
+ghost use Prim.Native.Nat.{_<_, _≤_};
+ghost use Rattle.frames.specs.Table.{rowOf, widthOf, placeOf, lengthOf, indexOf};
+
 pub enum Frame {
     Header,
     Task,
@@ -48,3 +52,56 @@ pub const TABLE: [Row; 7] = [
 
 // The ring start of a server on a whole processor.
 pub const WHOLE: [u8; 8] = *b"FFFFFFFF";
+
+// The place of a frame in the table.
+fn index(frame: Frame) -> usize
+    ensures { λ r. ⌜ r ≡ indexOf frame ⌝ }
+{
+    match frame {
+        Frame::Header => 0,
+        Frame::Task => 1,
+        Frame::Plan => 2,
+        Frame::Server => 3,
+        Frame::Placed => 4,
+        Frame::Processor => 5,
+        Frame::Refused => 6,
+    }
+}
+
+pub fn row_of(frame: Frame) -> Row
+    ensures { λ r. ⌜ r ≡ rowOf frame ⌝ }
+{
+    let i = index(frame);
+    TABLE[i]
+}
+
+// The width of a field in digits.
+pub fn width(frame: Frame, field: usize) -> usize
+    requires { ⌜ field < 7 ⌝ }
+    ensures { λ r. ⌜ r ≡ widthOf frame field ⌝ }
+{
+    let row = row_of(frame);
+    let widths = row.widths;
+    widths[field] as usize
+}
+
+// Where a field starts in its line.
+pub fn place(frame: Frame, field: usize) -> usize
+    requires { ⌜ field ≤ 7 ⌝ }
+    ensures { λ r. ⌜ r ≡ placeOf frame field ⌝ }
+{
+    let mut at: usize = 2;
+    let mut i = 0;
+    while i < field {
+        at += width(frame, i);
+        i += 1;
+    }
+    at
+}
+
+// The digits of a line, its LF not counted.
+pub fn length(frame: Frame) -> usize
+    ensures { λ r. ⌜ r ≡ lengthOf frame ⌝ }
+{
+    place(frame, 7)
+}

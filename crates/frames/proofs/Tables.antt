@@ -1,0 +1,134 @@
+-- Laws of the table of frames: the line lengths, and what the filled rows have at each field.
+-- Assumes nothing.
+use Prim.Native.Nat.{ℕ, zero, suc, _+_, _-_, _≤_, _<_}
+use mathlib.Core.Path.{_≡_, refl, sym, _∙_, ap}
+use mathlib.Core.Bool.{Bool, true, false}
+use mathlib.Core.List.{List, [], _∷_, _++_, map}
+use native.Mathlib.Numerals.{add-one}
+use native.Mathlib.Omega.{arith}
+use lib.Dec.{leb, lit≤}
+use lib.ListN.{length, getD, take, replicate}
+use lib.Seq.{getD-take, take-all}
+use borrow.Author.Tests.{leb-true}
+use Rattle.frames.specs.declared.table.Row.{Row}
+use Rattle.frames.specs.declared.table.Frame.{Frame}
+use Rattle.frames.specs.declared.table.Frame.the-variants.{Header, Task, Plan, Server, Placed, Processor, Refused}
+use Rattle.frames.specs.Digit.{both, allLegal, legal}
+use Rattle.frames.specs.Table.{kindOf, widthsOf, sum, widthOf, placeOf, lengthOf, rowOf, indexOf}
+use Rattle.frames.proofs.Digits.{both-left, both-right}
+
+-- every frame, in the table's order
+abbrev pub frames : List Frame
+frames = Header ∷ Task ∷ Plan ∷ Server ∷ Placed ∷ Processor ∷ Refused ∷ []
+
+-- the table's entry at a frame's place is that frame's row
+pub row-at : (table : List Row) (none : Row) → table ≡ map rowOf frames → (frame : Frame) → getD table (indexOf frame) none ≡ rowOf frame
+row-at table none e Header = ap (λ (l : List Row). getD l 0 none) e
+row-at table none e Task = ap (λ (l : List Row). getD l 1 none) e
+row-at table none e Plan = ap (λ (l : List Row). getD l 2 none) e
+row-at table none e Server = ap (λ (l : List Row). getD l 3 none) e
+row-at table none e Placed = ap (λ (l : List Row). getD l 4 none) e
+row-at table none e Processor = ap (λ (l : List Row). getD l 5 none) e
+row-at table none e Refused = ap (λ (l : List Row). getD l 6 none) e
+
+-- the line lengths of document 01
+pub line-lengths : map lengthOf frames ≡ 30 ∷ 22 ∷ 22 ∷ 20 ∷ 6 ∷ 12 ∷ 6 ∷ []
+unfolding sum widthsOf
+line-lengths = refl
+
+-- no frame has more than seven fields
+pub fields-seven : (frame : Frame) → length (widthsOf frame) ≤ 7
+unfolding widthsOf
+fields-seven Header = lit≤ tt
+fields-seven Task = lit≤ tt
+fields-seven Plan = lit≤ tt
+fields-seven Server = lit≤ tt
+fields-seven Placed = lit≤ tt
+fields-seven Processor = lit≤ tt
+fields-seven Refused = lit≤ tt
+
+-- no list of widths has one above a bound
+abbrev below : ℕ → List ℕ → Bool
+below n [] = true
+below n (w ∷ ws) = both (leb w n) (below n ws)
+
+below-at : (n : ℕ) (ws : List ℕ) → below n ws ≡ true → (k : ℕ) → getD ws k 0 ≤ n
+below-at n [] p k = omega arith
+below-at n (w ∷ ws) p zero = leb-true w n (both-left (leb w n) (below n ws) p)
+below-at n (w ∷ ws) p (suc k) = below-at n ws (both-right (leb w n) (below n ws) p) k
+
+-- no field is wider than eight digits
+below-eight : (frame : Frame) → below 8 (widthsOf frame) ≡ true
+unfolding widthsOf
+below-eight Header = refl
+below-eight Task = refl
+below-eight Plan = refl
+below-eight Server = refl
+below-eight Placed = refl
+below-eight Processor = refl
+below-eight Refused = refl
+
+pub width-eight : (frame : Frame) (field : ℕ) → widthOf frame field ≤ 8
+width-eight frame field = below-at 8 (widthsOf frame) (below-eight frame) field
+
+-- zeros at the end of a list change no field
+getD-zeros : (ws : List ℕ) (n k : ℕ) → getD (ws ++ replicate n 0) k 0 ≡ getD ws k 0
+getD-zeros [] zero k = refl
+getD-zeros [] (suc n) zero = refl
+getD-zeros [] (suc n) (suc k) = getD-zeros [] n k
+getD-zeros (w ∷ ws) n zero = refl
+getD-zeros (w ∷ ws) n (suc k) = getD-zeros ws n k
+
+-- the filled row has each field's width
+pub row-width : (frame : Frame) (field : ℕ) → field < 7 → getD (rowOf frame .widths) field 0 ≡ widthOf frame field
+unfolding rowOf
+row-width frame field h = getD-take 7 (widthsOf frame ++ replicate 7 0) field 0 h ∙ getD-zeros (widthsOf frame) 7 field
+
+-- the sum of a list's front, one entry more
+pub sum-take : (ws : List ℕ) (k : ℕ) → sum (take (suc k) ws) ≡ sum (take k ws) + getD ws k 0
+unfolding sum
+sum-take [] zero = refl
+sum-take [] (suc k) = refl
+sum-take (w ∷ ws) zero = omega arith
+sum-take (w ∷ ws) (suc k) = omega (arith, sum-take ws k)
+
+-- a front sums to no more than the whole
+pub sum-front : (ws : List ℕ) (k : ℕ) → sum (take k ws) ≤ sum ws
+unfolding sum
+sum-front [] zero = omega arith
+sum-front [] (suc k) = omega arith
+sum-front (w ∷ ws) zero = omega arith
+sum-front (w ∷ ws) (suc k) = omega (arith, sum-front ws k)
+
+-- a field ends within its line
+pub place-within : (frame : Frame) (field : ℕ) → placeOf frame field + widthOf frame field ≤ lengthOf frame
+place-within frame field = omega (arith, sum-take (widthsOf frame) field, sum-front (widthsOf frame) (suc field))
+
+-- past the last field a place is the line's end
+pub place-seven : (frame : Frame) → placeOf frame 7 ≡ lengthOf frame
+place-seven frame = ap (λ (ws : List ℕ). 2 + sum ws) (take-all 7 (widthsOf frame) (fields-seven frame))
+
+-- no line is longer than thirty digits
+pub length-thirty : (frame : Frame) → lengthOf frame ≤ 30
+unfolding sum widthsOf
+length-thirty Header = lit≤ tt
+length-thirty Task = lit≤ tt
+length-thirty Plan = lit≤ tt
+length-thirty Server = lit≤ tt
+length-thirty Placed = lit≤ tt
+length-thirty Processor = lit≤ tt
+length-thirty Refused = lit≤ tt
+
+pub index-seven : (frame : Frame) → indexOf frame < 7
+index-seven Header = lit≤ tt
+index-seven Task = lit≤ tt
+index-seven Plan = lit≤ tt
+index-seven Server = lit≤ tt
+index-seven Placed = lit≤ tt
+index-seven Processor = lit≤ tt
+index-seven Refused = lit≤ tt
+
+-- the next field starts where this one ends
+pub place-next : (frame : Frame) (field : ℕ) → placeOf frame (field + 1) ≡ placeOf frame field + widthOf frame field
+place-next frame field =
+    ap (λ (n : ℕ). placeOf frame n) (add-one field) ∙ omega (arith, sum-take (widthsOf frame) field)

@@ -1,0 +1,49 @@
+-- `frames::table::place` meets its contract: the widths passed so far sum up to the place.
+-- Assumes nothing.
+use Prim.Native.Nat.{ℕ, suc, _+_, _-_, _≤_}
+use mathlib.Core.Path.{_≡_, refl, sym, _∙_, ap}
+use native.Mathlib.Numerals.{add-one}
+use native.Mathlib.Omega.{arith}
+use lib.ListN.{take}
+use Rattle.frames.specs.Table.{sum, widthsOf, placeOf}
+use Rattle.frames.proofs.Tables.{place-next, place-within, length-thirty}
+use Rattle.frames.proofs.table.place.Statement.{statement}
+use Rattle.frames.proofs.table.place.Tie as tie
+
+abbrev Inv-loop : tie.InvT-loop
+Inv-loop frame field at₀ i₀ at i = (i ≤ field) × (at ≡ placeOf frame i)
+
+abbrev μ-loop : tie.MeasureT-loop
+μ-loop frame field at₀ i₀ at i = field - i
+
+loop-holds : tie.Need-loop-holds Inv-loop μ-loop
+unfolding sum
+loop-holds c = (omega arith, refl)
+
+width-requires : tie.Need-width-requires Inv-loop μ-loop
+width-requires c κs = omega arith
+
+add-at : tie.Need-add-at Inv-loop μ-loop
+add-at c =
+    let frame = c .before .before .before .args .frame in
+    omega (arith, place-within frame (c .before .before .loop .i), length-thirty frame)
+
+add-i : tie.Need-add-i Inv-loop μ-loop
+add-i c = omega arith
+
+loop-less : tie.Need-loop-less Inv-loop μ-loop
+loop-less c = omega arith
+
+loop-again : tie.Need-loop-again Inv-loop μ-loop
+loop-again c = (omega arith, omega (arith, place-next (c .before .before .before .args .frame) (c .before .before .loop .i)))
+
+returns : tie.Need-returns Inv-loop μ-loop
+returns c =
+    let a = c .before .before .args in
+    let last : c .before .loop .i ≡ a .field = omega arith in
+    c .before .loop .inv .1 ∙ ap (placeOf (a .frame)) last
+
+pub place-spec : {M : Type 1} → statement M
+place-spec =
+    tie.close
+    (tie.spec Inv-loop μ-loop loop-holds width-requires add-at add-i loop-less loop-again returns)
