@@ -38,11 +38,10 @@ pub fn supply_at(slot: u64, gap: u64, t: u64) -> u64
 {
     let rest = t % slot;
     let whole = t / slot * (slot - gap);
-    if gap < rest {
-        whole + (rest - gap)
-    } else {
-        whole
+    if rest <= gap {
+        return whole;
     }
+    whole + (rest - gap)
 }
 
 // The longest stretch of a slot with nothing usable: none for a whole processor.

@@ -35,7 +35,8 @@ room : (c : tie.After-shared-slice-known3 Inv-loop μ-loop) →
 room c =
     let s = c .before .before .before .before .before in
     let a = s .before .args in
-    rw (s .loop .inv .1, ← (next-due (a .costs .now) (a .deadlines .now) (a .periods .now) (s .loop .i) (c .before .before .if1 .taken)))
+    let due : getD (a .deadlines .now) (s .loop .i) 0 ≤ a .t = omega (arith, c .before .before .if1 .taken) in
+    rw (s .loop .inv .1, ← (next-due (a .costs .now) (a .deadlines .now) (a .periods .now) (s .loop .i) due))
     (demand-room (a .costs .now) (a .deadlines .now) (a .periods .now) (a .n) (s .loop .i + 1) (a .t) (s .before .pre .0) (omega arith))
 
 loop-holds : tie.Need-loop-holds Inv-loop μ-loop
@@ -87,8 +88,12 @@ loop-again c =
     let a = s .before .args in (
       omega arith,
       ⊎-elim
-          (λ w. omega (arith, w .3, s .loop .inv .1, next-due (a .costs .now) (a .deadlines .now) (a .periods .now) (s .loop .i) (w .0 .taken)))
-          (λ w. omega (arith, w .1, s .loop .inv .1, next-none (a .costs .now) (a .deadlines .now) (a .periods .now) (s .loop .i) (w .0 .left)))
+          (λ w.
+          let due : getD (a .deadlines .now) (s .loop .i) 0 ≤ a .t = omega (arith, w .0 .taken) in
+          omega (arith, w .3, s .loop .inv .1, next-due (a .costs .now) (a .deadlines .now) (a .periods .now) (s .loop .i) due))
+          (λ w.
+          let early : a .t < getD (a .deadlines .now) (s .loop .i) 0 = omega (arith, w .0 .left) in
+          omega (arith, w .1, s .loop .inv .1, next-none (a .costs .now) (a .deadlines .now) (a .periods .now) (s .loop .i) early))
           (c .if1 .came),
     )
 

@@ -20,6 +20,10 @@ sub-whole c = search needs
 mul-whole : tie.Need-mul-whole
 mul-whole c = omega (arith, slots-within (c .args .slot) (c .args .gap) (c .args .t))
 
+returns : tie.Need-returns
+unfolding supplyPast
+returns c = omega arith
+
 sub-result : tie.Need-sub-result
 sub-result c = search needs
 
@@ -27,15 +31,9 @@ add-result : tie.Need-add-result
 unfolding supplyPast
 add-result c = omega (arith, supply-within (c .before .args .slot) (c .before .args .gap) (c .before .args .t))
 
-returns : tie.Need-returns
-unfolding supplyPast
-returns c = refl
-
 returns-2 : tie.Need-returns-2
 unfolding supplyPast
-returns-2 c = omega arith
+returns-2 c = refl
 
 pub supply-at-spec : {M : Type 1} → statement M
-supply-at-spec =
-    tie.close
-    (tie.spec rem-rest div-whole sub-whole mul-whole sub-result add-result returns returns-2)
+supply-at-spec = tie.close (tie.spec rem-rest div-whole sub-whole mul-whole returns sub-result add-result returns-2)
