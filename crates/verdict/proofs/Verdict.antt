@@ -13,7 +13,7 @@ use Rattle.demand.specs.Supply.{Allowed, supply}
 use Rattle.demand.specs.Passes.{Passes}
 use Rattle.demand.proofs.Horizon.{loads-decide}
 use Rattle.demand.proofs.Reserve.{never-turns}
-use Rattle.wholes.specs.Multiple.{leastMultipleOf, Divide, Some}
+use Rattle.wholes.specs.Multiple.{leastMultipleOf, Divide, AllPositive}
 use Rattle.wholes.proofs.MultipleLaws.{multiple-of-pos, others-divide-of}
 use Rattle.verdict.specs.Search.{lastUpTo, firstUpTo, NoneIn, First}
 use Rattle.verdict.specs.Verdict.{failing, ownHorizon, firstFailing, verdictAt, verdictOf, isYes, passing, Horizon}
@@ -34,7 +34,7 @@ every-divides : (ls : List Load) (m : ℕ) → Divide (map (λ (l : Load). l .pe
 every-divides [] m d = tt
 every-divides (l ∷ ls) m d = (d 0 (omega arith), every-divides ls m (λ i h. d (suc i) (suc-le-suc h)))
 
-periods-some : (ls : List Load) → Every Sound ls → Some (map (λ (l : Load). l .period) ls)
+periods-some : (ls : List Load) → Every Sound ls → AllPositive (map (λ (l : Load). l .period) ls)
 periods-some [] e i h = absurd (omega arith)
 periods-some (l ∷ ls) e zero h = omega (arith, e .0 .some, e .0 .meets, e .0 .constrained)
 periods-some (l ∷ ls) e (suc i) h = periods-some ls (e .1) i (le-of-suc-le-suc h)
