@@ -1,16 +1,16 @@
 -- Laws of demand: it grows with the length, turns with every common multiple of the periods, and stays between steps.
 -- Assumes nothing.
-use Prim.Native.Nat.{ℕ, zero, suc, _+_, _*_, _-_, _/_, _%_, _≤_, _<_, _∣_}
+use Prim.Native.Nat.{ℕ, zero, suc, _+_, _*_, _-_, _/_, _≤_, _<_, _∣_}
 use mathlib.Core.Path.{_≡_, refl, ap, ap₂, subst, sym, _∙_}
 use mathlib.Core.List.{List, [], _∷_, _++_}
-use mathlib.Core.Logic.{_⊎_, inl, inr, ⊎-elim}
-use native.Mathlib.Nat.{add-assoc, add-zero, zero-add, add-le-add, mul-add, mul-zero, mul-le-mul, mul-le-mul-left, mul-le-mul-right, le-refl, le-trans, le-of-eq, div-mul-le-self, div-eq-of-lt, add-div-right, add-mul-div-left, mul-div-cancel', le-div-iff-mul-le, le-antisymm, le-suc-iff}
+use mathlib.Core.Logic.{inl, inr, ⊎-elim}
+use native.Mathlib.Nat.{zero-add, add-le-add, mul-zero, mul-le-mul, mul-le-mul-left, mul-le-mul-right, le-refl, le-trans, div-mul-le-self, div-eq-of-lt, add-div-right, add-mul-div-left, mul-div-cancel', le-div-iff-mul-le, le-antisymm, le-suc-iff}
 use native.Mathlib.Numerals.{add-one}
 use native.Mathlib.Omega.{arith}
 use lib.Arith.{le-zero}
 use lib.ListN.{length, getD, length-append}
 use Rattle.demand.specs.Load.{Load, Sound, Every, Loaded, loadAt, loadsOf}
-use Rattle.demand.specs.Demand.{pick, jobs, demand}
+use Rattle.demand.specs.Demand.{jobs, demand}
 use Rattle.demand.specs.Steps.{Step}
 use Rattle.demand.proofs.Cases.{le-or-lt, pick-le, pick-lt}
 

@@ -1,15 +1,13 @@
 -- The fake-task form and the supply form give the same yes or no over all lengths; at single lengths they differ.
 -- Assumes nothing.
-use Prim.Native.Nat.{ℕ, _+_, _*_, _-_, _/_, _%_, _≤_, _<_}
-use mathlib.Core.Path.{_≡_, refl, ap, subst, sym, _∙_}
+use Prim.Native.Nat.{ℕ, _+_, _*_, _-_, _/_, _≤_, _<_}
+use mathlib.Core.Path.{_≡_, refl, ap, _∙_}
 use mathlib.Core.Logic.{_↔_, ⊎-elim}
-use mathlib.Core.List.{List}
-use native.Mathlib.Nat.{le-trans, le-of-eq, mul-comm, mul-add, sub-add-cancel}
+use native.Mathlib.Nat.{le-trans, mul-comm, mul-add, sub-add-cancel}
 use native.Mathlib.Omega.{arith}
 use lib.Arith.{digits-div}
-use Rattle.demand.specs.Load.{Load, Sound, Every}
 use Rattle.demand.specs.Demand.{jobs, demand}
-use Rattle.demand.specs.Supply.{Ring, supplyPast, supply}
+use Rattle.demand.specs.Supply.{supplyPast, supply}
 use Rattle.demand.specs.Passes.{Passes, fake, FakePasses}
 use Rattle.demand.specs.Claims.{FakeAgrees, FakeDiffers, FakeRises}
 use Rattle.demand.proofs.Cases.{le-or-lt, by-slots}

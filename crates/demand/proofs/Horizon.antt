@@ -3,12 +3,10 @@
 use Prim.Native.Nat.{ℕ, zero, suc, _+_, _-_, _≤_, _<_}
 use mathlib.Core.Path.{_≡_, subst}
 use mathlib.Core.Logic.{⊎-elim}
-use mathlib.Core.List.{List}
 use native.Mathlib.Nat.{le-refl, le-trans, le-of-eq, add-le-add}
 use native.Mathlib.Omega.{arith}
-use Rattle.demand.specs.Load.{Load}
 use Rattle.demand.specs.Demand.{demand}
-use Rattle.demand.specs.Supply.{gap, supplyPast, supply}
+use Rattle.demand.specs.Supply.{gap, supply}
 use Rattle.demand.specs.Claims.{HorizonDecides, LoadsDecide}
 use Rattle.demand.proofs.Cases.{le-or-lt}
 use Rattle.demand.proofs.Demand.{demand-turn}

@@ -1,14 +1,12 @@
 -- How the verdict goes with the reserve: never from yes to no as it grows, yes for a load alone, no where the loss eats it up.
 -- Assumes nothing.
-use Prim.Native.Nat.{ℕ, _+_, _*_, _-_, _≤_, _<_}
-use mathlib.Core.Path.{_≡_, refl, ap, sym, _∙_}
+use Prim.Native.Nat.{ℕ, _+_, _-_, _≤_, _<_}
+use mathlib.Core.Path.{_≡_, refl, sym, _∙_}
 use mathlib.Core.Logic.{⊎-elim}
-use mathlib.Core.List.{List, [], _∷_}
-use native.Mathlib.Nat.{le-refl, le-trans, le-of-eq}
+use mathlib.Core.List.{[]}
+use native.Mathlib.Nat.{le-trans, le-of-eq}
 use native.Mathlib.Omega.{arith}
-use Rattle.demand.specs.Load.{Load, Sound}
-use Rattle.demand.specs.Demand.{demand}
-use Rattle.demand.specs.Supply.{Ring, Allowed, gap, supplyPast, supply}
+use Rattle.demand.specs.Supply.{Ring, Allowed, supply}
 use Rattle.demand.specs.Claims.{NeverTurns, AlonePasses, LossNeverPasses}
 use Rattle.demand.proofs.Demand.{term-within, demand-cons, demand-nil, demand-first}
 use Rattle.demand.proofs.Supply.{supply-all, supply-part, supply-none, supply-within, supply-gap-mono}

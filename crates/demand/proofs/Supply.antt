@@ -1,12 +1,12 @@
 -- Laws of supply: it counts the usable ticks of the worst window, so it grows with the length, slot by slot.
 -- Assumes nothing.
-use Prim.Native.Nat.{ℕ, zero, suc, _+_, _*_, _-_, _/_, _%_, _≤_, _<_}
+use Prim.Native.Nat.{ℕ, _+_, _*_, _-_, _/_, _%_, _≤_, _<_}
 use mathlib.Core.Path.{_≡_, ap, ap₂, sym, _∙_}
-use mathlib.Core.Logic.{_⊎_, ⊎-elim}
+use mathlib.Core.Logic.{⊎-elim}
 use native.Mathlib.Nat.{add-assoc, add-le-add, mul-le-mul-left, sub-le, sub-le-sub-left, le-dest, le-trans, le-add-right, le-of-eq, mod-lt, sub-eq-zero-of-le, sub-zero, div-add-mod', div-mul-le-self}
 use native.Mathlib.Omega.{arith}
 use lib.Arith.{digits-div, digits-mod}
-use lib.Dec.{leb, eqb}
+use lib.Dec.{leb}
 use Rattle.demand.specs.Demand.{pick}
 use Rattle.demand.specs.Supply.{Ring, Allowed, gap, supplyPast, supply}
 use Rattle.demand.proofs.Cases.{le-or-lt, eq-or-ne, by-slots, pick-le, pick-lt, pick-eq, pick-ne}

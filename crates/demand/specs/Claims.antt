@@ -1,6 +1,6 @@
--- What is claimed of demand and supply, each claim as a type. The proofs stand under the same names in proofs/.
+-- What is claimed of demand and supply, each claim as a type. Literal, Horizon, Steps, Fake and Reserve of proofs/ prove them.
 -- Document 01, "Demand, supply, and the report's test", and "Shortcuts that give wrong rotas".
-use Prim.Native.Nat.{ℕ, _+_, _*_, _-_, _/_, _≤_, _<_, _∣_}
+use Prim.Native.Nat.{ℕ, _+_, _-_, _/_, _≤_, _<_, _∣_}
 use mathlib.Core.Path.{_≡_}
 use mathlib.Core.Logic.{_↔_}
 use mathlib.Core.List.{List, [], _∷_}
@@ -42,8 +42,8 @@ StepsDecide =
 abbrev pub FakeAgrees : Type 0
 FakeAgrees = (ls : List Load) (S L R : ℕ) → Every Sound ls → Ring S L R → Passes ls S L R ↔ FakePasses ls S L R
 
--- At single lengths the two forms differ: example F, S 4, load 2/5/8, L 0, R 1, at its deadline 5.
--- There demand exceeds supply, and the fake-task sum is no more than the length. At 7 the sum is.
+-- At single lengths the two forms differ: example F, S 4, load 2/5/8, L 0, R 1.
+-- At 5 demand exceeds supply, but the fake-task sum does not exceed the length. At 7 it does.
 abbrev pub loadF : Load
 loadF = record { cost = 2; deadline = 5; period = 8 }
 

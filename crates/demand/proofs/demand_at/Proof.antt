@@ -6,9 +6,9 @@ use mathlib.Core.Logic.{⊎-elim}
 use borrow.Author.Needs.{needs}
 use native.Mathlib.Nat.{div-le-self}
 use native.Mathlib.Omega.{arith}
-use lib.ListN.{length, getD}
-use Rattle.demand.specs.Load.{Load, Sound, Every, Loaded, loadAt, loadsOf}
-use Rattle.demand.specs.Demand.{jobs, demand}
+use lib.ListN.{getD}
+use Rattle.demand.specs.Load.{Sound, loadAt, loadsOf}
+use Rattle.demand.specs.Demand.{demand}
 use Rattle.demand.proofs.Demand.{every-at, next-none, next-due, demand-room}
 use Rattle.demand.proofs.demand_at.Statement.{statement}
 use Rattle.demand.proofs.demand_at.Tie as tie
