@@ -1,0 +1,317 @@
+// An independent account of document 01, by the slowest plain means: no search skips a length, the ring is an array of
+// positions, a line is a split string. The outside tests hold the proved tool to it.
+#![allow(dead_code)]
+
+#[derive(Clone, Debug, PartialEq)]
+pub struct Task {
+    pub id: u64,
+    pub c: u64,
+    pub d: u64,
+    pub t: u64,
+}
+
+#[derive(Clone, Debug, Default, PartialEq)]
+pub struct Set {
+    pub m: u64,
+    pub s: u64,
+    pub relj: u64,
+    pub relo: u64,
+    pub ctswo: u64,
+    pub resd: u64,
+    pub cpmdo: u64,
+    pub tasks: Vec<Task>,
+}
+
+pub type Refusal = (u8, usize);
+
+fn hex_fields(line: &[u8], widths: &[usize]) -> Option<Vec<u64>> {
+    let total: usize = widths.iter().sum();
+    if line.len() != 2 + total {
+        return None;
+    }
+    let text = std::str::from_utf8(line).ok()?;
+    if !text.chars().all(|ch| "0123456789ABCDEF".contains(ch)) {
+        return None;
+    }
+    let mut fields = Vec::new();
+    let mut rest = &text[2..];
+    for width in widths {
+        let (field, tail) = rest.split_at(*width);
+        fields.push(u64::from_str_radix(field, 16).ok()?);
+        rest = tail;
+    }
+    Some(fields)
+}
+
+enum Line {
+    Header(Vec<u64>),
+    Task(Vec<u64>),
+    Malformed,
+}
+
+fn classify(line: &[u8], closed: bool) -> Line {
+    if !closed {
+        return Line::Malformed;
+    }
+    if line.starts_with(b"01") {
+        if let Some(f) = hex_fields(line, &[2, 6, 4, 4, 4, 4, 4]) {
+            return Line::Header(f);
+        }
+    }
+    if line.starts_with(b"02") {
+        if let Some(f) = hex_fields(line, &[2, 6, 6, 6]) {
+            return Line::Task(f);
+        }
+    }
+    Line::Malformed
+}
+
+pub fn read(text: &[u8]) -> Result<Set, Refusal> {
+    let mut lines: Vec<(&[u8], bool)> = text.split(|b| *b == b'\n').map(|l| (l, true)).collect();
+    let last = lines.len() - 1;
+    lines[last].1 = false;
+    if lines[last].0.is_empty() {
+        lines.pop();
+    }
+    let mut set = Set::default();
+    for (i, (line, closed)) in lines.iter().enumerate() {
+        let number = i + 1;
+        match (classify(line, *closed), number) {
+            (Line::Malformed, _) => return Err((1, number)),
+            (Line::Header(f), 1) => {
+                set = Set { m: f[0], s: f[1], relj: f[2], relo: f[3], ctswo: f[4], resd: f[5], cpmdo: f[6], tasks: vec![] };
+            }
+            (Line::Header(_), _) => return Err((2, number)),
+            (Line::Task(_), 1) => return Err((2, 1)),
+            (Line::Task(f), _) => {
+                if set.tasks.len() == 64 {
+                    return Err((3, number));
+                }
+                if set.tasks.iter().any(|t| t.id == f[0]) {
+                    return Err((4, number));
+                }
+                set.tasks.push(Task { id: f[0], c: f[1], d: f[2], t: f[3] });
+            }
+        }
+    }
+    if lines.is_empty() {
+        return Err((2, 1));
+    }
+    if set.tasks.is_empty() {
+        return Err((3, 2));
+    }
+    match figures(&set) {
+        Some(refusal) => Err(refusal),
+        None => Ok(set),
+    }
+}
+
+fn figures(set: &Set) -> Option<Refusal> {
+    if set.m < 1 || set.m > 64 || set.s == 0 {
+        return Some((5, 0));
+    }
+    let wrong = |t: &Task| !(1 <= t.c && t.c <= t.d && t.d <= t.t && t.t <= 1_000_000);
+    set.tasks.iter().position(wrong).map(|i| (6, i + 1))
+}
+
+#[derive(Clone, Copy, Debug)]
+pub struct Load {
+    pub c: u64,
+    pub d: u64,
+    pub t: u64,
+}
+
+pub fn gcd(a: u64, b: u64) -> u64 {
+    let (mut a, mut b) = (a, b);
+    while b != 0 {
+        (a, b) = (b, a % b);
+    }
+    a
+}
+
+pub fn lcm(s: u64, periods: impl Iterator<Item = u64>) -> u128 {
+    let mut h = s as u128;
+    for t in periods {
+        let g = gcd((h % t as u128) as u64, t);
+        h = h / g as u128 * t as u128;
+        if h > 1 << 100 {
+            return h;
+        }
+    }
+    h
+}
+
+pub fn demand(loads: &[Load], t: u64) -> u64 {
+    loads.iter().map(|l| if t < l.d { 0 } else { l.c * ((t - l.d) / l.t + 1) }).sum()
+}
+
+pub fn supply(s: u64, l: u64, r: u64, t: u64) -> u64 {
+    if r == s {
+        return t;
+    }
+    let f = s - r + l;
+    (t / s) * (s - f) + (t % s).saturating_sub(f)
+}
+
+// The smallest failing length, by looking at every step of every load up to the horizon.
+pub fn first_failing(loads: &[Load], s: u64, l: u64, r: u64) -> Option<u64> {
+    let h = lcm(s, loads.iter().map(|x| x.t)) as u64;
+    let mut worst: Option<u64> = None;
+    for load in loads {
+        let mut t = load.d;
+        while t <= h && worst.map_or(true, |w| t < w) {
+            if demand(loads, t) > supply(s, l, r, t) {
+                worst = Some(t);
+            }
+            t += load.t;
+        }
+    }
+    worst
+}
+
+#[derive(Clone, Debug)]
+pub struct Plan {
+    pub whole: usize,
+    pub r: usize,
+    pub reserves: Vec<u64>,
+    pub starts: Vec<u64>,
+    pub members: Vec<Vec<usize>>,
+    pub placed: Vec<usize>,
+    pub ring: Vec<usize>,
+    pub wholes: Vec<usize>,
+    pub loads: Vec<Load>,
+    pub loss: u64,
+}
+
+impl Plan {
+    pub fn members_loads(&self, q: usize) -> Vec<Load> {
+        self.members[q - 1].iter().map(|i| self.loads[*i]).collect()
+    }
+}
+
+pub fn plan(set: &Set) -> Result<Plan, Refusal> {
+    if let Some(refusal) = figures(set) {
+        return Err(refusal);
+    }
+    if let Some(i) = set.tasks.iter().position(|t| t.d < set.s) {
+        return Err((7, i + 1));
+    }
+    let cost = |t: &Task| t.c + set.relo + 2 * set.ctswo + set.cpmdo;
+    if let Some(i) = set.tasks.iter().position(|t| set.relj >= t.d || cost(t) > t.d - set.relj) {
+        return Err((8, i + 1));
+    }
+    if lcm(set.s, set.tasks.iter().map(|t| t.t)) > 10_000_000 {
+        return Err((9, 0));
+    }
+    let loss = set.resd + set.cpmdo;
+    let loads: Vec<Load> = set.tasks.iter().map(|t| Load { c: cost(t), d: t.d - set.relj, t: t.t }).collect();
+    let mut members: Vec<Vec<usize>> = Vec::new();
+    let mut placed = Vec::new();
+    for i in 0..loads.len() {
+        let fits = |held: &Vec<usize>| {
+            let mut together: Vec<Load> = held.iter().map(|j| loads[*j]).collect();
+            together.push(loads[i]);
+            first_failing(&together, set.s, loss, set.s).is_none()
+        };
+        match members.iter().position(fits) {
+            Some(q) => {
+                members[q].push(i);
+                placed.push(q + 1);
+            }
+            None => {
+                members.push(vec![i]);
+                placed.push(members.len());
+            }
+        }
+    }
+    let reserves: Vec<u64> = members
+        .iter()
+        .map(|held| {
+            let own: Vec<Load> = held.iter().map(|j| loads[*j]).collect();
+            smallest_reserve(&own, set.s, loss)
+        })
+        .collect();
+    let mut ring: Vec<usize> = Vec::new();
+    let mut starts = Vec::new();
+    let mut wholes = Vec::new();
+    for (i, reserve) in reserves.iter().enumerate() {
+        if *reserve == set.s {
+            starts.push(0xFFFF_FFFF);
+            wholes.push(i + 1);
+        } else {
+            starts.push(ring.len() as u64);
+            ring.extend(std::iter::repeat(i + 1).take(*reserve as usize));
+        }
+    }
+    while ring.len() % set.s as usize != 0 {
+        ring.push(0);
+    }
+    let r = ring.len() / set.s as usize;
+    let whole = wholes.len();
+    if r + whole > set.m as usize {
+        return Err((10, r + whole));
+    }
+    Ok(Plan { whole, r, reserves, starts, members, placed, ring, wholes, loads, loss })
+}
+
+// Upwards from the least allowed reserve, one by one, until the server passes.
+pub fn smallest_reserve(loads: &[Load], s: u64, loss: u64) -> u64 {
+    let mut reserve = loss + 1;
+    while reserve < s && first_failing(loads, s, loss, reserve).is_some() {
+        reserve += 1;
+    }
+    reserve.max(loss + 1).min(s)
+}
+
+// The server and the ticks left, counted tick by tick.
+pub fn who(set: &Set, plan: &Plan, p: usize, x: u64) -> Option<(usize, u64)> {
+    if p < 1 || p > plan.r + plan.whole {
+        return None;
+    }
+    if p > plan.r {
+        return Some((plan.wholes[p - plan.r - 1], set.s - x % set.s));
+    }
+    let length = plan.ring.len();
+    let at = ((x as u128 + (p as u128 - 1) * set.s as u128) % length as u128) as usize;
+    let server = plan.ring[at];
+    let left = plan.ring[at..].iter().take_while(|q| **q == server).count();
+    Some((server, left as u64))
+}
+
+pub fn text(set: &Set, plan: &Plan) -> String {
+    let idle = plan.ring.iter().filter(|q| **q == 0).count();
+    let mut out = format!("11{:02X}{:02X}{:02X}{:06X}{:08X}\n", plan.whole, plan.r, plan.reserves.len(), set.s, idle);
+    for (i, reserve) in plan.reserves.iter().enumerate() {
+        out += &format!("12{:02X}{:06X}{:08X}{:02X}\n", i + 1, reserve, plan.starts[i], plan.members[i].len());
+    }
+    for (task, server) in set.tasks.iter().zip(&plan.placed) {
+        out += &format!("13{:02X}{:02X}\n", task.id, server);
+    }
+    for p in 1..=plan.r {
+        let (server, left) = who(set, plan, p, 0).unwrap();
+        out += &format!("14{:02X}{:02X}{:06X}\n", p, server, left);
+    }
+    for (i, server) in plan.wholes.iter().enumerate() {
+        out += &format!("14{:02X}{:02X}{:06X}\n", plan.r + i + 1, server, set.s);
+    }
+    out
+}
+
+// From the bytes of a task file to the bytes that rota prints.
+pub fn rota(bytes: &[u8]) -> String {
+    match read(bytes).and_then(|set| plan(&set).map(|p| text(&set, &p))) {
+        Ok(text) => text,
+        Err((number, place)) => format!("1F{:02X}{:02X}\n", number, place),
+    }
+}
+
+pub fn file(set: &Set) -> String {
+    let mut out = format!(
+        "01{:02X}{:06X}{:04X}{:04X}{:04X}{:04X}{:04X}\n",
+        set.m, set.s, set.relj, set.relo, set.ctswo, set.resd, set.cpmdo
+    );
+    for t in &set.tasks {
+        out += &format!("02{:02X}{:06X}{:06X}{:06X}\n", t.id, t.c, t.d, t.t);
+    }
+    out
+}
