@@ -3,3 +3,7 @@ pub mod Reach
 pub mod Descent
 pub mod Halving
 pub mod Verdict
+pub mod Judged
+pub mod Horizons
+pub mod Sizing
+pub mod Examples

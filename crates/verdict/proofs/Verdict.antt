@@ -133,11 +133,11 @@ unfolding verdictOf verdictAt
 verdict-no ls S L R zero e h = absurd (omega arith)
 verdict-no ls S L R (suc t) e h = rw e refl
 
-passing-yes : (ls : List Load) (S L R : ℕ) → firstFailing ls S L R ≡ 0 → passing ls S L R ≡ true
+pub passing-yes : (ls : List Load) (S L R : ℕ) → firstFailing ls S L R ≡ 0 → passing ls S L R ≡ true
 unfolding passing
 passing-yes ls S L R e = ap isYes (verdict-yes ls S L R e)
 
-passing-no : (ls : List Load) (S L R : ℕ) → 1 ≤ firstFailing ls S L R → passing ls S L R ≡ false
+pub passing-no : (ls : List Load) (S L R : ℕ) → 1 ≤ firstFailing ls S L R → passing ls S L R ≡ false
 unfolding passing
 passing-no ls S L R h = ap isYes (verdict-no ls S L R (firstFailing ls S L R) refl h)
 

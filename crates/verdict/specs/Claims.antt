@@ -10,6 +10,7 @@ use Rattle.demand.specs.Supply.{Allowed, supply}
 use Rattle.demand.specs.Passes.{Passes}
 use Rattle.verdict.specs.Search.{lastUpTo, firstUpTo, NoneIn, Last, First}
 use Rattle.verdict.specs.Verdict.{failing, firstFailing, verdictOf, passing, Horizon}
+use Rattle.verdict.specs.Reserve.{smallestReserve, Smallest}
 use Rattle.verdict.specs.declared.answer.Reading.{Reading}
 use Rattle.verdict.specs.declared.answer.Verdict.{Verdict}
 use Rattle.verdict.specs.declared.answer.Verdict.the-variants.{Yes, No}
@@ -63,3 +64,12 @@ abbrev pub PassingStays : Type 0
 PassingStays =
     (ls : List Load) (S L R R′ : ℕ) → Asked ls S → Allowed S L R → Allowed S L R′ → R ≤ R′
     → passing ls S L R ≡ true → passing ls S L R′ ≡ true
+
+-- a server that passes on a whole processor has its smallest reserve
+abbrev pub ReserveMeans : Type 0
+ReserveMeans =
+    (ls : List Load) (S L : ℕ) → Asked ls S → Passes ls S L S → Smallest ls S L (smallestReserve ls S L)
+
+-- there is no other
+abbrev pub ReserveOne : Type 0
+ReserveOne = (ls : List Load) (S L R R′ : ℕ) → Smallest ls S L R → Smallest ls S L R′ → R ≡ R′

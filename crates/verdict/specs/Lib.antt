@@ -1,3 +1,4 @@
 pub mod Search
 pub mod Verdict
+pub mod Reserve
 pub mod Claims

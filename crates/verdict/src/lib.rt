@@ -2,3 +2,5 @@
 // One search serves placement, the sizing of reserves and the question.
 pub mod answer; // answer.rt: yes or no, with a reading
 pub mod search; // search.rt: the largest and the smallest short length
+pub mod judge; // judge.rt: does it pass, and the verdict
+pub mod reserve; // reserve.rt: the smallest reserve
