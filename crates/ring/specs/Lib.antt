@@ -1,3 +1,4 @@
+pub mod Laid
 pub mod Reserves
 pub mod Phase
 pub mod Cover

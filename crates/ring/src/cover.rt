@@ -1,6 +1,41 @@
 // The server whose reserve covers a position, and the ticks to that reserve's end.
 // Server 0 is the idle stretch at the ring's end.
+ghost use mathlib.Core.Path.{_≡_};
+ghost use Prim.Native.Nat.{_<_};
+ghost use lib.ListN.{take};
+ghost use Rattle.ring.specs.Laid.{Laid};
+ghost use Rattle.ring.specs.Reserves.{ringLength};
+ghost use Rattle.ring.specs.Cover.{standAt};
+use crate::clock::Position;
+
 pub struct Stand {
     pub server: u64,
     pub left: u64,
+}
+
+// Each ring reserve starts where the last ended, so the first that ends past the position covers it.
+pub fn stand_at(reserves: &[u64], n: usize, slot: u64, at: Position) -> Stand
+    requires { ⌜ Laid slot (now reserves) n × (at .0 < ringLength slot (take n (now reserves))) ⌝ }
+    ensures { λ r. ⌜ r ≡ standAt slot (take n (now (reserves .entry))) at ⌝ }
+{
+    let place = at.0;
+    let mut end: u64 = 0;
+    let mut i: usize = 0;
+    while i < n {
+        let reserve = reserves[i];
+        if reserve < slot {
+            end += reserve;
+            if place < end {
+                return Stand {
+                    server: i as u64 + 1,
+                    left: end - place,
+                };
+            }
+        }
+        i += 1;
+    }
+    Stand {
+        server: 0,
+        left: wholes::ceiling(end, slot) * slot - place,
+    }
 }

@@ -1,0 +1,7 @@
+-- The laws of the ring: starts, cover, the phase rule and who runs, for the proofs here and for callers.
+pub mod Cases
+pub mod Starts
+pub mod CoverLaws
+pub mod StandLaws
+pub mod WholeLaws
+pub mod WhoLaws

@@ -1,0 +1,88 @@
+-- Who runs, by the two kinds of processor, and what the functions that ask it hand on.
+-- Assumes nothing.
+use Prim.Native.Nat.{ℕ, suc, _+_, _*_, _-_, _%_, _≤_, _<_, _^_}
+use mathlib.Core.Path.{_≡_, refl, sym, ap, _∙_}
+use mathlib.Core.List.{List}
+use mathlib.Core.Bool.{Bool}
+use native.Mathlib.Nat.{le-trans, one-le-mul, mod-lt, mod-eq-of-lt, zero-add, mul-le-mul-right, le-of-eq}
+use native.Mathlib.Omega.{arith}
+use borrow.Author.Tests.{le-leb, lt-leb}
+use lib.Dec.{leb}
+use lib.ListN.{length, getD, take}
+use Rattle.ring.specs.declared.clock.Tick.{Tick}
+use Rattle.ring.specs.declared.clock.Position.{Position}
+use Rattle.ring.specs.declared.cover.Stand.{Stand}
+use Rattle.ring.specs.Laid.{Laid}
+use Rattle.ring.specs.Reserves.{ringProcessors, ringLength}
+use Rattle.ring.specs.Phase.{phase}
+use Rattle.ring.specs.Cover.{standAt}
+use Rattle.ring.specs.Who.{pickStand, wholeServer, whoOf, firstOf}
+use Rattle.ring.proofs.Starts.{length-room}
+
+-- a position is on the ring
+pub phase-below : (S r p : ℕ) (x : Tick) → 1 ≤ S → 1 ≤ r → phase S r p x .0 < r * S
+unfolding phase
+phase-below S r p x h g = mod-lt (x .0 + (p - 1) * S) (one-le-mul g h)
+
+-- at tick 0 processor p is at (p − 1)·S
+pub phase-first : (S r p : ℕ) → 1 ≤ S → 1 ≤ p → p ≤ r → phase S r p (record { 0 = 0 }) ≡ record { 0 = (p - 1) * S }
+unfolding phase
+phase-first S r p h g l = rw (zero-add ((p - 1) * S), mod-eq-of-lt below)
+  where
+    below : (p - 1) * S < r * S
+    below =
+        let e : (p - 1 + 1) * S ≤ r * S = mul-le-mul-right S (omega arith) in
+        omega arith
+
+module _ (S : ℕ) (rs : List ℕ) (p : ℕ) where
+  abbrev r : ℕ
+  r = ringProcessors S rs
+
+  pub who-ring : (x : Tick) → p ≤ r → whoOf S rs p x ≡ standAt S rs (phase S r p x)
+  unfolding whoOf
+  who-ring x h = rw (le-leb p r h)
+
+  pub who-whole : (x : Tick) → r < p → whoOf S rs p x ≡ record { server = wholeServer S rs (p - r - 1); left = S - x .0 % S }
+  unfolding whoOf
+  who-whole x h = rw (lt-leb p r h)
+
+  pub first-ring : p ≤ r → firstOf S rs p ≡ standAt S rs (record { 0 = (p - 1) * S })
+  unfolding firstOf
+  first-ring h = rw (le-leb p r h)
+
+  pub first-whole : r < p → firstOf S rs p ≡ record { server = wholeServer S rs (p - r - 1); left = S }
+  unfolding firstOf
+  first-whole h = rw (lt-leb p r h)
+
+-- ---- the first n of a slice, with r as it was computed
+
+module _ {S : ℕ} {rs : List ℕ} {n : ℕ} (laid : Laid S rs n) {r : ℕ} (e : r ≡ ringProcessors S (take n rs)) {p : ℕ} where
+  -- what the phase rule asks of a ring processor
+  pub phase-asks : 1 ≤ p → p ≤ r → (1 ≤ S) × (1 ≤ p) × (p ≤ r) × (r * S < 2 ^ 48)
+  phase-asks h l =
+      let whole : r * S ≡ ringLength S (take n rs) = ap (λ (k : ℕ). k * S) e in
+      (laid .slot-some, h, l, omega (arith, length-room laid))
+
+  pub phase-lands : (at : Position) (x : Tick) → 1 ≤ p → p ≤ r → at ≡ phase S r p x → at .0 < ringLength S (take n rs)
+  phase-lands at x h l q =
+      let whole : r * S ≡ ringLength S (take n rs) = ap (λ (k : ℕ). k * S) e in
+      let same : at .0 ≡ phase S r p x .0 = ap (λ (a : Position). a .0) q in
+      omega (arith, phase-below S r p x (laid .slot-some) (le-trans h l))
+
+  pub who-lands : (at : Position) (x : Tick) → p ≤ r → at ≡ phase S r p x → standAt S (take n rs) at ≡ whoOf S (take n rs) p x
+  who-lands at x l q =
+      ap (standAt S (take n rs)) (q ∙ ap (λ (k : ℕ). phase S k p x) e) ∙
+      sym (who-ring S (take n rs) p x (omega arith))
+
+  pub first-lands : (at : Position) → 1 ≤ p → p ≤ r → at ≡ phase S r p (record { 0 = 0 }) → standAt S (take n rs) at ≡ firstOf S (take n rs) p
+  first-lands at h l q =
+      ap (standAt S (take n rs)) (q ∙ phase-first S r p (laid .slot-some) h l) ∙
+      sym (first-ring S (take n rs) p (omega arith))
+
+  pub who-own : (server : ℕ) (x : Tick) → r < p → server ≡ wholeServer S (take n rs) (p - r - 1) →
+      _≡_ {A = Stand} (record { server = server; left = S - x .0 % S }) (whoOf S (take n rs) p x)
+  who-own server x l q = rw (q, e) (sym (who-whole S (take n rs) p x (omega arith)))
+
+  pub first-own : (server : ℕ) → r < p → server ≡ wholeServer S (take n rs) (p - r - 1) →
+      _≡_ {A = Stand} (record { server = server; left = S }) (firstOf S (take n rs) p)
+  first-own server l q = rw (q, e) (sym (first-whole S (take n rs) p (omega arith)))

@@ -1,0 +1,128 @@
+-- `cover::stand_at` meets its contract. The loop's invariant: `end` is where the first i reserves end, and the position is not before it.
+-- The measure is what is left of n. Assumes nothing.
+use Prim.Native.Nat.{ℕ, suc, _+_, _*_, _-_, _≤_, _<_}
+use mathlib.Core.Path.{_≡_, refl, sym, ap, _∙_}
+use mathlib.Core.Logic.{⊎-elim}
+use borrow.Author.Needs.{needs}
+use native.Mathlib.Omega.{arith}
+use lib.ListN.{length, getD, take}
+use Rattle.ring.specs.Reserves.{ringTicks, ringProcessors, ringLength}
+use Rattle.wholes.specs.Ceiling.{ceilingOf}
+use Rattle.ring.proofs.Starts.{pass-more, pass-same, ring-room, length-room}
+use Rattle.ring.proofs.StandLaws.{stand-found, stand-past}
+use Rattle.ring.proofs.cover.stand_at.Statement.{statement}
+use Rattle.ring.proofs.cover.stand_at.Tie as tie
+
+abbrev Inv-loop : tie.InvT-loop
+Inv-loop reserves n slot place end₀ i₀ end i = (i ≤ n) × (end ≡ ringTicks slot (take i reserves)) × (end ≤ place)
+
+abbrev μ-loop : tie.MeasureT-loop
+μ-loop reserves n slot place end₀ i₀ end i = n - i
+
+-- after the loop all reserves are passed
+passed : (c : tie.After-loop Inv-loop μ-loop) →
+    let a = c .before .before .before .args in
+    c .before .loop .end ≡ ringTicks (a .slot) (take (a .n) (a .reserves .now))
+passed c =
+    let a = c .before .before .before .args in
+    let e : c .before .loop .i ≡ a .n = omega arith in
+    c .before .loop .inv .1 ∙ ap (λ (i : ℕ). ringTicks (a .slot) (take i (a .reserves .now))) e
+
+rounded : (c : tie.After-ceiling Inv-loop μ-loop) →
+    let a = c .before .before .before .before .args in
+    c .ceiling .result ≡ ringProcessors (a .slot) (take (a .n) (a .reserves .now))
+rounded c =
+    let a = c .before .before .before .before .args in
+    c .ceiling .ensures ∙ ap (λ (t : ℕ). ceilingOf t (a .slot)) (passed (c .before))
+
+whole : (c : tie.After-ceiling Inv-loop μ-loop) →
+    let a = c .before .before .before .before .args in
+    c .ceiling .result * a .slot ≡ ringLength (a .slot) (take (a .n) (a .reserves .now))
+whole c = ap (λ (r : ℕ). r * c .before .before .before .before .args .slot) (rounded c)
+
+loop-holds : tie.Need-loop-holds Inv-loop μ-loop
+unfolding ringTicks
+loop-holds c = (omega arith, refl, omega arith)
+
+mul-reserve : tie.Need-mul-reserve Inv-loop μ-loop
+mul-reserve c = search needs
+
+shared-slice-read-reserve : tie.Need-shared-slice-read-reserve Inv-loop μ-loop
+shared-slice-read-reserve c = search needs
+
+add-end : tie.Need-add-end Inv-loop μ-loop
+add-end c =
+    let at = c .before .before .before in
+    let laid = at .before .before .pre .0 in
+    let h = c .before .before .loop-test .taken in
+    omega (arith, laid .slot-below, pass-more laid (at .loop .i) h (c .if1 .taken), ring-room laid (at .loop .i + 1) (omega arith))
+
+add-t15 : tie.Need-add-t15 Inv-loop μ-loop
+add-t15 c = omega (arith, c .before .before .before .before .before .before .pre .0 .few)
+
+sub-t16 : tie.Need-sub-t16 Inv-loop μ-loop
+sub-t16 c = search needs
+
+returns : tie.Need-returns Inv-loop μ-loop
+returns c =
+    let at = c .before .before .before .before in
+    stand-found (at .before .before .pre .0) (at .before .before .args .at) (at .loop .i) (at .loop .end)
+    (c .before .before .before .loop-test .taken)
+    (c .before .if1 .taken)
+    (at .loop .inv .1)
+    (at .loop .inv .2)
+    (c .if2 .taken)
+
+add-i : tie.Need-add-i Inv-loop μ-loop
+add-i c = search needs
+
+loop-less : tie.Need-loop-less Inv-loop μ-loop
+loop-less c = search needs
+
+loop-again : tie.Need-loop-again Inv-loop μ-loop
+loop-again c =
+    let at = c .before .before .before in
+    let laid = at .before .before .pre .0 in
+    let h = c .before .before .loop-test .taken in (
+      omega arith,
+      ⊎-elim
+          (λ w. omega (arith, w .2, at .loop .inv .1, pass-more laid (at .loop .i) h (w .0 .taken)))
+          (λ w. omega (arith, w .1, at .loop .inv .1, pass-same laid (at .loop .i) h (w .0 .left)))
+          (c .if1 .came),
+      ⊎-elim (λ w. omega (arith, w .2, w .1 .left)) (λ w. omega (arith, w .1, at .loop .inv .2)) (c .if1 .came),
+    )
+
+ceiling-requires : tie.Need-ceiling-requires Inv-loop μ-loop
+ceiling-requires c κs = c .before .before .before .pre .0 .slot-some
+
+mul-t18 : tie.Need-mul-t18 Inv-loop μ-loop
+mul-t18 c = omega (arith, whole c, length-room (c .before .before .before .before .pre .0))
+
+sub-t19 : tie.Need-sub-t19 Inv-loop μ-loop
+sub-t19 c = omega (arith, whole c, c .before .before .before .before .pre .1)
+
+returns-2 : tie.Need-returns-2 Inv-loop μ-loop
+returns-2 c =
+    let s = c .before .before .before .before in
+    stand-past (s .pre .0) (s .args .at) (c .ceiling .result) (rounded c) (omega (arith, passed (c .before), c .before .before .loop .inv .2))
+
+pub stand-at-spec : {M : Type 1} → statement M
+stand-at-spec =
+    tie.close
+    (tie.spec
+    Inv-loop
+    μ-loop
+    loop-holds
+    mul-reserve
+    shared-slice-read-reserve
+    add-end
+    add-t15
+    sub-t16
+    returns
+    add-i
+    loop-less
+    loop-again
+    ceiling-requires
+    mul-t18
+    sub-t19
+    returns-2)

@@ -1,0 +1,53 @@
+-- `who::first` meets its contract: a ring processor by its position, any other by its own server.
+-- Assumes nothing.
+use mathlib.Core.Path.{_∙_}
+use Rattle.ring.proofs.WhoLaws.{phase-asks, phase-lands, first-lands, first-own}
+use borrow.Author.Needs.{needs}
+use Rattle.ring.proofs.who.first.Statement.{statement}
+use Rattle.ring.proofs.who.first.Tie as tie
+
+ring-processors-requires : tie.Need-ring-processors-requires
+ring-processors-requires c κs = search needs
+
+position-requires : tie.Need-position-requires
+position-requires c κs = phase-asks (c .before .before .before .pre .0) (c .before .ring-processors .ensures) (c .before .before .before .pre .1) (c .if1 .taken)
+
+stand-at-requires : tie.Need-stand-at-requires
+stand-at-requires c κs =
+    let s = c .before .before .before .before in (
+      s .pre .0,
+      phase-lands (s .pre .0) (c .before .before .ring-processors .ensures) (c .position .result) _ (s .pre .1) (c .before .if1 .taken) (c .position .ensures),
+    )
+
+returns : tie.Need-returns
+returns c =
+    let s = c .before .before .before .before .before in
+    c .stand-at .ensures ∙
+    first-lands (s .pre .0) (c .before .before .before .ring-processors .ensures) (c .before .position .result) (s .pre .1) (c .before .before .if1 .taken) (c .before .position .ensures)
+
+sub-whole-server : tie.Need-sub-whole-server
+sub-whole-server c = search needs
+
+sub-whole-server-2 : tie.Need-sub-whole-server-2
+sub-whole-server-2 c = search needs
+
+whole-server-requires : tie.Need-whole-server-requires
+whole-server-requires c κs = search needs
+
+returns-2 : tie.Need-returns-2
+returns-2 c =
+    let s = c .before .before .before .before in
+    first-own (s .pre .0) (c .before .before .ring-processors .ensures) (c .whole-server .result) (c .before .if1 .left) (c .whole-server .ensures)
+
+pub first-spec : {M : Type 1} → statement M
+first-spec =
+    tie.close
+    (tie.spec
+    ring-processors-requires
+    position-requires
+    stand-at-requires
+    returns
+    sub-whole-server
+    sub-whole-server-2
+    whole-server-requires
+    returns-2)

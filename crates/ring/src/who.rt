@@ -1,0 +1,64 @@
+// Who runs on a processor at a tick, and for how long; and the first reserve of each processor.
+// Ring processors come first, then one for each server that has a whole processor.
+ghost use mathlib.Core.Path.{_≡_};
+ghost use Prim.Native.Nat.{_≤_};
+ghost use lib.ListN.{take};
+ghost use Rattle.ring.specs.Laid.{Laid};
+ghost use Rattle.ring.specs.Reserves.{processorsOf};
+ghost use Rattle.ring.specs.Who.{wholeServer, whoOf, firstOf};
+use crate::clock::Tick;
+use crate::cover::Stand;
+use crate::cover::stand_at;
+use crate::phase::position;
+use crate::reserves::ring_processors;
+
+// The k-th server, from 0, that has a whole processor; 0 where there is none.
+pub fn whole_server(reserves: &[u64], n: usize, slot: u64, k: u64) -> u64
+    requires { ⌜ Laid slot (now reserves) n ⌝ }
+    ensures { λ r. ⌜ r ≡ wholeServer slot (take n (now (reserves .entry))) k ⌝ }
+{
+    let mut more = k;
+    let mut i: usize = 0;
+    while i < n {
+        let reserve = reserves[i];
+        if slot <= reserve {
+            if more == 0 {
+                return i as u64 + 1;
+            }
+            more -= 1;
+        }
+        i += 1;
+    }
+    0
+}
+
+pub fn who(reserves: &[u64], n: usize, slot: u64, processor: u64, tick: Tick) -> Stand
+    requires { ⌜ Laid slot (now reserves) n × (1 ≤ processor) × (processor ≤ processorsOf slot (take n (now reserves))) ⌝ }
+    ensures { λ r. ⌜ r ≡ whoOf slot (take n (now (reserves .entry))) processor tick ⌝ }
+{
+    let ring = ring_processors(reserves, n, slot);
+    if processor <= ring {
+        let at = position(slot, ring, processor, tick);
+        return stand_at(reserves, n, slot, at);
+    }
+    let x = tick.0;
+    let server = whole_server(reserves, n, slot, processor - ring - 1);
+    Stand {
+        server,
+        left: slot - x % slot,
+    }
+}
+
+// Ring processor p is at position (p − 1)·S at tick 0; a whole processor's first reserve is a slot.
+pub fn first(reserves: &[u64], n: usize, slot: u64, processor: u64) -> Stand
+    requires { ⌜ Laid slot (now reserves) n × (1 ≤ processor) × (processor ≤ processorsOf slot (take n (now reserves))) ⌝ }
+    ensures { λ r. ⌜ r ≡ firstOf slot (take n (now (reserves .entry))) processor ⌝ }
+{
+    let ring = ring_processors(reserves, n, slot);
+    if processor <= ring {
+        let at = position(slot, ring, processor, Tick(0));
+        return stand_at(reserves, n, slot, at);
+    }
+    let server = whole_server(reserves, n, slot, processor - ring - 1);
+    Stand { server, left: slot }
+}
