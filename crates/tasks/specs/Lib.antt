@@ -1,5 +1,6 @@
 pub mod Set
 pub mod Rows
 pub mod File
+pub mod Shape
 pub mod Read
 pub mod Write

@@ -1,0 +1,68 @@
+-- Laws of the first task for which a test holds: at a task it holds, fails, or the tasks end.
+use Prim.Native.Nat.{ℕ, zero, suc, _+_, _≤_, _<_}
+use native.Mathlib.Omega.{arith}
+use native.Mathlib.Numerals.{add-one}
+use native.Mathlib.Nat.{min-eq-left}
+use mathlib.Core.List.{List, [], _∷_}
+use mathlib.Core.Bool.{Bool, true, false}
+use mathlib.Core.Path.{_≡_, refl, sym, _∙_, ap}
+use lib.ListN.{length, take, drop, getD, drop-of-length-le, length-take}
+use lib.Seq.{drop-cons, getD-take, length-take-le}
+use Rattle.tasks.specs.declared.set.Task.{Task}
+use Rattle.tasks.specs.declared.set.TaskSet.{TaskSet}
+use Rattle.frames.specs.Digit.{pick}
+use Rattle.frames.specs.declared.refusal.Refusal.{Refusal}
+use Rattle.frames.specs.declared.refusal.Refusal.the-variants.{Board, Range}
+use Rattle.frames.specs.declared.refusal.Outcome.the-variants.{Done, Refused}
+use Rattle.tasks.specs.Rows.{firstFrom, firstTask, atTask, boardRow, rangeRow, figuresOutcome}
+use Rattle.tasks.specs.Set.{members}
+
+module _ (p : Task → Bool) where
+  -- the test holds at a task
+  pub first-here : (ts : List Task) (i k : ℕ) (z : Task) → i < length ts → p (getD ts i z) ≡ true → firstFrom p k (drop i ts) ≡ k
+  unfolding firstFrom
+  first-here ts i k z lt e = rw (drop-cons ts i z lt, e)
+
+  -- it fails, and the next is tried
+  pub first-more : (ts : List Task) (i k : ℕ) (z : Task) → i < length ts → p (getD ts i z) ≡ false → firstFrom p k (drop i ts) ≡ firstFrom p (k + 1) (drop (i + 1) ts)
+  unfolding firstFrom
+  first-more ts i k z lt e = rw (add-one i, add-one k, drop-cons ts i z lt, e)
+
+  -- no task is left
+  pub first-end : (ts : List Task) (i k : ℕ) → length ts ≤ i → firstFrom p k (drop i ts) ≡ 0
+  unfolding firstFrom
+  first-end ts i k le = rw (drop-of-length-le ts le)
+
+  -- the first is one of them, or 0
+  pub first-within : (k : ℕ) (ts : List Task) → firstFrom p k ts ≤ k + length ts
+  unfolding firstFrom
+  first-within k [] = omega arith
+  first-within k (t ∷ ts) = picked (p t) (first-within (suc k) ts)
+    where
+      picked : (b : Bool) → firstFrom p (suc k) ts ≤ suc k + length ts → pick b k (firstFrom p (suc k) ts) ≤ k + suc (length ts)
+      picked true h = omega arith
+      picked false h = omega arith
+
+-- a refusal at the first task
+pub at-none : (r : ℕ → Refusal) (n : ℕ) → n ≡ 0 → atTask r n ≡ Done
+at-none r n e = rw e
+
+pub at-some : (r : ℕ → Refusal) (n : ℕ) → (n ≡ 0 → ⊥) → atTask r n ≡ Refused (r n)
+at-some r zero ne = absurd (ne refl)
+at-some r (suc n) ne = refl
+
+-- a set's members where its count fits its room
+pub members-length : (set : TaskSet) → set .count ≤ length (set .tasks) → length (members set) ≡ set .count
+members-length set fits = length-take-le (set .count) (set .tasks) fits
+
+pub member-at : (set : TaskSet) (i : ℕ) (z : Task) → i < set .count → getD (members set) i z ≡ getD (set .tasks) i z
+member-at set i z lt = getD-take (set .count) (set .tasks) i z lt
+
+-- rows 5 and 6 where row 5 holds, and where it does not
+pub figures-board : (set : TaskSet) → boardRow (set .header) ≡ true → figuresOutcome set ≡ Refused Board
+unfolding figuresOutcome
+figures-board set e = rw e
+
+pub figures-tasks : (set : TaskSet) → boardRow (set .header) ≡ false → figuresOutcome set ≡ atTask Range (firstTask rangeRow (members set))
+unfolding figuresOutcome
+figures-tasks set e = rw e
