@@ -7,7 +7,7 @@ use native.Mathlib.Nat.{add-zero, add-assoc}
 use native.Mathlib.Numerals.{add-one}
 use native.Mathlib.Omega.{arith}
 use lib.ListN.{length, take, drop, getD, set, length-append, length-take, length-drop, take-append-drop}
-use lib.Seq.{take-set-le, drop-set-lt, drop-cons, getD-set-same, lt-length-set, length-take-le, take-append-add, take-at, drop-at, drop-append-add, drop-drop, set-split}
+use lib.Seq.{take-set-le, drop-set-lt, drop-cons, getD-set-same, lt-length-set, length-take-le, take-append-add, take-at, drop-at, drop-append-add, drop-drop, set-split, take-suc}
 use Rattle.frames.specs.Line.{stored}
 
 -- nothing stored changes nothing
@@ -69,3 +69,27 @@ stored-set b at x v h =
 pub set-stored : (b : List ℕ) (at v : ℕ) → at < length b → set b at v ≡ stored b at (v ∷ [])
 unfolding stored
 set-stored b at v h = set-split b at v h ∙ ap (λ (n : ℕ). take at b ++ (v ∷ drop n b)) (sym (add-one at))
+
+-- a byte set right behind a stored text makes it longer by that byte
+pub stored-byte : (b : List ℕ) (at : ℕ) (x : List ℕ) (v : ℕ) → at + length x < length b → set (stored b at x) (at + length x) v ≡ stored b at (x ++ (v ∷ []))
+stored-byte b at x v h =
+    set-stored (stored b at x) (at + length x) v (omega (arith, stored-length b at x (omega arith)))
+    ∙ stored-stored b at x (v ∷ []) (omega arith)
+
+-- the bytes of a list stored one by one
+pub stored-next : (b : List ℕ) (at : ℕ) (s : List ℕ) (i : ℕ) → at + length s ≤ length b → i < length s → set (stored b at (take i s)) (at + i) (getD s i 0) ≡ stored b at (take (i + 1) s)
+stored-next b at s i h k =
+    ap (λ (n : ℕ). set (stored b at (take i s)) (at + n) (getD s i 0)) (sym front)
+    ∙ stored-byte b at (take i s) (getD s i 0) (omega (arith, front))
+    ∙ ap (stored b at) (sym (take-suc s i 0 k))
+    ∙ ap (λ (n : ℕ). stored b at (take n s)) (sym (add-one i))
+  where
+    front : length (take i s) ≡ i
+    front = length-take-le i s (omega arith)
+
+-- three texts stored one behind the other
+pub stored-three : (b : List ℕ) (at : ℕ) (x y z : List ℕ) (m n : ℕ) → m ≡ at + length x → n ≡ at + length x + length y → at + length x + length y + length z ≤ length b → stored (stored (stored b at x) m y) n z ≡ stored b at (x ++ (y ++ z))
+stored-three b at x y z m n p q h =
+    ap₂ (λ (j k : ℕ). stored (stored (stored b at x) j y) k z) p q
+    ∙ stored-stored (stored b at x) (at + length x) y z (omega (arith, stored-length b at x (omega arith)))
+    ∙ stored-stored b at x (y ++ z) (omega (arith, length-append y z))

@@ -1,1 +1,108 @@
 // Lines of a frame, read from and written to a place in a text.
+// A line is its kind, its fields at the table's widths, and one LF.
+use crate::number::all_legal;
+use crate::number::number_at;
+use crate::number::put_number;
+use crate::table::Frame;
+use crate::table::WHOLE;
+use crate::table::length;
+use crate::table::place;
+use crate::table::row_of;
+use crate::table::width;
+ghost use mathlib.Core.Path.{_≡_};
+ghost use mathlib.Core.Bool.{true};
+ghost use Prim.Native.Nat.{_+_, _<_, _≤_};
+ghost use lib.ListN.{length as count, take, drop};
+ghost use Rattle.frames.specs.Table.{lengthOf, widthsOf, sum, markOf, kindOf};
+ghost use Rattle.frames.specs.Line.{formed, fieldOf, fields, lineOf, stored, same};
+
+// Whether the text at `at` starts with the frame's kind.
+fn is_kind(text: &[u8], at: usize, frame: Frame) -> bool
+    requires { ⌜ at + 2 ≤ count (now text) ⌝ }
+    ensures { λ r. ⌜ r ≡ same (take 2 (drop at (now (text .entry)))) (kindOf frame) ⌝ }
+{
+    let row = row_of(frame);
+    let kind = row.kind;
+    let next = at + 1;
+    text[at] == kind[0] && text[next] == kind[1]
+}
+
+// Whether the text from `at` on starts with a line of the frame.
+pub fn is_line(text: &[u8], at: usize, frame: Frame) -> bool
+    requires { ⌜ at ≤ count (now text) ⌝ }
+    ensures { λ r. ⌜ r ≡ formed frame (drop at (now (text .entry))) ⌝ }
+{
+    let n = length(frame);
+    if text.len() - at <= n {
+        return false;
+    }
+    let end = at + n;
+    if text[end] != b'\n' {
+        return false;
+    }
+    if !is_kind(text, at, frame) {
+        return false;
+    }
+    all_legal(text, at, n)
+}
+
+// The value of a field of the line at `at`.
+pub fn field(text: &[u8], at: usize, frame: Frame, field: usize) -> u64
+    requires { ⌜ at ≤ count (now text) ⌝ }
+    requires { ⌜ formed frame (drop at (now text)) ≡ true ⌝ }
+    requires { ⌜ field < 7 ⌝ }
+    ensures { λ r. ⌜ r ≡ fieldOf frame field (drop at (now (text .entry))) ⌝ }
+{
+    let start = at + place(frame, field);
+    number_at(text, start, width(frame, field))
+}
+
+// Copies a byte string into the buffer.
+pub fn put_bytes(out: &mut [u8], at: usize, bytes: &[u8])
+    requires { ⌜ at + count (now bytes) ≤ count (now out) ⌝ }
+    ensures { λ r. ⌜ now (out .exit) ≡ stored (now (out .entry)) at (now (bytes .entry)) ⌝ }
+{
+    let mut i = 0;
+    while i < bytes.len() {
+        let j = at + i;
+        out[j] = bytes[i];
+        i += 1;
+    }
+}
+
+// Writes the mark of a whole processor.
+pub fn put_mark(out: &mut [u8], at: usize)
+    requires { ⌜ at + 8 ≤ count (now out) ⌝ }
+    ensures { λ r. ⌜ now (out .exit) ≡ stored (now (out .entry)) at markOf ⌝ }
+{
+    let mark = WHOLE;
+    put_bytes(out, at, &mark);
+}
+
+// Writes the fields of a line, one after the other.
+fn put_fields(out: &mut [u8], at: usize, frame: Frame, values: [u64; 7])
+    requires { ⌜ at + sum (widthsOf frame) ≤ count (now out) ⌝ }
+    ensures { λ r. ⌜ now (out .exit) ≡ stored (now (out .entry)) at (fields (widthsOf frame) values) ⌝ }
+{
+    let mut start = at;
+    let mut i = 0;
+    while i < 7 {
+        let digits = width(frame, i);
+        put_number(out, start, digits, values[i]);
+        start += digits;
+        i += 1;
+    }
+}
+
+// Writes a line with its LF.
+pub fn put_line(out: &mut [u8], at: usize, frame: Frame, values: [u64; 7])
+    requires { ⌜ at + lengthOf frame + 1 ≤ count (now out) ⌝ }
+    ensures { λ r. ⌜ now (out .exit) ≡ stored (now (out .entry)) at (lineOf frame values) ⌝ }
+{
+    let row = row_of(frame);
+    let kind = row.kind;
+    put_bytes(out, at, &kind);
+    put_fields(out, at + 2, frame, values);
+    let end = at + length(frame);
+    put_bytes(out, end, b"\n");
+}

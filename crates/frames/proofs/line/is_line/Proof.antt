@@ -1,0 +1,68 @@
+-- `frames::line::is_line` meets its contract: each refusal says why the text is not formed, and at the end only its digits are left to test.
+-- Assumes nothing.
+use mathlib.Core.Path.{_≡_, sym, _∙_}
+use borrow.Author.Tests.{not-true, not-false}
+use Rattle.frames.proofs.Lines.{not-long, not-ended, not-kind, rest-legal}
+use borrow.Author.Needs.{needs}
+use Rattle.frames.proofs.line.is_line.Statement.{statement}
+use Rattle.frames.proofs.line.is_line.Tie as tie
+
+length-requires : tie.Need-length-requires
+length-requires c κs = search needs
+
+sub-if1 : tie.Need-sub-if1
+sub-if1 c = search needs
+
+returns : tie.Need-returns
+returns c =
+    let a = c .before .before .before .args in
+    sym (not-long (a .frame) (a .text .now) (a .at) _ (c .before .length .ensures) (c .if1 .taken))
+
+add-end : tie.Need-add-end
+add-end c = search needs
+
+shared-slice-read-if2 : tie.Need-shared-slice-read-if2
+shared-slice-read-if2 c = search needs
+
+returns-2 : tie.Need-returns-2
+returns-2 c =
+    let a = c .before .before .before .before .before .args in
+    sym (not-ended (a .frame) (a .text .now) (a .at) _ (c .before .before .before .length .ensures) (c .if2 .taken))
+
+is-kind-requires : tie.Need-is-kind-requires
+is-kind-requires c κs = search needs
+
+returns-3 : tie.Need-returns-3
+returns-3 c =
+    let a = c .before .before .before .before .before .before .before .args in
+    sym
+    (not-kind (a .frame) (a .text .now) (a .at) _ (c .before .before .before .before .before .length .ensures)
+    (sym (c .before .is-kind .ensures) ∙ not-true _ (c .if3 .taken)))
+
+all-legal-requires : tie.Need-all-legal-requires
+all-legal-requires c κs = search needs
+
+returns-4 : tie.Need-returns-4
+returns-4 c =
+    let a = c .before .before .before .before .before .before .before .before .args in
+    c .all-legal .ensures
+    ∙ sym
+    (rest-legal (a .frame) (a .text .now) (a .at) _ (c .before .before .before .before .before .before .length .ensures)
+    (c .before .before .before .before .before .if1 .left)
+    (c .before .before .before .if2 .left)
+    (sym (c .before .before .is-kind .ensures) ∙ not-false _ (c .before .if3 .left)))
+
+pub is-line-spec : {M : Type 1} → statement M
+is-line-spec =
+    tie.close
+    (tie.spec
+    length-requires
+    sub-if1
+    returns
+    add-end
+    shared-slice-read-if2
+    returns-2
+    is-kind-requires
+    returns-3
+    all-legal-requires
+    returns-4)

@@ -1,0 +1,98 @@
+-- `frames::line::put_fields` meets its contract: the fields written so far are stored, one behind the other.
+-- Assumes nothing.
+use Prim.Native.Nat.{ℕ, suc, _+_, _-_, _≤_}
+use mathlib.Core.Path.{_≡_, refl, sym, _∙_, ap, ap₂}
+use mathlib.Core.List.{List}
+use native.Mathlib.Omega.{arith}
+use lib.ListN.{length, take, getD}
+use lib.Seq.{take-all}
+use Rattle.frames.specs.Table.{sum, widthsOf}
+use Rattle.frames.specs.Line.{stored, fields}
+use Rattle.frames.specs.Number.{hex}
+use Rattle.frames.proofs.Lines.{start-next, start-within, fields-next}
+use Rattle.frames.proofs.Stored.{stored-nil}
+use Rattle.frames.proofs.Tables.{fields-seven}
+use Rattle.frames.proofs.line.put_fields.Statement.{statement}
+use Rattle.frames.proofs.line.put_fields.Tie as tie
+
+abbrev Inv-loop : tie.InvT-loop
+Inv-loop out₀ at frame values start₀ i₀ out start i =
+    (i ≤ 7) × (start ≡ at + sum (take i (widthsOf frame))) × (length out ≡ length out₀) × (out ≡ stored out₀ at (fields (take i (widthsOf frame)) values))
+
+abbrev μ-loop : tie.MeasureT-loop
+μ-loop out₀ at frame values start₀ i₀ out start i = 7 - i
+
+loop-holds : tie.Need-loop-holds Inv-loop μ-loop
+unfolding sum fields
+loop-holds c = (omega arith, omega arith, refl, sym (stored-nil _ _))
+
+width-requires : tie.Need-width-requires Inv-loop μ-loop
+width-requires c κs = omega arith
+
+mul-put-number : tie.Need-mul-put-number Inv-loop μ-loop
+mul-put-number c = omega arith
+
+array-read-put-number : tie.Need-array-read-put-number Inv-loop μ-loop
+array-read-put-number c = omega arith
+
+put-number-requires : tie.Need-put-number-requires Inv-loop μ-loop
+put-number-requires c κs =
+    let a = c .before .before .before .before .before .args in
+    let l = c .before .before .before .loop in
+    omega (arith, start-within (a .out .now) (a .at) (widthsOf (a .frame)) (a .t4) (l .i) (l .start) (c .before .width .result) (l .inv .1) (c .before .width .ensures), l .inv .2, c .before .before .before .before .before .pre)
+
+add-start : tie.Need-add-start Inv-loop μ-loop
+add-start c =
+    let a = c .before .before .before .before .before .before .before .before .args in
+    let l = c .before .before .before .before .before .before .loop in
+    let w = c .before .before .before .before .width in
+    omega (arith, start-within (a .out .now) (a .at) (widthsOf (a .frame)) (a .t4) (l .i) (l .start) (w .result) (l .inv .1) (w .ensures), c .before .before .before .before .before .before .before .before .pre, c .before .before .before .before .before .before .before .before .good)
+
+add-i : tie.Need-add-i Inv-loop μ-loop
+add-i c = omega arith
+
+loop-less : tie.Need-loop-less Inv-loop μ-loop
+loop-less c = omega arith
+
+loop-again : tie.Need-loop-again Inv-loop μ-loop
+loop-again c =
+    let s = c .before .before .before .before .before .before .before .before in
+    let a = s .args in
+    let l = c .before .before .before .before .before .before .loop in
+    let w = c .before .before .before .before .width in
+    let written = c .before .before .put-number in (
+      omega arith,
+      start-next (a .out .now) (a .at) (widthsOf (a .frame)) (a .t4) (l .i) (l .start) (w .result) (l .inv .1) (w .ensures),
+      written .kept .0 ∙ l .inv .2,
+      written .ensures
+          ∙ ap (λ (o : List ℕ). stored o (l .start) (hex (w .result) (getD (a .t4) (l .i) 0))) (l .inv .3)
+          ∙ fields-next (a .out .now) (a .at) (widthsOf (a .frame)) (a .t4) (l .i) (l .start) (w .result) (l .inv .1) (w .ensures) (s .pre),
+    )
+
+same-length : tie.Need-same-length Inv-loop μ-loop
+same-length c = c .before .loop .inv .2
+
+returns : tie.Need-returns Inv-loop μ-loop
+returns c =
+    let a = c .before .before .before .args in
+    let l = c .before .loop in
+    l .inv .3
+    ∙ ap (λ (ws : List ℕ). stored (a .out .now) (a .at) (fields ws (a .t4))) (take-all (l .i) (widthsOf (a .frame)) (omega (arith, fields-seven (a .frame))))
+
+pub put-fields-spec : {M : Type 1} → statement M
+put-fields-spec =
+    tie.close
+    (tie.spec
+    Inv-loop
+    μ-loop
+    loop-holds
+    width-requires
+    mul-put-number
+    array-read-put-number
+    put-number-requires
+    add-start
+    add-i
+    loop-less
+    loop-again
+    same-length
+    returns)
