@@ -1,2 +1,4 @@
 pub mod Bools
 pub mod Firsts
+pub mod Carried
+pub mod Some
