@@ -64,9 +64,10 @@ loop-again : tie.Need-loop-again Inv-loop μ-loop
 loop-again c =
     let at = c .before .before in
     let set = at .before .args .t1 in
-    let t = getD (set .tasks) (at .before .args .i) zeroTask in
-    (omega arith,
-    at .loop .inv .1 ∙ some-left (sameId t) (set .tasks) (set .count) (at .loop .j) zeroTask false (fits (at .before)) (c .before .loop-test .taken) (ne-eqb _ _ (c .if1 .left)))
+    let t = getD (set .tasks) (at .before .args .i) zeroTask in (
+      omega arith,
+      at .loop .inv .1 ∙ some-left (sameId t) (set .tasks) (set .count) (at .loop .j) zeroTask false (fits (at .before)) (c .before .loop-test .taken) (ne-eqb _ _ (c .if1 .left)),
+    )
 
 returns-2 : tie.Need-returns-2 Inv-loop μ-loop
 returns-2 c =

@@ -51,9 +51,10 @@ loop-less c = omega arith
 loop-again : tie.Need-loop-again Inv-loop μ-loop
 loop-again c =
     let at = c .before .before .before .before in
-    let set = at .before .args .t1 in
-    (omega arith,
-    at .loop .inv .1 ∙ some-left taskOverflows (set .tasks) (set .count) (at .loop .i) zeroTask false (fits (at .before)) (c .before .before .before .loop-test .taken) (sym (c .before .task-overflows .ensures) ∙ c .if1 .left))
+    let set = at .before .args .t1 in (
+      omega arith,
+      at .loop .inv .1 ∙ some-left taskOverflows (set .tasks) (set .count) (at .loop .i) zeroTask false (fits (at .before)) (c .before .before .before .loop-test .taken) (sym (c .before .task-overflows .ensures) ∙ c .if1 .left),
+    )
 
 returns-2 : tie.Need-returns-2 Inv-loop μ-loop
 returns-2 c =
