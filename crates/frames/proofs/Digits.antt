@@ -1,39 +1,16 @@
 -- Laws of the sixteen digits: which bytes are legal, and that value and digit undo one another.
 -- Assumes nothing.
 use Prim.Native.Nat.{ℕ, _+_, _-_, _≤_, _<_}
-use mathlib.Core.Path.{_≡_, refl, sym, _∙_, ap}
+use mathlib.Core.Path.{_≡_, refl, _∙_, ap}
 use mathlib.Core.Bool.{Bool, true, false}
 use mathlib.Core.List.{List, [], _∷_, _++_}
 use mathlib.Core.Logic.{_⊎_, inl, inr, ⊎-elim}
 use native.Mathlib.Omega.{arith}
-use lib.Dec.{leb, ltb, eqb}
-use lib.ListN.{length, take, drop, getD, take-append-drop}
-use borrow.Author.Tests.{leb-true, leb-false, le-leb, lt-leb, lt-ltb, le-ltb, ltb-true, ltb-false, ne-eqb}
-use Rattle.frames.specs.Digit.{both, either, pick, legal, valueOf, digitOf, allLegal}
-
--- two tests that both pass, taken apart and put together
-pub both-left : (a b : Bool) → both a b ≡ true → a ≡ true
-both-left true b p = refl
-both-left false b p = p
-
-pub both-right : (a b : Bool) → both a b ≡ true → b ≡ true
-both-right true b p = p
-both-right false b p = cc
-
-pub both-true : {a b : Bool} → a ≡ true → b ≡ true → both a b ≡ true
-both-true p q = rw (p, q)
-
-pub either-true : (a b : Bool) → either a b ≡ true → (a ≡ true) ⊎ (b ≡ true)
-either-true true b p = inl refl
-either-true false b p = inr p
-
--- one number is below the other, or it is not
-pub below-or-not : (a b : ℕ) → (a < b) ⊎ (b ≤ a)
-below-or-not a b = go (ltb a b) refl
-  where
-    go : (t : Bool) → ltb a b ≡ t → (a < b) ⊎ (b ≤ a)
-    go true e = inl (ltb-true a b e)
-    go false e = inr (ltb-false a b e)
+use lib.Dec.{leb, eqb}
+use lib.ListN.{take, drop, take-append-drop}
+use borrow.Author.Tests.{leb-true, le-leb, lt-leb, lt-ltb, le-ltb, ne-eqb}
+use Rattle.frames.specs.Digit.{both, either, legal, valueOf, digitOf, allLegal}
+use Rattle.frames.proofs.Tests.{both-left, both-right, both-true, either-true, below-or-not}
 
 -- the legal bytes
 pub legal-range : (b : ℕ) → legal b ≡ true → ((48 ≤ b) × (b ≤ 57)) ⊎ ((65 ≤ b) × (b ≤ 70))

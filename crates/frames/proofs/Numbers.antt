@@ -2,9 +2,9 @@
 -- Assumes nothing.
 use Prim.Native.Nat.{ℕ, zero, suc, _+_, _-_, _*_, _/_, _%_, _^_, _≤_, _<_}
 use mathlib.Core.Path.{_≡_, refl, sym, _∙_, ap, ap₂, subst}
-use mathlib.Core.Bool.{Bool, true, false}
+use mathlib.Core.Bool.{true, false}
 use mathlib.Core.List.{List, [], _∷_, _++_}
-use native.Mathlib.Nat.{add-zero, sub-zero, pow-suc, pow-succ', mod-lt, div-add-mod', div-lt-iff-lt-mul, div-div-eq-div-mul, div-one, one-le-pow, add-mul, mul-assoc, pow-le-pow-right}
+use native.Mathlib.Nat.{add-zero, sub-zero, pow-suc, pow-succ', mod-lt, div-add-mod', div-lt-iff-lt-mul, div-div-eq-div-mul, div-one, add-mul, mul-assoc, pow-le-pow-right}
 use native.Mathlib.Numerals.{add-one}
 use native.Mathlib.Omega.{arith}
 use lib.Arith.{digits-lt, digits-div, digits-mod}

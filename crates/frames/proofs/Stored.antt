@@ -1,13 +1,13 @@
 -- Laws of a text stored in a buffer: its length, nothing stored, one byte more, and one text after another.
 -- Assumes nothing.
-use Prim.Native.Nat.{ℕ, suc, _+_, _-_, _≤_, _<_}
-use mathlib.Core.Path.{_≡_, refl, sym, _∙_, ap, ap₂}
-use mathlib.Core.List.{List, [], _∷_, _++_, append-assoc, append-nil}
+use Prim.Native.Nat.{ℕ, suc, _+_, _≤_, _<_}
+use mathlib.Core.Path.{_≡_, sym, _∙_, ap, ap₂}
+use mathlib.Core.List.{List, [], _∷_, _++_, append-assoc}
 use native.Mathlib.Nat.{add-zero, add-assoc}
 use native.Mathlib.Numerals.{add-one}
 use native.Mathlib.Omega.{arith}
-use lib.ListN.{length, take, drop, getD, set, length-append, length-take, length-drop, take-append-drop}
-use lib.Seq.{take-set-le, drop-set-lt, drop-cons, getD-set-same, lt-length-set, length-take-le, take-append-add, take-at, drop-at, drop-append-add, drop-drop, set-split, take-suc}
+use lib.ListN.{length, take, drop, getD, set, length-append, length-drop, take-append-drop}
+use lib.Seq.{take-set-le, drop-set-lt, drop-cons, getD-set-same, lt-length-set, length-take-le, take-at, drop-append-add, drop-drop, set-split, take-suc}
 use Rattle.frames.specs.Line.{stored}
 
 -- nothing stored changes nothing

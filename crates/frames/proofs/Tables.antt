@@ -1,8 +1,8 @@
 -- Laws of the table of frames: the line lengths, and what the filled rows have at each field.
 -- Assumes nothing.
-use Prim.Native.Nat.{ℕ, zero, suc, _+_, _-_, _≤_, _<_}
-use mathlib.Core.Path.{_≡_, refl, sym, _∙_, ap}
-use mathlib.Core.Bool.{Bool, true, false}
+use Prim.Native.Nat.{ℕ, zero, suc, _+_, _≤_, _<_}
+use mathlib.Core.Path.{_≡_, refl, _∙_, ap}
+use mathlib.Core.Bool.{Bool, true}
 use mathlib.Core.List.{List, [], _∷_, _++_, map}
 use native.Mathlib.Numerals.{add-one}
 use native.Mathlib.Omega.{arith}
@@ -13,9 +13,9 @@ use borrow.Author.Tests.{leb-true}
 use Rattle.frames.specs.declared.table.Row.{Row}
 use Rattle.frames.specs.declared.table.Frame.{Frame}
 use Rattle.frames.specs.declared.table.Frame.the-variants.{Header, Task, Plan, Server, Placed, Processor, Refused}
-use Rattle.frames.specs.Digit.{both, allLegal, legal}
+use Rattle.frames.specs.Digit.{both, legal, allLegal}
 use Rattle.frames.specs.Table.{kindOf, widthsOf, sum, widthOf, placeOf, lengthOf, rowOf, indexOf}
-use Rattle.frames.proofs.Digits.{both-left, both-right}
+use Rattle.frames.proofs.Tests.{both-left, both-right}
 
 -- every frame, in the table's order
 abbrev pub frames : List Frame
@@ -132,3 +132,34 @@ index-seven Refused = lit≤ tt
 pub place-next : (frame : Frame) (field : ℕ) → placeOf frame (field + 1) ≡ placeOf frame field + widthOf frame field
 place-next frame field =
     ap (λ (n : ℕ). placeOf frame n) (add-one field) ∙ omega (arith, sum-take (widthsOf frame) field)
+
+-- a kind is two legal digits
+pub kind-length : (frame : Frame) → length (kindOf frame) ≡ 2
+unfolding kindOf
+kind-length Header = refl
+kind-length Task = refl
+kind-length Plan = refl
+kind-length Server = refl
+kind-length Placed = refl
+kind-length Processor = refl
+kind-length Refused = refl
+
+pub kind-legal : (frame : Frame) → allLegal (kindOf frame) ≡ true
+unfolding kindOf allLegal legal
+kind-legal Header = refl
+kind-legal Task = refl
+kind-legal Plan = refl
+kind-legal Server = refl
+kind-legal Placed = refl
+kind-legal Processor = refl
+kind-legal Refused = refl
+
+pub kind-two : (frame : Frame) → kindOf frame ≡ getD (kindOf frame) 0 0 ∷ getD (kindOf frame) 1 0 ∷ []
+unfolding kindOf
+kind-two Header = refl
+kind-two Task = refl
+kind-two Plan = refl
+kind-two Server = refl
+kind-two Placed = refl
+kind-two Processor = refl
+kind-two Refused = refl

@@ -1,9 +1,9 @@
 -- A line: when the text from a line's start holds a frame's line, its fields, and the text of a frame's line.
 -- Document 01, "Lines of hexadecimal" and row 1 of the refusals.
-use Prim.Native.Nat.{ℕ, zero, suc, _+_}
+use Prim.Native.Nat.{ℕ, _+_}
 use mathlib.Core.List.{List, [], _∷_, _++_}
 use mathlib.Core.Bool.{Bool, true, false}
-use lib.ListN.{length, getD, take, drop}
+use lib.ListN.{length, take, drop}
 use lib.Dec.{eqb}
 use Rattle.frames.specs.declared.table.Frame.{Frame}
 use Rattle.frames.specs.Digit.{both, either, allLegal}

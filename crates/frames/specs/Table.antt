@@ -1,6 +1,6 @@
 -- The table of frames: each kind with its field widths in digits, and the lengths that follow.
 -- Document 01, "Lines of hexadecimal".
-use Prim.Native.Nat.{ℕ, zero, suc, _+_}
+use Prim.Native.Nat.{ℕ, _+_}
 use mathlib.Core.List.{List, [], _∷_, _++_}
 use lib.ListN.{getD, take, replicate}
 use Rattle.frames.specs.declared.table.Row.{Row}

@@ -1,10 +1,10 @@
 -- `frames::line::field` meets its contract: a formed line has each field's digits at its place.
 -- Assumes nothing.
-use mathlib.Core.Path.{_≡_, refl, sym, _∙_, ap}
+use mathlib.Core.Path.{refl, _∙_}
 use native.Mathlib.Omega.{arith}
 use Rattle.frames.specs.Table.{widthOf}
 use Rattle.frames.proofs.Tables.{width-eight}
-use Rattle.frames.proofs.Lines.{field-at-legal, field-at-within, field-at-number}
+use Rattle.frames.proofs.Places.{field-at-legal, field-at-within, field-at-number}
 use borrow.Author.Needs.{needs}
 use Rattle.frames.proofs.line.field.Statement.{statement}
 use Rattle.frames.proofs.line.field.Tie as tie

@@ -1,9 +1,9 @@
 -- `frames::line::is_kind` meets its contract: a kind compared byte by byte.
 -- Assumes nothing.
-use mathlib.Core.Path.{_≡_, sym, _∙_, ap}
+use mathlib.Core.Path.{sym, ap}
 use Rattle.frames.specs.declared.table.Row.{Row}
 use Rattle.frames.specs.Table.{rowOf}
-use Rattle.frames.proofs.Lines.{kind-first, kind-second}
+use Rattle.frames.proofs.Places.{kind-first, kind-second}
 use borrow.Author.Needs.{needs}
 use Rattle.frames.proofs.line.is_kind.Statement.{statement}
 use Rattle.frames.proofs.line.is_kind.Tie as tie

@@ -1,8 +1,11 @@
 -- `frames::line::is_line` meets its contract: each refusal says why the text is not formed, and at the end only its digits are left to test.
 -- Assumes nothing.
-use mathlib.Core.Path.{_≡_, sym, _∙_}
+use Prim.Native.Nat.{_-_, _≤_, _<_}
+use mathlib.Core.Path.{sym, _∙_}
+use native.Mathlib.Omega.{arith}
+use lib.ListN.{length}
 use borrow.Author.Tests.{not-true, not-false}
-use Rattle.frames.proofs.Lines.{not-long, not-ended, not-kind, rest-legal}
+use Rattle.frames.proofs.Places.{not-long, not-ended, not-kind, rest-legal}
 use borrow.Author.Needs.{needs}
 use Rattle.frames.proofs.line.is_line.Statement.{statement}
 use Rattle.frames.proofs.line.is_line.Tie as tie
@@ -16,7 +19,8 @@ sub-if1 c = search needs
 returns : tie.Need-returns
 returns c =
     let a = c .before .before .before .args in
-    sym (not-long (a .frame) (a .text .now) (a .at) _ (c .before .length .ensures) (c .if1 .taken))
+    let short : length (a .text .now) - a .at ≤ c .before .length .result = omega (arith, c .if1 .taken) in
+    sym (not-long (a .frame) (a .text .now) (a .at) _ (c .before .length .ensures) short)
 
 add-end : tie.Need-add-end
 add-end c = search needs
@@ -45,10 +49,12 @@ all-legal-requires c κs = search needs
 returns-4 : tie.Need-returns-4
 returns-4 c =
     let a = c .before .before .before .before .before .before .before .before .args in
+    let size = c .before .before .before .before .before .before .length in
+    let long : size .result < length (a .text .now) - a .at = omega (arith, c .before .before .before .before .before .if1 .left) in
     c .all-legal .ensures
     ∙ sym
-    (rest-legal (a .frame) (a .text .now) (a .at) _ (c .before .before .before .before .before .before .length .ensures)
-    (c .before .before .before .before .before .if1 .left)
+    (rest-legal (a .frame) (a .text .now) (a .at) _ (size .ensures)
+    long
     (c .before .before .before .if2 .left)
     (sym (c .before .before .is-kind .ensures) ∙ not-false _ (c .before .if3 .left)))
 

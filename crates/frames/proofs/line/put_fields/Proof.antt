@@ -1,7 +1,7 @@
 -- `frames::line::put_fields` meets its contract: the fields written so far are stored, one behind the other.
 -- Assumes nothing.
-use Prim.Native.Nat.{ℕ, suc, _+_, _-_, _≤_}
-use mathlib.Core.Path.{_≡_, refl, sym, _∙_, ap, ap₂}
+use Prim.Native.Nat.{ℕ, _+_, _-_, _≤_}
+use mathlib.Core.Path.{_≡_, refl, sym, _∙_, ap}
 use mathlib.Core.List.{List}
 use native.Mathlib.Omega.{arith}
 use lib.ListN.{length, take, getD}
@@ -9,7 +9,7 @@ use lib.Seq.{take-all}
 use Rattle.frames.specs.Table.{sum, widthsOf}
 use Rattle.frames.specs.Line.{stored, fields}
 use Rattle.frames.specs.Number.{hex}
-use Rattle.frames.proofs.Lines.{start-next, start-within, fields-next}
+use Rattle.frames.proofs.Fields.{start-next, start-within, fields-next}
 use Rattle.frames.proofs.Stored.{stored-nil}
 use Rattle.frames.proofs.Tables.{fields-seven}
 use Rattle.frames.proofs.line.put_fields.Statement.{statement}

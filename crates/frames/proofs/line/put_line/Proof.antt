@@ -1,14 +1,15 @@
 -- `frames::line::put_line` meets its contract: the kind, the fields and the LF, stored one behind the other, are the line.
 -- Assumes nothing.
 use Prim.Native.Nat.{ℕ, _+_}
-use mathlib.Core.Path.{_≡_, _∙_, ap}
+use mathlib.Core.Path.{_∙_, ap}
 use mathlib.Core.List.{List, [], _∷_}
 use native.Mathlib.Omega.{arith}
 use lib.ListN.{length}
 use Rattle.frames.specs.declared.table.Row.{Row}
 use Rattle.frames.specs.Table.{rowOf, widthsOf}
 use Rattle.frames.specs.Line.{fields, stored}
-use Rattle.frames.proofs.Lines.{kind-length, line-stored}
+use Rattle.frames.proofs.Tables.{kind-length}
+use Rattle.frames.proofs.Lines.{line-stored}
 use borrow.Author.Needs.{needs}
 use Rattle.frames.proofs.line.put_line.Statement.{statement}
 use Rattle.frames.proofs.line.put_line.Tie as tie

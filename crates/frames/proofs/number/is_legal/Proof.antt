@@ -1,6 +1,6 @@
 -- `frames::number::is_legal` meets its contract: the test of a byte by its two cases.
 -- Assumes nothing.
-use mathlib.Core.Path.{_≡_, sym, _∙_}
+use mathlib.Core.Path.{sym}
 use borrow.Author.Tests.{le-leb, lt-leb}
 use Rattle.frames.proofs.Digits.{legal-to-nine, legal-past-nine}
 use Rattle.frames.proofs.number.is_legal.Statement.{statement}

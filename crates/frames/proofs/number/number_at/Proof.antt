@@ -1,13 +1,12 @@
 -- `frames::number::number_at` meets its contract: the number so far, with the digits left, stands for the whole number.
 -- Assumes nothing.
-use Prim.Native.Nat.{ℕ, _+_, _-_, _*_, _^_, _≤_, _<_}
-use mathlib.Core.Path.{_≡_, refl, sym, _∙_, ap}
+use Prim.Native.Nat.{_+_, _-_, _*_, _^_, _≤_, _<_}
+use mathlib.Core.Path.{_≡_, sym, _∙_, ap}
 use mathlib.Core.Bool.{true}
 use native.Mathlib.Omega.{arith}
 use lib.Dec.{lit<}
-use lib.ListN.{length, take, drop, getD}
-use borrow.Author.Needs.{needs}
-use Rattle.frames.specs.Digit.{allLegal, valueOf}
+use lib.ListN.{take, drop}
+use Rattle.frames.specs.Digit.{allLegal}
 use Rattle.frames.specs.Number.{numberFrom, number}
 use Rattle.frames.proofs.Digits.{value-below}
 use Rattle.frames.proofs.Numbers.{part-start, part-end, part-legal, part-rest, part-number, grows, power-fits}

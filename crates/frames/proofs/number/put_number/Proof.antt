@@ -1,12 +1,10 @@
 -- `frames::number::put_number` meets its contract: the digits set so far, with the rest yet to be stored, are the whole number stored.
 -- Assumes nothing.
-use Prim.Native.Nat.{ℕ, suc, _+_, _-_, _/_, _%_, _≤_}
+use Prim.Native.Nat.{ℕ, suc, _+_, _-_, _/_, _≤_}
 use mathlib.Core.Path.{_≡_, refl, sym, _∙_, ap}
-use native.Mathlib.Nat.{mod-lt}
 use native.Mathlib.Omega.{arith}
 use lib.ListN.{length, set, length-set}
 use borrow.Author.Needs.{needs}
-use Rattle.frames.specs.Digit.{digitOf}
 use Rattle.frames.specs.Number.{hex}
 use Rattle.frames.specs.Line.{stored}
 use Rattle.frames.proofs.Numbers.{digit-stored}

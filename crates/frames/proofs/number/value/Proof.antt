@@ -1,7 +1,6 @@
 -- `frames::number::value` meets its contract: the value of a legal digit by its two cases.
 -- Assumes nothing.
 use mathlib.Core.Path.{sym}
-use native.Mathlib.Omega.{arith}
 use borrow.Author.Needs.{needs}
 use Rattle.frames.proofs.Digits.{legal-low, value-figure, value-letter}
 use Rattle.frames.proofs.number.value.Statement.{statement}

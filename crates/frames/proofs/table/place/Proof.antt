@@ -1,11 +1,9 @@
 -- `frames::table::place` meets its contract: the widths passed so far sum up to the place.
 -- Assumes nothing.
-use Prim.Native.Nat.{ℕ, suc, _+_, _-_, _≤_}
-use mathlib.Core.Path.{_≡_, refl, sym, _∙_, ap}
-use native.Mathlib.Numerals.{add-one}
+use Prim.Native.Nat.{_-_, _≤_}
+use mathlib.Core.Path.{_≡_, refl, _∙_, ap}
 use native.Mathlib.Omega.{arith}
-use lib.ListN.{take}
-use Rattle.frames.specs.Table.{sum, widthsOf, placeOf}
+use Rattle.frames.specs.Table.{sum, placeOf}
 use Rattle.frames.proofs.Tables.{place-next, place-within, length-thirty}
 use Rattle.frames.proofs.table.place.Statement.{statement}
 use Rattle.frames.proofs.table.place.Tie as tie

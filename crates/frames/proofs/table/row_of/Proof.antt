@@ -1,6 +1,6 @@
 -- `frames::table::row_of` meets its contract: the constant table is the list of the frames' rows.
 -- Assumes nothing.
-use mathlib.Core.Path.{_≡_, refl}
+use mathlib.Core.Path.{refl}
 use native.Mathlib.Omega.{arith}
 use borrow.Author.Needs.{needs}
 use Rattle.frames.specs.Table.{kindOf, widthsOf, rowOf}

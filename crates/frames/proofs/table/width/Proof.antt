@@ -1,6 +1,6 @@
 -- `frames::table::width` meets its contract: the filled row has each field's width.
 -- Assumes nothing.
-use mathlib.Core.Path.{_≡_, sym, _∙_, ap}
+use mathlib.Core.Path.{_∙_, ap}
 use lib.ListN.{getD}
 use borrow.Author.Needs.{needs}
 use Rattle.frames.specs.declared.table.Row.{Row}
