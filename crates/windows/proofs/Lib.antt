@@ -1,0 +1,5 @@
+pub mod Since
+pub mod Counting
+pub mod Worst
+pub mod Failing
+pub mod Covers
