@@ -1,4 +1,5 @@
 -- Laws of lines: a written line is formed and its fields are read back, and a formed text is the line of its own fields.
+-- The laws of a formed text are passed on from here, so that a caller finds the laws of lines in one place.
 -- Assumes nothing.
 use Prim.Native.Nat.{ℕ, zero, suc, _+_, _^_, _≤_, _<_}
 use mathlib.Core.Path.{_≡_, refl, sym, _∙_, ap, ap₂}
@@ -17,7 +18,7 @@ use Rattle.frames.proofs.Stored.{stored-three}
 use Rattle.frames.proofs.Numbers.{number-hex}
 use Rattle.frames.proofs.Tables.{fields-seven, kind-length, kind-legal}
 use Rattle.frames.proofs.Cuts.{line-cut, after-cut}
-use Rattle.frames.proofs.Formed.{formed-size, formed-kind, formed-legal, formed-text, made-formed}
+pub use Rattle.frames.proofs.Formed.{formed-text, formed-size, formed-kind, formed-legal, formed-length, formed-line, formed-end, formed-after, formed-field, field-below, made-formed, formed-is, formed-prefix, formed-kinds, header-not-task, task-not-header}
 use Rattle.frames.proofs.Fields.{fields-length, fields-legal, fields-part, fields-again}
 
 -- a written line: its digits, its LF, and what follows
