@@ -6,13 +6,13 @@ use mathlib.Core.Path.{_≡_, refl, sym, ap, _∙_, fun-ext}
 use mathlib.Core.Logic.{_⊎_, ⊎-elim}
 use mathlib.Core.Bool.{Bool, true, false}
 use mathlib.Core.List.{List}
-use lib.Dec.{ltb, eqb, lit<}
+use lib.Dec.{ltb, eqb}
 use borrow.Author.Tests.{eq-eqb, ne-eqb}
 use Rattle.demand.specs.Load.{Load, Loaded, loadsOf}
 use Rattle.demand.specs.Demand.{demand}
 use Rattle.demand.specs.Supply.{Ring, Allowed, gap, supplyPast, supply}
 use Rattle.demand.proofs.Supply.{supply-gap, gap-below}
-use Rattle.verdict.specs.Search.{short, lastUpTo, firstUpTo, Last, Searched}
+use Rattle.verdict.specs.Search.{short, lastUpTo, firstUpTo, Last}
 use Rattle.verdict.specs.Verdict.{failing, firstFailing, passing, verdictOf, Horizon, Testable}
 use Rattle.verdict.specs.Claims.{Asked}
 use Rattle.verdict.specs.declared.answer.Verdict.the-variants.{Yes, No}
@@ -28,10 +28,9 @@ short-failing ls S L R f t some e = rw (supply-gap S L R t some, e, add-zero)
 pub allowed-within : {S L R : ℕ} → Allowed S L R → R ≤ S
 allowed-within {S} {L} {R} a = ⊎-elim (λ (r : Ring S L R). omega (arith, r .parts)) (λ (e : R ≡ S). omega arith) a
 
--- the numbers under which a test searches up to its horizon
-pub searched-of : (ls : List Load) (S L R H f : ℕ) → Testable ls S L H → Allowed S L R → f ≡ gap S L R → Searched S f 0 H
-searched-of ls S L R H f t a e =
-    record { usable = omega (arith, e, gap-below S L R a (t .slot-some)); small-extra = lit< tt; small = t .horizon-small }
+-- an allowed reserve leaves something usable in each slot
+pub usable-of : (S L R f : ℕ) → 1 ≤ S → Allowed S L R → f ≡ gap S L R → f < S
+usable-of S L R f some a e = omega (arith, e, gap-below S L R a some)
 
 pub asked-of : {costs deadlines periods : List ℕ} {n S L H : ℕ} → Loaded costs deadlines periods n → Testable (loadsOf costs deadlines periods n) S L H → Asked (loadsOf costs deadlines periods n) S
 asked-of l t = record { sound = l .sound; slot = t .slot-some }

@@ -15,7 +15,7 @@ use Rattle.demand.specs.Passes.{Passes}
 use Rattle.verdict.specs.Search.{firstUpTo, orElse, NoneIn, First}
 use Rattle.verdict.specs.Verdict.{passing}
 use Rattle.verdict.specs.Reserve.{enough, smallestReserve, Smallest}
-use Rattle.verdict.specs.Claims.{Asked, ReserveMeans, ReserveOne}
+use Rattle.verdict.specs.Claims.{Asked, ReserveMeans, ReserveOne, OneLess}
 use Rattle.verdict.proofs.Bounded.{none-has, none-less, none-join, first-none, first-is, first-view}
 use Rattle.verdict.proofs.Verdict.{passing-means, passing-stays, passes-passing}
 
@@ -93,6 +93,17 @@ reserve-means ls S L asked whole =
 pub reserve-one : ReserveOne
 reserve-one ls S L R R′ a b =
     le-antisymm (a .least R′ (b .allowed) (b .passes)) (b .least R (a .allowed) (a .passes))
+
+pub one-less : OneLess
+one-less ls S L R some r a p =
+    ⊎-elim
+    (λ (ring : Ring S L R). absurd (omega (arith, ring .enters, r .least (R - 1) a p)))
+    (λ (e : R ≡ S). absurd (omega (arith, r .least (R - 1) a p)))
+    (r .allowed)
+
+-- the same from a server that is passing on a whole processor, as placement leaves it
+pub reserve-of : (ls : List Load) (S L : ℕ) → Asked ls S → passing ls S L S ≡ true → Smallest ls S L (smallestReserve ls S L)
+reserve-of ls S L asked e = reserve-means ls S L asked (passing-means ls S L S asked .0 e)
 
 -- what holds at each turn of the halving: none up to lo is enough; hi is, or it is the slot
 pub record Sized (ls : List Load) (S L lo hi : ℕ) : Type 0 where

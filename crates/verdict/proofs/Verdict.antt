@@ -12,7 +12,7 @@ use Rattle.demand.specs.Demand.{demand}
 use Rattle.demand.specs.Supply.{Allowed, supply}
 use Rattle.demand.specs.Passes.{Passes}
 use Rattle.demand.proofs.Horizon.{loads-decide}
-use Rattle.demand.proofs.Reserve.{never-turns}
+use Rattle.demand.proofs.Reserve.{never-turns, alone-passes}
 use Rattle.wholes.specs.Multiple.{leastMultipleOf, Divide, AllPositive}
 use Rattle.wholes.proofs.MultipleLaws.{multiple-of-pos, others-divide-of}
 use Rattle.verdict.specs.Search.{lastUpTo, firstUpTo, NoneIn, First}
@@ -197,3 +197,8 @@ verdict-means ls S L R a = (
 pub passing-stays : PassingStays
 passing-stays ls S L R R′ a allowed allowed′ le e =
     passes-passing ls S L R′ a (never-turns ls S L R R′ allowed allowed′ le (passing-means ls S L R a .0 e))
+
+-- a sound load alone is passing on a whole processor
+pub alone-passing : (l : Load) (S L : ℕ) → Sound l → 1 ≤ S → passing (l ∷ []) S L S ≡ true
+alone-passing l S L sound some =
+    passes-passing (l ∷ []) S L S (record { sound = (sound, tt); slot = some }) (alone-passes l S L sound)

@@ -1,5 +1,5 @@
 -- What is claimed of the definitions of this crate, each claim under its own name. The proofs are in proofs/.
-use Prim.Native.Nat.{ℕ, _≤_, _<_}
+use Prim.Native.Nat.{ℕ, _-_, _≤_, _<_}
 use mathlib.Core.Path.{_≡_}
 use mathlib.Core.Logic.{_↔_}
 use mathlib.Core.Bool.{Bool, true, false}
@@ -73,3 +73,7 @@ ReserveMeans =
 -- there is no other
 abbrev pub ReserveOne : Type 0
 ReserveOne = (ls : List Load) (S L R R′ : ℕ) → Smallest ls S L R → Smallest ls S L R′ → R ≡ R′
+
+-- one tick less is not allowed, or the server does not pass with it
+abbrev pub OneLess : Type 0
+OneLess = (ls : List Load) (S L R : ℕ) → 1 ≤ S → Smallest ls S L R → Allowed S L (R - 1) → Passes ls S L (R - 1) → ⊥

@@ -4,9 +4,9 @@ ghost use mathlib.Core.Path.{_≡_};
 ghost use Rattle.demand.specs.Load.{Loaded, loadsOf};
 ghost use Rattle.verdict.specs.Search.{Searched, lastUpTo, firstUpTo, short};
 
-// From hi down. Where the demand w at t is covered, every length whose supply reaches w is covered too, up to t: the search goes
-// on at the last length whose supply is w - 1. Demand there is below w unless that length is the answer, so each turn but the
-// last stands past another step of the demand: never more turns than there are steps up to hi, plus one.
+// From hi down. Where the demand w at t is covered, so is every length up to t whose supply reaches w: the search goes on at
+// the last length whose supply is w - 1. Either that length is short, or its demand is below w, so that a step lies between
+// the two. With no extra there are thus never more turns than steps up to hi, plus one.
 pub fn last_short<'a>(
     costs: &'a [u64],
     deadlines: &'a [u64],

@@ -1,7 +1,7 @@
 -- `passes` meets its contract: no short length up to the horizon is what passing means. Assumes nothing.
 use native.Mathlib.Omega.{arith}
 use Rattle.demand.specs.Load.{loadsOf}
-use Rattle.verdict.proofs.Judged.{allowed-within, searched-of, asked-of, last-passing}
+use Rattle.verdict.proofs.Judged.{allowed-within, usable-of, asked-of, last-passing}
 use Rattle.verdict.proofs.judge.passes.Statement.{statement}
 use Rattle.verdict.proofs.judge.passes.Tie as tie
 
@@ -13,8 +13,14 @@ gap-of-requires c κs =
 last-short-requires : tie.Need-last-short-requires
 last-short-requires c κs =
     let s = c .before .before .before .before in
-    let a = s .args in
-    (s .pre .0, searched-of (loadsOf (a .costs .now) (a .deadlines .now) (a .periods .now) (a .n)) (a .slot) (a .loss) (a .reserve) (a .horizon) (c .gap-of .result) (s .pre .1 .0) (s .pre .1 .1) (c .gap-of .ensures))
+    let a = s .args in (
+      s .pre .0,
+      record {
+        usable = usable-of (a .slot) (a .loss) (a .reserve) (c .gap-of .result) (s .pre .1 .0 .slot-some) (s .pre .1 .1) (c .gap-of .ensures);
+        small-extra = omega arith;
+        small = omega (arith, s .pre .1 .0 .horizon-small);
+      },
+    )
 
 returns : tie.Need-returns
 returns c =

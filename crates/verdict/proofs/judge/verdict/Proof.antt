@@ -1,9 +1,9 @@
 -- `verdict` meets its contract: the smallest short length up to the horizon is the smallest failing length. Assumes nothing.
 use native.Mathlib.Omega.{arith}
+use native.Mathlib.Nat.{le-of-lt}
 use Rattle.demand.specs.Load.{loadsOf}
-use Rattle.demand.proofs.Supply.{gap-below}
 use Rattle.verdict.specs.Search.{short}
-use Rattle.verdict.proofs.Judged.{allowed-within, searched-of, asked-of, first-within, judged-yes, judged-no}
+use Rattle.verdict.proofs.Judged.{allowed-within, usable-of, asked-of, first-within, judged-yes, judged-no}
 use Rattle.verdict.proofs.judge.verdict.Statement.{statement}
 use Rattle.verdict.proofs.judge.verdict.Tie as tie
 
@@ -15,8 +15,14 @@ gap-of-requires c κs =
 first-short-requires : tie.Need-first-short-requires
 first-short-requires c κs =
     let s = c .before .before .before .before in
-    let a = s .args in
-    (s .pre .0, searched-of (loadsOf (a .costs .now) (a .deadlines .now) (a .periods .now) (a .n)) (a .slot) (a .loss) (a .reserve) (a .horizon) (c .gap-of .result) (s .pre .1 .0) (s .pre .1 .1) (c .gap-of .ensures))
+    let a = s .args in (
+      s .pre .0,
+      record {
+        usable = usable-of (a .slot) (a .loss) (a .reserve) (c .gap-of .result) (s .pre .1 .0 .slot-some) (s .pre .1 .1) (c .gap-of .ensures);
+        small-extra = omega arith;
+        small = omega (arith, s .pre .1 .0 .horizon-small);
+      },
+    )
 
 returns : tie.Need-returns
 returns c =
@@ -37,7 +43,7 @@ supply-at-requires c κs =
     let s = c .before .before .before .before .before .before .before in
     let a = s .args in (
       s .pre .1 .0 .slot-some,
-      omega (arith, c .before .before .before .gap-of .ensures, gap-below (a .slot) (a .loss) (a .reserve) (s .pre .1 .1) (s .pre .1 .0 .slot-some)),
+      le-of-lt (usable-of (a .slot) (a .loss) (a .reserve) (c .before .before .before .gap-of .result) (s .pre .1 .0 .slot-some) (s .pre .1 .1) (c .before .before .before .gap-of .ensures)),
     )
 
 returns-2 : tie.Need-returns-2
