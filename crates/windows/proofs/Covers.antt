@@ -1,7 +1,7 @@
 -- The finite test and the rota say the same: a passing reserve covers the demand in every window, a failing one falls short in some.
 -- Assumes nothing.
 use Prim.Native.Nat.{ℕ, zero, suc, _+_, _-_, _≤_, _<_}
-use mathlib.Core.Path.{_≡_, refl}
+use mathlib.Core.Path.{_≡_, refl, sym}
 use mathlib.Core.List.{List, _∷_}
 use mathlib.Core.Logic.{inl, ⊎-elim}
 use native.Mathlib.Nat.{le-trans, le-of-eq}
@@ -14,7 +14,7 @@ use Rattle.demand.proofs.Demand.{demand-zero}
 use Rattle.demand.proofs.Supply.{supply-all, supply-part}
 use Rattle.demand.proofs.Reserve.{loss-never-passes}
 use Rattle.windows.specs.Window.{Covered, CoveredFromZero, FallsShort}
-use Rattle.windows.specs.Claims.{TestIsRota, FromZero, PassingCovers, WholeCovers, FailingFallsShort, RefusedFallsShort, SmallerFallsShort}
+use Rattle.windows.specs.Claims.{TestIsRota, PassesIsCovered, FromZero, PassingCovers, WholeCovers, FailingFallsShort, RefusedFallsShort, SmallerFallsShort}
 use Rattle.windows.proofs.Worst.{supply-is-worst}
 use Rattle.windows.proofs.Failing.{fails-somewhere}
 
@@ -47,11 +47,16 @@ at-every : (ls : List Load) (s : ℕ → ℕ) → Every Sound ls → ((t : ℕ) 
 at-every ls s e passes zero = omega (arith, demand-zero ls e)
 at-every ls s e passes (suc t) = passes (suc t) (omega arith)
 
+pub passes-is-covered : PassesIsCovered
+passes-is-covered ls S L R start e h g = (
+  λ passes.
+      test-is-rota ls S L R start h g .1
+      (λ t. le-trans (at-every ls (supply S L R) e passes t) (le-of-eq (below-supply S L R t g))),
+  λ covered t p. le-trans (to-supply ls S L R start h g covered t) (le-of-eq (sym (below-supply S L R t g))),
+)
+
 pub passing-covers : PassingCovers
-passing-covers ls S L R start e h r passes =
-    let g : R < S = omega arith in
-    test-is-rota ls S L R start h g .1
-    (λ t. le-trans (at-every ls (supply S L R) e passes t) (le-of-eq (below-supply S L R t g)))
+passing-covers ls S L R start e h r = passes-is-covered ls S L R start e h (omega arith) .0
 
 pub whole-covers : WholeCovers
 whole-covers ls S L e passes t = le-trans (at-every ls (supply S L S) e passes t) (le-of-eq (supply-all S L S t refl))

@@ -1,19 +1,24 @@
 -- What is claimed of windows: the finite test and the printed rota say the same.
--- The note's demand 3, for any reserve that stands once a slot.
+-- The note's demand 3, for any reserve that stands once a slot. Since, Counting, Worst and Covers of proofs/ prove them.
 use Prim.Native.Nat.{ℕ, _+_, _-_, _%_, _≤_, _<_}
 use mathlib.Core.Path.{_≡_}
 use mathlib.Core.Logic.{_↔_}
+use mathlib.Core.Bool.{true}
 use mathlib.Core.List.{List, _∷_}
 use Rattle.demand.specs.Load.{Load, Sound, Every}
 use Rattle.demand.specs.Demand.{demand}
 use Rattle.demand.specs.Supply.{Ring, Allowed, supplyPast}
 use Rattle.demand.specs.Passes.{Passes}
-use Rattle.windows.specs.Window.{since, usableIn, Covered, CoveredFromZero, FallsShort}
+use Rattle.windows.specs.Window.{since, usableAt, usableIn, Covered, CoveredFromZero, FallsShort}
 
 -- `since` is (x − start) mod S: below S, and start and it together agree with x modulo S
 pub record SinceIsRight : Type 0 where
   pub below : (S start x : ℕ) → 1 ≤ S → since S start x < S
   pub reaches : (S start x : ℕ) → 1 ≤ S → (since S start x + start) % S ≡ x % S
+
+-- a tick is usable exactly when at least L positions of the reserve have passed and the reserve has not ended
+abbrev pub UsableMeans : Type 0
+UsableMeans = (S L R start x : ℕ) → (usableAt S L R start x ≡ true) ↔ ((L ≤ since S start x) × (since S start x < R))
 
 -- with R ≤ L no tick of a reserve is usable
 abbrev pub LossLeavesNone : Type 0
@@ -38,6 +43,11 @@ abbrev pub TestIsRota : Type 0
 TestIsRota =
     (ls : List Load) (S L R start : ℕ) → 1 ≤ S → R < S →
     Covered ls S L R start ↔ ((t : ℕ) → demand ls t ≤ supplyPast S (S - R + L) t)
+
+-- in the words of the verdict: a reserve below S passes exactly when it covers, from any start
+abbrev pub PassesIsCovered : Type 0
+PassesIsCovered =
+    (ls : List Load) (S L R start : ℕ) → Every Sound ls → 1 ≤ S → R < S → Passes ls S L R ↔ Covered ls S L R start
 
 -- "from the second slot on" is no restriction: what covers from there covers from tick 0 on
 abbrev pub FromZero : Type 0

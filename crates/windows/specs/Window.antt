@@ -7,7 +7,7 @@ use lib.Dec.{leb, ltb}
 use Rattle.demand.specs.Demand.{pick, demand}
 use Rattle.demand.specs.Load.{Load}
 
-abbrev pub both : Bool → Bool → Bool
+unfoldable pub both : Bool → Bool → Bool
 both true b = b
 both false b = false
 
