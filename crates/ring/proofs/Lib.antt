@@ -4,4 +4,10 @@ pub mod Starts
 pub mod CoverLaws
 pub mod StandLaws
 pub mod WholeLaws
+pub mod PhaseLaws
 pub mod WhoLaws
+pub mod ServeLaws
+pub mod BoardLaws
+pub mod HeldLaws
+pub mod FirstLaws
+pub mod Theorems

@@ -21,6 +21,10 @@ module _ (S : ℕ) (rs : List ℕ) (at : Position) where
   unfolding standAt
   stand-by q e = rw e
 
+  pub stand-server : standAt S rs at .server ≡ covererUpTo S rs at (length rs)
+  unfolding standAt
+  stand-server = refl
+
   -- where server j + 1 covers the position, it stands there to its reserve's end
   pub stand-covered : (j : ℕ) → Covers S rs (suc j) (at .0) →
       standAt S rs at ≡ record { server = suc j; left = startOf S rs (suc j) + reserveOf rs (suc j) - at .0 }

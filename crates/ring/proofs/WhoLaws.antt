@@ -4,7 +4,7 @@ use Prim.Native.Nat.{ℕ, suc, _+_, _*_, _-_, _%_, _≤_, _<_, _^_}
 use mathlib.Core.Path.{_≡_, refl, sym, ap, _∙_}
 use mathlib.Core.List.{List}
 use mathlib.Core.Bool.{Bool}
-use native.Mathlib.Nat.{le-trans, one-le-mul, mod-lt, mod-eq-of-lt, zero-add, mul-le-mul-right, le-of-eq}
+use native.Mathlib.Nat.{le-trans}
 use native.Mathlib.Omega.{arith}
 use borrow.Author.Tests.{le-leb, lt-leb}
 use lib.Dec.{leb}
@@ -18,21 +18,7 @@ use Rattle.ring.specs.Phase.{phase}
 use Rattle.ring.specs.Cover.{standAt}
 use Rattle.ring.specs.Who.{pickStand, wholeServer, whoOf, firstOf}
 use Rattle.ring.proofs.Starts.{length-room}
-
--- a position is on the ring
-pub phase-below : (S r p : ℕ) (x : Tick) → 1 ≤ S → 1 ≤ r → phase S r p x .0 < r * S
-unfolding phase
-phase-below S r p x h g = mod-lt (x .0 + (p - 1) * S) (one-le-mul g h)
-
--- at tick 0 processor p is at (p − 1)·S
-pub phase-first : (S r p : ℕ) → 1 ≤ S → 1 ≤ p → p ≤ r → phase S r p (record { 0 = 0 }) ≡ record { 0 = (p - 1) * S }
-unfolding phase
-phase-first S r p h g l = rw (zero-add ((p - 1) * S), mod-eq-of-lt below)
-  where
-    below : (p - 1) * S < r * S
-    below =
-        let e : (p - 1 + 1) * S ≤ r * S = mul-le-mul-right S (omega arith) in
-        omega arith
+use Rattle.ring.proofs.PhaseLaws.{phase-below, phase-first}
 
 module _ (S : ℕ) (rs : List ℕ) (p : ℕ) where
   abbrev r : ℕ

@@ -3,3 +3,6 @@ pub mod Reserves
 pub mod Phase
 pub mod Cover
 pub mod Who
+pub mod Serves
+pub mod Held
+pub mod Claims
