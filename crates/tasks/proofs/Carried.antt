@@ -51,3 +51,8 @@ count-within set p = (some-task, ltb-false mostTasks (set .count) (either-right 
 pub ask-rows : (set : TaskSet) {a b c d : Bool} → countRow set ≡ a → twiceRow (members set) ≡ b → headerOverflows (set .header) ≡ c → some taskOverflows (members set) ≡ d → askRow set ≡ either a (either b (either c d))
 unfolding askRow
 ask-rows set p q r t = rw (p, q, r, t)
+
+-- a set that row 11 lets pass breaks none of its parts
+pub ask-count : (set : TaskSet) → askRow set ≡ false → countRow set ≡ false
+unfolding askRow
+ask-count set p = either-left (countRow set) _ p

@@ -4,3 +4,4 @@ pub mod line;
 pub mod read;
 pub mod rows;
 pub mod set;
+pub mod write;
