@@ -12,7 +12,7 @@ use Rattle.demand.specs.Demand.{demand}
 use Rattle.demand.specs.Supply.{supplyPast}
 use Rattle.demand.proofs.Demand.{demand-mono}
 use Rattle.demand.proofs.Supply.{supply-mono}
-use Rattle.verdict.specs.Search.{short, lastUpTo, Searched, NoneIn, Last}
+use Rattle.verdict.specs.Search.{short, lastUpTo, NoneIn}
 use Rattle.verdict.proofs.Bounded.{none-join, last-none, last-is}
 use Rattle.verdict.proofs.Reach.{lastWith, past-last, supply-at-last}
 
@@ -33,49 +33,49 @@ pub record Descended (ls : List Load) (S f extra hi t s : ℕ) : Type 0 where
   pub supplied : s ≡ supplyPast S f t
   pub none : NoneIn (short ls S f extra) t hi
 
-module _ (ls : List Load) (S f extra hi : ℕ) (sound : Every Sound ls) (searched : Searched S f extra hi) where
-  top : (t x : ℕ) → x ≤ t → demand ls x + extra ≤ demand ls t + extra
-  top t x h = omega (arith, demand-mono ls sound h)
+module _ {ls : List Load} {S f extra hi : ℕ} where
+  pub descent-starts : {s : ℕ} → s ≡ supplyPast S f hi → Descended ls S f extra hi hi s
+  descent-starts e = record { within = omega arith; supplied = e; none = λ x a b. absurd (omega arith) }
 
-  pub descent-starts : (s : ℕ) → s ≡ supplyPast S f hi → Descended ls S f extra hi hi s
-  descent-starts s e = record { within = omega arith; supplied = e; none = λ x a b. absurd (omega arith) }
+  pub descent-ends : {t s : ℕ} → Descended ls S f extra hi t s → t ≡ 0 → 0 ≡ lastUpTo (short ls S f extra) hi
+  descent-ends d e = sym (last-none (short ls S f extra) hi (rw e at (d .none)))
 
-  pub descent-finds : (t s : ℕ) → Descended ls S f extra hi t s → 0 < t → s < demand ls t + extra → t ≡ lastUpTo (short ls S f extra) hi
-  descent-finds t s d h falls = sym (last-is (short ls S f extra) hi t found)
-    where
-      is-short : short ls S f extra t ≡ true
-      is-short = unfold short in lt-ltb (supplyPast S f t) (demand ls t + extra) (omega (arith, d .supplied))
-
-      found : Last (short ls S f extra) hi t
-      found = record { there = h; within = d .within; has = is-short; after = d .none }
-
-  pub descent-ends : (t s : ℕ) → Descended ls S f extra hi t s → t ≡ 0 → 0 ≡ lastUpTo (short ls S f extra) hi
-  descent-ends t s d e = sym (last-none (short ls S f extra) hi (rw e at (d .none)))
-
-  pub descent-clears : (t s : ℕ) → Descended ls S f extra hi t s → demand ls t + extra ≡ 0 → 0 ≡ lastUpTo (short ls S f extra) hi
+  pub descent-finds : {t s : ℕ} → Descended ls S f extra hi t s → 0 < t → s < demand ls t + extra → t ≡ lastUpTo (short ls S f extra) hi
   unfolding short
-  descent-clears t s d e =
-      sym (last-none (short ls S f extra) hi (none-join (descend-zero (λ (x : ℕ). demand ls x + extra) S f t (top t) e) (d .none)))
+  descent-finds {t} d h falls =
+      let is-short : short ls S f extra t ≡ true = lt-ltb (supplyPast S f t) (demand ls t + extra) (omega (arith, d .supplied)) in
+      sym (last-is (short ls S f extra) hi t (record { there = h; within = d .within; has = is-short; after = d .none }))
 
   -- the jump goes below t
-  descent-falls : (t s v : ℕ) → Descended ls S f extra hi t s → v < s → lastWith S f v < t
-  descent-falls t s v d h = by (decLt (lastWith S f v) t)
+  descent-falls : {t s : ℕ} (v : ℕ) → f < S → Descended ls S f extra hi t s → v < s → lastWith S f v < t
+  descent-falls {t} v f<S d h = by (decLt (lastWith S f v) t)
     where
       by : Dec (lastWith S f v < t) → lastWith S f v < t
       by (yes g) = g
-      by (no g) = absurd (omega (arith, d .supplied, supply-at-last S f v (searched .usable), supply-mono S f {t = t} {u = lastWith S f v} (omega (arith, searched .usable)) (omega arith)))
+      by (no g) =
+          absurd (omega (arith, d .supplied, supply-at-last S f v f<S, supply-mono S f {t = t} {u = lastWith S f v} (omega arith) (omega arith)))
 
-  descent-jumps : (t s v : ℕ) → Descended ls S f extra hi t s → demand ls t + extra ≡ suc v → v < s → Descended ls S f extra hi (lastWith S f v) v
+-- demand never falls, with an extra neither
+top : (ls : List Load) (extra t : ℕ) → Every Sound ls → (x : ℕ) → x ≤ t → demand ls x + extra ≤ demand ls t + extra
+top ls extra t sound x h = omega (arith, demand-mono ls sound h)
+
+module _ {ls : List Load} {S f extra hi t s : ℕ} (sound : Every Sound ls) (d : Descended ls S f extra hi t s) where
+  pub descent-clears : demand ls t + extra ≡ 0 → 0 ≡ lastUpTo (short ls S f extra) hi
   unfolding short
-  descent-jumps t s v d e h =
+  descent-clears e =
+      sym (last-none (short ls S f extra) hi (none-join (descend-zero (λ (x : ℕ). demand ls x + extra) S f t (top ls extra t sound) e) (d .none)))
+
+  descent-jumps : (v : ℕ) → f < S → demand ls t + extra ≡ suc v → v < s → Descended ls S f extra hi (lastWith S f v) v
+  unfolding short
+  descent-jumps v f<S e h =
       record {
-        within = omega (arith, descent-falls t s v d h, d .within);
-        supplied = sym (supply-at-last S f v (searched .usable));
-        none = none-join (descend (λ (x : ℕ). demand ls x + extra) S f t v (searched .usable) (top t) e) (d .none);
+        within = omega (arith, descent-falls v f<S d h, d .within);
+        supplied = sym (supply-at-last S f v f<S);
+        none = none-join (descend (λ (x : ℕ). demand ls x + extra) S f t v f<S (top ls extra t sound) e) (d .none);
       }
 
   -- one turn, in the code's terms: w is the demand at t with the extra, and it is covered
-  pub descent-next : (t s w : ℕ) → Descended ls S f extra hi t s → w ≡ demand ls t + extra → (w ≡ 0 → ⊥) → w ≤ s
+  pub descent-next : (w : ℕ) → f < S → w ≡ demand ls t + extra → (w ≡ 0 → ⊥) → w ≤ s
       → Descended ls S f extra hi (lastWith S f (w - 1)) (w - 1) × (lastWith S f (w - 1) < t)
-  descent-next t s w d e some covered =
-      (descent-jumps t s (w - 1) d (omega arith) (omega arith), descent-falls t s (w - 1) d (omega arith))
+  descent-next w f<S e some covered =
+      (descent-jumps (w - 1) f<S (omega arith) (omega arith), descent-falls (w - 1) f<S d (omega arith))

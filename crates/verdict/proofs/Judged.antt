@@ -1,18 +1,18 @@
 -- From the searches, which go by a gap and any horizon, to the verdict, which goes by a reserve and the server's own horizon.
-use Prim.Native.Nat.{ℕ, zero, suc, _+_, _≤_, _<_}
+use Prim.Native.Nat.{ℕ, zero, suc, _+_, _^_, _≤_, _<_}
 use native.Mathlib.Omega.{arith}
 use native.Mathlib.Nat.{eq-zero-or-pos, add-zero}
 use mathlib.Core.Path.{_≡_, refl, sym, ap, _∙_, fun-ext}
 use mathlib.Core.Logic.{_⊎_, ⊎-elim}
 use mathlib.Core.Bool.{Bool, true, false}
 use mathlib.Core.List.{List}
-use lib.Dec.{ltb, eqb}
+use lib.Dec.{ltb, eqb, lit<}
 use borrow.Author.Tests.{eq-eqb, ne-eqb}
 use Rattle.demand.specs.Load.{Load, Loaded, loadsOf}
 use Rattle.demand.specs.Demand.{demand}
 use Rattle.demand.specs.Supply.{Ring, Allowed, gap, supplyPast, supply}
 use Rattle.demand.proofs.Supply.{supply-gap, gap-below}
-use Rattle.verdict.specs.Search.{short, lastUpTo, firstUpTo, Last}
+use Rattle.verdict.specs.Search.{short, lastUpTo, firstUpTo, Last, Searched}
 use Rattle.verdict.specs.Verdict.{failing, firstFailing, passing, verdictOf, Horizon, Testable}
 use Rattle.verdict.specs.Claims.{Asked}
 use Rattle.verdict.specs.declared.answer.Verdict.the-variants.{Yes, No}
@@ -28,23 +28,34 @@ short-failing ls S L R f t some e = rw (supply-gap S L R t some, e, add-zero)
 pub allowed-within : {S L R : ℕ} → Allowed S L R → R ≤ S
 allowed-within {S} {L} {R} a = ⊎-elim (λ (r : Ring S L R). omega (arith, r .parts)) (λ (e : R ≡ S). omega arith) a
 
--- an allowed reserve leaves something usable in each slot
-pub usable-of : (S L R f : ℕ) → 1 ≤ S → Allowed S L R → f ≡ gap S L R → f < S
-usable-of S L R f some a e = omega (arith, e, gap-below S L R a some)
+-- what a test knows of its numbers: R allowed, f its gap, H a horizon
+module _ {ls : List Load} {S L R H : ℕ} (testable : Testable ls S L H) (allowed : Allowed S L R) where
+  -- enough to ask for the gap
+  pub gap-asked : Allowed S L R × (S < 2 ^ 48) × (L < 2 ^ 48) × (R < 2 ^ 48)
+  gap-asked = (allowed, testable .slot-small, testable .loss-small, omega (arith, allowed-within allowed, testable .slot-small))
 
-pub asked-of : {costs deadlines periods : List ℕ} {n S L H : ℕ} → Loaded costs deadlines periods n → Testable (loadsOf costs deadlines periods n) S L H → Asked (loadsOf costs deadlines periods n) S
+  -- something is usable in each slot
+  pub gap-usable : {f : ℕ} → f ≡ gap S L R → f < S
+  gap-usable e = omega (arith, e, gap-below S L R allowed (testable .slot-some))
+
+  -- enough to search up to any length within the horizon
+  pub searched : {f K : ℕ} → f ≡ gap S L R → K ≤ H → Searched S f 0 K
+  searched e h = record { usable = gap-usable e; small-extra = lit< tt; small = omega (arith, testable .horizon-small) }
+
+pub asked-of : {costs deadlines periods : List ℕ} {n S L H : ℕ} → Loaded costs deadlines periods n
+    → Testable (loadsOf costs deadlines periods n) S L H → Asked (loadsOf costs deadlines periods n) S
 asked-of l t = record { sound = l .sound; slot = t .slot-some }
 
 -- f is the gap of the reserve, as the code has it
-module _ (ls : List Load) (S L R H f : ℕ) (asked : Asked ls S) (horizon : Horizon ls H) (gapped : f ≡ gap S L R) where
+module _ {ls : List Load} {S H f : ℕ} (L R : ℕ) (asked : Asked ls S) (horizon : Horizon ls H) (gapped : f ≡ gap S L R) where
   -- the smallest short length up to any horizon is the smallest failing length
   pub first-failing : firstUpTo (short ls S f 0) H ≡ firstFailing ls S L R
   first-failing =
       ap (λ (p : ℕ → Bool). firstUpTo p H) (fun-ext (λ t. short-failing ls S L R f t (asked .slot) gapped)) ∙ any-horizon ls S L R H asked horizon
 
   -- no short length up to a horizon is what passing means
-  pub last-passing : (r : ℕ) → r ≡ lastUpTo (short ls S f 0) H → eqb r 0 ≡ passing ls S L R
-  last-passing r e = ⊎-elim none some (eq-zero-or-pos r)
+  pub last-passing : {r : ℕ} → r ≡ lastUpTo (short ls S f 0) H → eqb r 0 ≡ passing ls S L R
+  last-passing {r} e = ⊎-elim none some (eq-zero-or-pos r)
     where
       none : r ≡ 0 → eqb r 0 ≡ passing ls S L R
       none z =
@@ -63,12 +74,12 @@ module _ (ls : List Load) (S L R H f : ℕ) (asked : Asked ls S) (horizon : Hori
       some h = ne-eqb r 0 (λ z. absurd (omega arith)) ∙ sym (passing-no ls S L R (found h))
 
   -- the answer where nothing is short, and at the smallest short length
-  pub judged-yes : (t : ℕ) → t ≡ firstUpTo (short ls S f 0) H → t ≡ 0 → Yes (record { length = 0; demand = 0; supply = 0 }) ≡ verdictOf ls S L R
-  judged-yes t e z = sym (verdict-yes ls S L R (sym first-failing ∙ sym e ∙ z))
+  pub judged-yes : {t : ℕ} → t ≡ firstUpTo (short ls S f 0) H → t ≡ 0 → Yes (record { length = 0; demand = 0; supply = 0 }) ≡ verdictOf ls S L R
+  judged-yes e z = sym (verdict-yes ls S L R (sym first-failing ∙ sym e ∙ z))
 
-  pub judged-no : (t w s : ℕ) → t ≡ firstUpTo (short ls S f 0) H → (t ≡ 0 → ⊥) → w ≡ demand ls t → s ≡ supplyPast S f t
+  pub judged-no : {t w s : ℕ} → t ≡ firstUpTo (short ls S f 0) H → (t ≡ 0 → ⊥) → w ≡ demand ls t → s ≡ supplyPast S f t
       → No (record { length = t; demand = w; supply = s }) ≡ verdictOf ls S L R
-  judged-no t w s e some w≡ s≡ =
+  judged-no {t} e some w≡ s≡ =
       rw (w≡, s≡, gapped, ← (supply-gap S L R t (asked .slot))) (sym (verdict-no ls S L R t (sym first-failing ∙ sym e) (omega arith)))
 
 -- what the smallest search finds lies within its bound

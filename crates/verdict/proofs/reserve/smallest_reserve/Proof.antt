@@ -1,9 +1,8 @@
 -- `smallest_reserve` meets its contract. The loop's invariant: no reserve up to `lo` is enough; `hi` is, or it is the slot.
 -- The measure is the distance between them. Assumes nothing.
 use Prim.Native.Nat.{ℕ, _+_, _-_, _/_, _≤_, _<_}
-use mathlib.Core.List.{List}
 use native.Mathlib.Omega.{arith}
-use Rattle.demand.specs.Load.{Load, loadsOf}
+use Rattle.demand.specs.Load.{loadsOf}
 use Rattle.verdict.proofs.Judged.{asked-of}
 use Rattle.verdict.proofs.Sizing.{Sized, sizing-starts, sizing-ring, sizing-down, sizing-up, sizing-ends}
 use Rattle.verdict.proofs.reserve.smallest_reserve.Statement.{statement}
@@ -15,14 +14,8 @@ Inv-loop costs deadlines periods n slot loss horizon lo₀ hi₀ lo hi = Sized (
 abbrev μ-loop : tie.MeasureT-loop
 μ-loop costs deadlines periods n slot loss horizon lo₀ hi₀ lo hi = hi - lo
 
--- the server's loads
-abbrev loads : tie.Start Inv-loop μ-loop → List Load
-loads s = loadsOf (s .args .costs .now) (s .args .deadlines .now) (s .args .periods .now) (s .args .n)
-
 loop-holds : tie.Need-loop-holds Inv-loop μ-loop
-loop-holds c =
-    let s = c .before .before .before in
-    sizing-starts (loads s) (s .args .slot) (s .args .loss) (asked-of (s .pre .0) (s .pre .1)) (s .pre .1 .loss-small)
+loop-holds c = sizing-starts (c .before .before .before .pre .1 .loss-small)
 
 add-loop : tie.Need-add-loop Inv-loop μ-loop
 add-loop c = omega arith
@@ -37,7 +30,7 @@ passes-requires : tie.Need-passes-requires Inv-loop μ-loop
 passes-requires c κs =
     let s = c .before .before .before .before .before in
     let l = c .before .loop in
-    (s .pre .0, (s .pre .1, sizing-ring (loads s) (s .args .slot) (s .args .loss) (asked-of (s .pre .0) (s .pre .1)) (l .lo) (l .hi) (l .lo + (l .hi - l .lo) / 2) (l .inv) (omega arith) (omega arith)))
+    (s .pre .0, (s .pre .1, sizing-ring (l .inv) (l .lo + (l .hi - l .lo) / 2) (omega arith) (omega arith)))
 
 loop-less : tie.Need-loop-less Inv-loop μ-loop
 loop-less c = omega arith
@@ -45,22 +38,19 @@ loop-less c = omega arith
 loop-again : tie.Need-loop-again Inv-loop μ-loop
 loop-again c =
     let l = c .before .before .before .loop in
-    let s = c .before .before .before .before .before .before .before in
-    sizing-down (loads s) (s .args .slot) (s .args .loss) (asked-of (s .pre .0) (s .pre .1)) (l .lo) (l .hi) (l .lo + (l .hi - l .lo) / 2) (c .before .passes .result) (l .inv) (omega arith) (omega arith) (c .before .passes .ensures) (c .if1 .taken)
+    sizing-down (l .inv) (l .lo + (l .hi - l .lo) / 2) (omega arith) (omega arith) (c .before .passes .ensures) (c .if1 .taken)
 
 loop-less-2 : tie.Need-loop-less-2 Inv-loop μ-loop
 loop-less-2 c = omega arith
 
 loop-again-2 : tie.Need-loop-again-2 Inv-loop μ-loop
 loop-again-2 c =
-    let l = c .before .before .before .loop in
     let s = c .before .before .before .before .before .before .before in
-    sizing-up (loads s) (s .args .slot) (s .args .loss) (asked-of (s .pre .0) (s .pre .1)) (l .lo) (l .hi) (l .lo + (l .hi - l .lo) / 2) (c .before .passes .result) (l .inv) (omega arith) (omega arith) (omega arith) (c .before .passes .ensures) (c .if1 .left)
+    let l = c .before .before .before .loop in
+    sizing-up (l .inv) (asked-of (s .pre .0) (s .pre .1)) (l .lo + (l .hi - l .lo) / 2) (omega arith) (omega arith) (omega arith) (c .before .passes .ensures) (c .if1 .left)
 
 returns : tie.Need-returns Inv-loop μ-loop
-returns c =
-    let s = c .before .before .before .before .before in
-    sizing-ends (loads s) (s .args .slot) (s .args .loss) (asked-of (s .pre .0) (s .pre .1)) (c .before .loop .lo) (c .before .loop .hi) (c .before .loop .inv) (c .loop-test .left)
+returns c = sizing-ends (c .before .loop .inv) (c .loop-test .left)
 
 pub smallest-reserve-spec : {M : Type 1} → statement M
 smallest-reserve-spec =

@@ -27,12 +27,10 @@ last-short-requires c κs = c .before .before .before .pre
 returns : tie.Need-returns Inv-loop μ-loop
 returns c =
     let s = c .before .before .before .before .before in
-    halving-none (sought s) (s .args .hi) (c .before .last-short .result) (c .before .last-short .ensures) (c .if1 .taken)
+    halving-none (sought s) (s .args .hi) (c .before .last-short .ensures) (c .if1 .taken)
 
 loop-holds : tie.Need-loop-holds Inv-loop μ-loop
-loop-holds c =
-    let s = c .before .before .before .before .before in
-    halving-starts (sought s) (s .args .hi) (c .before .last-short .result) (c .before .last-short .ensures) (c .if1 .left)
+loop-holds c = halving-starts (c .before .last-short .ensures) (c .if1 .left)
 
 add-loop : tie.Need-add-loop Inv-loop μ-loop
 add-loop c = omega arith
@@ -53,9 +51,8 @@ loop-less c = omega arith
 
 loop-again : tie.Need-loop-again Inv-loop μ-loop
 loop-again c =
-    let s = c .before .before .before .before .before .before .before .before .before in
     let l = c .before .before .before .loop in
-    halving-up (sought s) (s .args .hi) (l .lo) (l .top) (l .lo + (l .top - l .lo) / 2) (c .before .last-short2 .result) (l .inv) (c .before .last-short2 .ensures) (c .if2 .taken) (omega arith)
+    halving-up (l .inv) (l .lo + (l .top - l .lo) / 2) (c .before .last-short2 .result) (c .before .last-short2 .ensures) (omega arith) (c .if2 .taken)
 
 -- the turn that lowers the top
 lowered : (c : tie.Else2 Inv-loop μ-loop) →
@@ -63,9 +60,8 @@ lowered : (c : tie.Else2 Inv-loop μ-loop) →
     let l = c .before .before .before .loop in
     Halved (sought s) (s .args .hi) (l .lo) (c .before .last-short2 .result) × (c .before .last-short2 .result < l .top)
 lowered c =
-    let s = c .before .before .before .before .before .before .before .before .before in
     let l = c .before .before .before .loop in
-    halving-down (sought s) (s .args .hi) (l .lo) (l .top) (l .lo + (l .top - l .lo) / 2) (c .before .last-short2 .result) (l .inv) (c .before .last-short2 .ensures) (c .if2 .left) (omega arith)
+    halving-down (l .inv) (l .lo + (l .top - l .lo) / 2) (c .before .last-short2 .result) (c .before .last-short2 .ensures) (omega arith) (c .if2 .left)
 
 loop-less-2 : tie.Need-loop-less-2 Inv-loop μ-loop
 loop-less-2 c = omega (arith, lowered c .0 .below, lowered c .1)
@@ -74,9 +70,7 @@ loop-again-2 : tie.Need-loop-again-2 Inv-loop μ-loop
 loop-again-2 c = lowered c .0
 
 returns-2 : tie.Need-returns-2 Inv-loop μ-loop
-returns-2 c =
-    let s = c .before .before .before .before .before .before .before in
-    halving-ends (sought s) (s .args .hi) (c .before .loop .lo) (c .before .loop .top) (c .before .loop .inv) (c .loop-test .left)
+returns-2 c = halving-ends (c .before .loop .inv) (c .loop-test .left)
 
 pub first-short-spec : {M : Type 1} → statement M
 first-short-spec =

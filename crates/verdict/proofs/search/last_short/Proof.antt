@@ -4,7 +4,8 @@ use Prim.Native.Nat.{ℕ, _+_, _*_, _-_, _/_, _%_, _^_, _≤_, _<_}
 use mathlib.Core.Path.{_≡_, refl, sym, ap, _∙_}
 use native.Mathlib.Omega.{arith}
 use borrow.Author.Needs.{needs}
-use Rattle.demand.specs.Load.{loadsOf}
+use mathlib.Core.List.{List}
+use Rattle.demand.specs.Load.{Load, loadsOf}
 use Rattle.demand.proofs.Demand.{demand-room}
 use Rattle.verdict.proofs.Reach.{lastWith}
 use Rattle.verdict.proofs.Descent.{Descended, descent-starts, descent-finds, descent-ends, descent-clears, descent-next}
@@ -17,6 +18,10 @@ Inv-loop costs deadlines periods n slot gap extra hi usable t₀ supply₀ t sup
 abbrev μ-loop : tie.MeasureT-loop
 μ-loop costs deadlines periods n slot gap extra hi usable t₀ supply₀ t supply = t
 
+-- the server's loads
+abbrev loads : tie.Start Inv-loop μ-loop → List Load
+loads s = loadsOf (s .args .costs .now) (s .args .deadlines .now) (s .args .periods .now) (s .args .n)
+
 sub-usable : tie.Need-sub-usable Inv-loop μ-loop
 sub-usable c = omega arith
 
@@ -24,9 +29,7 @@ supply-at-requires : tie.Need-supply-at-requires Inv-loop μ-loop
 supply-at-requires c κs = omega arith
 
 loop-holds : tie.Need-loop-holds Inv-loop μ-loop
-loop-holds c =
-    let s = c .before .before .before .before in
-    descent-starts (loadsOf (s .args .costs .now) (s .args .deadlines .now) (s .args .periods .now) (s .args .n)) (s .args .slot) (s .args .gap) (s .args .extra) (s .args .hi) (s .pre .0 .sound) (s .pre .1) (c .supply-at .result) (c .supply-at .ensures)
+loop-holds c = descent-starts (c .supply-at .ensures)
 
 demand-at-requires : tie.Need-demand-at-requires Inv-loop μ-loop
 demand-at-requires c κs = search needs
@@ -34,17 +37,19 @@ demand-at-requires c κs = search needs
 add-w : tie.Need-add-w Inv-loop μ-loop
 add-w c =
     let s = c .before .before .before .before .before .before .before in
-    omega (arith, c .demand-at .ensures, demand-room (s .args .costs .now) (s .args .deadlines .now) (s .args .periods .now) (s .args .n) (s .args .n) (c .before .before .loop .t) (s .pre .0) (omega arith))
+    let a = s .args in
+    let room = demand-room (a .costs .now) (a .deadlines .now) (a .periods .now) (a .n) (a .n) (c .before .before .loop .t) (s .pre .0) (omega arith) in
+    omega (arith, c .demand-at .ensures, room)
 
 returns : tie.Need-returns Inv-loop μ-loop
 returns c =
-    let s = c .before .before .before .before .before .before .before .before in
-    descent-finds (loadsOf (s .args .costs .now) (s .args .deadlines .now) (s .args .periods .now) (s .args .n)) (s .args .slot) (s .args .gap) (s .args .extra) (s .args .hi) (s .pre .0 .sound) (s .pre .1) (c .before .before .before .loop .t) (c .before .before .before .loop .supply) (c .before .before .before .loop .inv) (c .before .before .loop-test .taken) (omega (arith, c .if1 .taken, c .before .demand-at .ensures))
+    let l = c .before .before .before .loop in
+    descent-finds (l .inv) (c .before .before .loop-test .taken) (omega (arith, c .if1 .taken, c .before .demand-at .ensures))
 
 returns-2 : tie.Need-returns-2 Inv-loop μ-loop
 returns-2 c =
     let s = c .before .before .before .before .before .before .before .before .before in
-    descent-clears (loadsOf (s .args .costs .now) (s .args .deadlines .now) (s .args .periods .now) (s .args .n)) (s .args .slot) (s .args .gap) (s .args .extra) (s .args .hi) (s .pre .0 .sound) (s .pre .1) (c .before .before .before .before .loop .t) (c .before .before .before .before .loop .supply) (c .before .before .before .before .loop .inv) (omega (arith, c .if2 .taken, c .before .before .demand-at .ensures))
+    descent-clears (s .pre .0 .sound) (c .before .before .before .before .loop .inv) (omega (arith, c .if2 .taken, c .before .before .demand-at .ensures))
 
 sub-supply : tie.Need-sub-supply Inv-loop μ-loop
 sub-supply c = omega arith
@@ -53,29 +58,36 @@ sub-supply c = omega arith
 next : (c : tie.Else2 Inv-loop μ-loop) →
     let s = c .before .before .before .before .before .before .before .before .before in
     let v = c .before .before .demand-at .result + s .args .extra - 1 in
-    Descended (loadsOf (s .args .costs .now) (s .args .deadlines .now) (s .args .periods .now) (s .args .n)) (s .args .slot) (s .args .gap) (s .args .extra) (s .args .hi) (lastWith (s .args .slot) (s .args .gap) v) v
+    Descended (loads s) (s .args .slot) (s .args .gap) (s .args .extra) (s .args .hi) (lastWith (s .args .slot) (s .args .gap) v) v
     × (lastWith (s .args .slot) (s .args .gap) v < c .before .before .before .before .loop .t)
 next c =
     let s = c .before .before .before .before .before .before .before .before .before in
-    descent-next (loadsOf (s .args .costs .now) (s .args .deadlines .now) (s .args .periods .now) (s .args .n)) (s .args .slot) (s .args .gap) (s .args .extra) (s .args .hi) (s .pre .0 .sound) (s .pre .1) (c .before .before .before .before .loop .t) (c .before .before .before .before .loop .supply) (c .before .before .demand-at .result + s .args .extra) (c .before .before .before .before .loop .inv) (omega (arith, c .before .before .demand-at .ensures)) (c .if2 .left) (c .before .if1 .left)
+    let w = c .before .before .demand-at in
+    descent-next (s .pre .0 .sound) (c .before .before .before .before .loop .inv) (w .result + s .args .extra) (s .pre .1 .usable) (omega (arith, w .ensures)) (c .if2 .left) (c .before .if1 .left)
+
+-- so the sums and products on the way fit
+room : (c : tie.Else2 Inv-loop μ-loop) →
+    let s = c .before .before .before .before .before .before .before .before .before in
+    lastWith (s .args .slot) (s .args .gap) (c .before .before .demand-at .result + s .args .extra - 1) < 2 ^ 48
+room c = omega (arith, next c .1, c .before .before .before .before .loop .inv .within, c .before .before .before .before .before .before .before .before .before .pre .1 .small)
 
 div-t : tie.Need-div-t Inv-loop μ-loop
 div-t c = omega arith
 
 mul-t : tie.Need-mul-t Inv-loop μ-loop
 unfolding lastWith
-mul-t c = omega (arith, next c .1, c .before .before .before .before .loop .inv .within, c .before .before .before .before .before .before .before .before .before .pre .1 .small)
+mul-t c = omega (arith, room c)
 
 rem-t : tie.Need-rem-t Inv-loop μ-loop
 rem-t c = omega arith
 
 add-t : tie.Need-add-t Inv-loop μ-loop
 unfolding lastWith
-add-t c = omega (arith, next c .1, c .before .before .before .before .loop .inv .within, c .before .before .before .before .before .before .before .before .before .pre .1 .small)
+add-t c = omega (arith, room c)
 
 add-t-2 : tie.Need-add-t-2 Inv-loop μ-loop
 unfolding lastWith
-add-t-2 c = omega (arith, next c .1, c .before .before .before .before .loop .inv .within, c .before .before .before .before .before .before .before .before .before .pre .1 .small)
+add-t-2 c = omega (arith, room c)
 
 loop-less : tie.Need-loop-less Inv-loop μ-loop
 unfolding lastWith
@@ -86,9 +98,7 @@ unfolding lastWith
 loop-again c = next c .0
 
 returns-3 : tie.Need-returns-3 Inv-loop μ-loop
-returns-3 c =
-    let s = c .before .before .before .before .before .before in
-    descent-ends (loadsOf (s .args .costs .now) (s .args .deadlines .now) (s .args .periods .now) (s .args .n)) (s .args .slot) (s .args .gap) (s .args .extra) (s .args .hi) (s .pre .0 .sound) (s .pre .1) (c .before .loop .t) (c .before .loop .supply) (c .before .loop .inv) (omega arith)
+returns-3 c = descent-ends (c .before .loop .inv) (omega arith)
 
 pub last-short-spec : {M : Type 1} → statement M
 last-short-spec =
