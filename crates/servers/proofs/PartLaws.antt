@@ -1,0 +1,142 @@
+-- A part of a file's loads, as one server has it: it is sound, and its horizon divides the file's.
+-- So whatever is asked of the file's loads for placing and sizing holds of the struct that holds such a part.
+use Prim.Native.Nat.{ℕ, zero, suc, _+_, _^_, _≤_, _<_, _∣_}
+use native.Mathlib.Omega.{arith}
+use native.Mathlib.Nat.{le-of-suc-le-suc, le-of-dvd}
+use mathlib.Core.Path.{_≡_, refl, sym, ap, subst, _∙_}
+use mathlib.Core.List.{List, [], _∷_, _++_, map}
+use lib.ListN.{length, length-map}
+use Rattle.wholes.specs.Multiple.{Divide}
+use Rattle.wholes.proofs.MultipleLaws.{multiple-of-divides, first-divides-of}
+use Rattle.demand.specs.Load.{Load, Sound, Every, Loaded, loadsOf}
+use Rattle.demand.proofs.Demand.{every-first}
+use Rattle.verdict.specs.Verdict.{ownHorizon, Horizon, Testable}
+use Rattle.verdict.specs.Claims.{Asked}
+use Rattle.verdict.proofs.Verdict.{own-horizon}
+use Rattle.servers.specs.Members.{membersOf, held, Bounded, Sized}
+use Rattle.servers.specs.Placement.{loadsIn}
+use Rattle.servers.specs.declared.members.Members.{Members}
+use Rattle.servers.proofs.RowLaws.{row-length}
+use Rattle.servers.proofs.MemberLaws.{held-members}
+use Rattle.servers.proofs.LoadLaws.{every-in}
+
+every-both : (P Q : Load → Type 0) (ls : List Load) → Every P ls → Every Q ls → Every (λ (l : Load). P l × Q l) ls
+every-both P Q [] p q = tt
+every-both P Q (l ∷ ls) p q = ((p .0, q .0), every-both P Q ls (p .1) (q .1))
+
+every-map : (P Q : Load → Type 0) (ls : List Load) → ((l : Load) → P l → Q l) → Every P ls → Every Q ls
+every-map P Q [] f p = tt
+every-map P Q (l ∷ ls) f p = (f l (p .0), every-map P Q ls f (p .1))
+
+-- what divides load by load divides as a list
+divides : (ls : List Load) (H : ℕ) → Every (λ (l : Load). l .period ∣ H) ls → Divide (map (λ (l : Load). l .period) ls) H
+divides [] H e i h = absurd (omega arith)
+divides (l ∷ ls) H e zero h = e .0
+divides (l ∷ ls) H e (suc i) h = divides ls H (e .1) i (le-of-suc-le-suc h)
+
+-- a horizon divides every multiple of the slot and the periods
+pub own-divides : (ls : List Load) (S H : ℕ) → S ∣ H → Every (λ (l : Load). l .period ∣ H) ls → ownHorizon S ls ∣ H
+unfolding ownHorizon
+own-divides ls S H s e = multiple-of-divides S (map (λ (l : Load). l .period) ls) H s (divides ls H e)
+
+pub slot-divides : (ls : List Load) (S : ℕ) → S ∣ ownHorizon S ls
+unfolding ownHorizon
+slot-divides ls S = first-divides-of S (map (λ (l : Load). l .period) ls)
+
+-- the horizon of a server divides that of all loads
+pub own-in-divides : (ls : List Load) (placement : List ℕ) (S q : ℕ) → Asked ls S → ownHorizon S (loadsIn ls placement q) ∣ ownHorizon S ls
+own-in-divides ls placement S q a =
+    own-divides (loadsIn ls placement q) S (ownHorizon S ls) (slot-divides ls S)
+    (every-in (λ (l : Load). l .period ∣ ownHorizon S ls) ls placement q (own-horizon ls S a .of-periods))
+
+-- a load of a part: it is sound, and its period divides H
+abbrev pub Fine : ℕ → Load → Type 0
+Fine H l = Sound l × (l .period ∣ H)
+
+pub asked : {costs deadlines periods : List ℕ} {n S : ℕ} → Bounded costs deadlines periods n S → Asked (loadsOf costs deadlines periods n) S
+asked b = record { sound = b .loaded .sound; slot = b .slot }
+
+module _ {costs deadlines periods : List ℕ} {n S L : ℕ} (file : Sized costs deadlines periods n S L) where
+  abbrev H : ℕ
+  H = ownHorizon S (loadsOf costs deadlines periods n)
+
+  -- the file's loads are a part of it
+  pub all-fine : Every (Fine (ownHorizon S (loadsOf costs deadlines periods n))) (loadsOf costs deadlines periods n)
+  all-fine =
+      every-both Sound (λ (l : Load). l .period ∣ H) (loadsOf costs deadlines periods n) (file .bounded .loaded .sound)
+      (own-horizon (loadsOf costs deadlines periods n) S (asked (file .bounded)) .of-periods)
+
+  -- the file's horizon is at least 1 and within the limit
+  horizon-some : 1 ≤ H
+  horizon-some = own-horizon (loadsOf costs deadlines periods n) S (asked (file .bounded)) .some
+
+  horizon-within : H ≤ 10000000
+  unfolding ownHorizon
+  horizon-within = file .bounded .horizon
+
+  part-within : (ks : List Load) → Every (Fine H) ks → ownHorizon S ks ≤ 10000000
+  part-within ks e =
+      let d : ownHorizon S ks ∣ H = own-divides ks S H (slot-divides (loadsOf costs deadlines periods n) S) (every-map (Fine H) (λ (l : Load). l .period ∣ H) ks (λ l p. p .1) e) in
+      omega (arith, le-of-dvd horizon-some d, horizon-within)
+
+  part-made : (ks : List Load) → length ks ≤ 64 → Every (Fine H) ks →
+      Sized (membersOf ks .costs) (membersOf ks .deadlines) (membersOf ks .periods) (membersOf ks .count) S L
+  unfolding membersOf ownHorizon
+  part-made ks few e =
+      record {
+        bounded = record {
+          loaded = record {
+            costs-there = there (λ (l : Load). l .cost);
+            deadlines-there = there (λ (l : Load). l .deadline);
+            periods-there = there (λ (l : Load). l .period);
+            few = omega arith;
+            sound = rw (held-members ks) (every-map (Fine H) Sound ks (λ l p. p .0) e);
+          };
+          few = few;
+          slot = file .bounded .slot;
+          horizon = rw (held-members ks) (part-within ks e);
+        };
+        loss = file .loss;
+      }
+    where
+      there : (f : Load → ℕ) → length ks ≤ length (Rattle.servers.specs.Row.row (map f ks))
+      there f = omega (arith, length-map ks f, row-length (map f ks) (rw (length-map ks f) few))
+
+  -- the struct that holds a part of the file may be placed and sized
+  pub part-sized : (m : Members) (ks : List Load) → m ≡ membersOf ks → length ks ≤ 64 → Every (Fine (ownHorizon S (loadsOf costs deadlines periods n))) ks →
+      Sized (m .costs) (m .deadlines) (m .periods) (m .count) S L
+  part-sized m ks e few fine =
+      subst (λ (k : Members). Sized (k .costs) (k .deadlines) (k .periods) (k .count) S L) (sym e) (part-made ks few fine)
+
+  -- with its own horizon it may be tested
+  pub testable : (h : ℕ) → h ≡ ownHorizon S (loadsOf costs deadlines periods n) → Testable (loadsOf costs deadlines periods n) S L h
+  testable h e =
+      record {
+        slot-some = file .bounded .slot;
+        slot-small = omega (arith, le-of-dvd horizon-some (slot-divides (loadsOf costs deadlines periods n) S), horizon-within);
+        loss-small = omega (arith, file .loss);
+        horizon-small = omega (arith, horizon-within);
+        horizon = subst (λ (k : ℕ). Horizon (loadsOf costs deadlines periods n) k) (sym e) (own-horizon (loadsOf costs deadlines periods n) S (asked (file .bounded)));
+      }
+
+-- the first tasks of a file may be placed where all may
+pub sized-first : {costs deadlines periods : List ℕ} {n S L : ℕ} (i : ℕ) → i ≤ n → Sized costs deadlines periods n S L → Sized costs deadlines periods i S L
+unfolding ownHorizon
+sized-first {costs} {deadlines} {periods} {n} {S} {L} i h file =
+    let b = file .bounded .loaded in
+    record {
+      bounded = record {
+        loaded = record {
+          costs-there = omega (arith, b .costs-there);
+          deadlines-there = omega (arith, b .deadlines-there);
+          periods-there = omega (arith, b .periods-there);
+          few = omega (arith, b .few);
+          sound = every-first costs deadlines periods Sound n h (b .sound);
+        };
+        few = omega (arith, file .bounded .few);
+        slot = file .bounded .slot;
+        horizon = part-within file (loadsOf costs deadlines periods i)
+            (every-first costs deadlines periods (Fine (ownHorizon S (loadsOf costs deadlines periods n))) n h (all-fine file));
+      };
+      loss = file .loss;
+    }

@@ -1,0 +1,133 @@
+-- `gather` meets its contract. The loop's invariant: the struct holds the server's loads among the first i tasks.
+-- The measure is what is left of n. Assumes nothing.
+use Prim.Native.Nat.{ℕ, _+_, _-_, _≤_, _<_}
+use mathlib.Core.Path.{_≡_, refl, sym, ap, _∙_}
+use mathlib.Core.Logic.{⊎-elim}
+use mathlib.Core.List.{List, [], _∷_, _++_}
+use borrow.Author.Needs.{needs}
+use native.Mathlib.Numerals.{add-one}
+use native.Mathlib.Omega.{arith}
+use lib.ListN.{length, getD, take}
+use lib.Seq.{take-suc, length-take-le}
+use Rattle.demand.specs.Load.{Load, loadAt, loadsOf}
+use Rattle.demand.proofs.Demand.{loads-next, loads-length}
+use Rattle.servers.specs.Members.{membersOf, withLoad, Gathered}
+use Rattle.servers.specs.Placement.{loadsIn}
+use Rattle.servers.specs.declared.members.Members.{Members}
+use Rattle.servers.proofs.MemberLaws.{members-more}
+use Rattle.servers.proofs.LoadLaws.{in-joined, in-apart, in-few}
+use Rattle.servers.proofs.members.gather.Statement.{statement}
+use Rattle.servers.proofs.members.gather.Tie as tie
+
+abbrev Inv-loop : tie.InvT-loop
+Inv-loop costs deadlines periods server n q m₀ i₀ m i =
+    (i ≤ n) × (m ≡ membersOf (loadsIn (loadsOf costs deadlines periods i) (take i server) q))
+
+abbrev μ-loop : tie.MeasureT-loop
+μ-loop costs deadlines periods server n q m₀ i₀ m i = n - i
+
+module _ (costs deadlines periods server : List ℕ) (n : ℕ) (g : Gathered costs deadlines periods server n) (q i : ℕ) (h : i < n) where
+  -- as many servers as loads
+  even : length (take i server) ≡ length (loadsOf costs deadlines periods i)
+  even = length-take-le i server (omega (arith, g .server-there)) ∙ sym (loads-length costs deadlines periods i)
+
+  -- there is room for one more
+  room : length (loadsIn (loadsOf costs deadlines periods i) (take i server) q) < 64
+  room = omega (arith, g .few, in-few (loadsOf costs deadlines periods i) (take i server) q, loads-length costs deadlines periods i)
+
+  -- the servers and the loads of one task more
+  next : loadsIn (loadsOf costs deadlines periods (i + 1)) (take (i + 1) server) q ≡
+      loadsIn (loadsOf costs deadlines periods i ++ (loadAt costs deadlines periods i ∷ [])) (take i server ++ (getD server i 0 ∷ [])) q
+  next =
+      ap (λ (ls : List Load). loadsIn ls (take (i + 1) server) q) (loads-next costs deadlines periods i) ∙
+      ap (λ (p : List ℕ). loadsIn (loadsOf costs deadlines periods i ++ (loadAt costs deadlines periods i ∷ [])) p q)
+      (ap (λ (k : ℕ). take k server) (add-one i) ∙ take-suc server i 0 (omega (arith, g .server-there)))
+
+  joins : (m : Members) → m ≡ membersOf (loadsIn (loadsOf costs deadlines periods i) (take i server) q) → getD server i 0 ≡ q →
+      withLoad m (loadAt costs deadlines periods i) ≡ membersOf (loadsIn (loadsOf costs deadlines periods (i + 1)) (take (i + 1) server) q)
+  joins m e t =
+      ap (λ (k : Members). withLoad k (loadAt costs deadlines periods i)) e ∙
+      members-more (loadsIn (loadsOf costs deadlines periods i) (take i server) q) (loadAt costs deadlines periods i) room ∙
+      ap membersOf (sym (next ∙ in-joined (loadsOf costs deadlines periods i) (take i server) (loadAt costs deadlines periods i) (getD server i 0) q even t))
+
+  stays : (m : Members) → m ≡ membersOf (loadsIn (loadsOf costs deadlines periods i) (take i server) q) → (getD server i 0 ≡ q → ⊥) →
+      m ≡ membersOf (loadsIn (loadsOf costs deadlines periods (i + 1)) (take (i + 1) server) q)
+  stays m e t =
+      e ∙ ap membersOf (sym (next ∙ in-apart (loadsOf costs deadlines periods i) (take i server) (loadAt costs deadlines periods i) (getD server i 0) q even t))
+
+loop-holds : tie.Need-loop-holds Inv-loop μ-loop
+unfolding loadsOf loadsIn membersOf
+loop-holds c = (omega arith, refl)
+
+mul-if1 : tie.Need-mul-if1 Inv-loop μ-loop
+mul-if1 c = search needs
+
+shared-slice-read-if1 : tie.Need-shared-slice-read-if1 Inv-loop μ-loop
+shared-slice-read-if1 c = search needs
+
+mul-with-load : tie.Need-mul-with-load Inv-loop μ-loop
+mul-with-load c = search needs
+
+shared-slice-read-with-load : tie.Need-shared-slice-read-with-load Inv-loop μ-loop
+shared-slice-read-with-load c = search needs
+
+mul-with-load-2 : tie.Need-mul-with-load-2 Inv-loop μ-loop
+mul-with-load-2 c = search needs
+
+shared-slice-read-with-load-2 : tie.Need-shared-slice-read-with-load-2 Inv-loop μ-loop
+shared-slice-read-with-load-2 c = search needs
+
+mul-with-load-3 : tie.Need-mul-with-load-3 Inv-loop μ-loop
+mul-with-load-3 c = search needs
+
+shared-slice-read-with-load-3 : tie.Need-shared-slice-read-with-load-3 Inv-loop μ-loop
+shared-slice-read-with-load-3 c = search needs
+
+with-load-requires : tie.Need-with-load-requires Inv-loop μ-loop
+unfolding membersOf
+with-load-requires c κs =
+    let at = c .before .before .before .before .before .before in
+    let s = at .before .before .before .before .before in
+    omega (arith, ap (λ (m : Members). m .count) (at .loop .inv .1), room (s .args .costs .now) (s .args .deadlines .now) (s .args .periods .now) (s .args .server .now) (s .args .n) (s .pre) (s .args .q) (at .loop .i) (c .before .before .before .before .before .loop-test .taken))
+
+add-i : tie.Need-add-i Inv-loop μ-loop
+add-i c = search needs
+
+loop-less : tie.Need-loop-less Inv-loop μ-loop
+loop-less c = search needs
+
+loop-again : tie.Need-loop-again Inv-loop μ-loop
+loop-again c =
+    let at = c .before .before .before in
+    let s = at .before .before .before .before .before in
+    let k = joins (s .args .costs .now) (s .args .deadlines .now) (s .args .periods .now) (s .args .server .now) (s .args .n) (s .pre) (s .args .q) (at .loop .i) (c .before .before .loop-test .taken) (at .loop .m) (at .loop .inv .1) in
+    let l = stays (s .args .costs .now) (s .args .deadlines .now) (s .args .periods .now) (s .args .server .now) (s .args .n) (s .pre) (s .args .q) (at .loop .i) (c .before .before .loop-test .taken) (at .loop .m) (at .loop .inv .1) in
+    (omega arith, ⊎-elim (λ w. w .5 ∙ w .4 .ensures ∙ k (w .0 .taken)) (λ w. w .1 ∙ l (w .0 .left)) (c .if1 .came))
+
+returns : tie.Need-returns Inv-loop μ-loop
+returns c =
+    let s = c .before .before .before .before .before .before in
+    let e : c .before .loop .i ≡ s .args .n = omega arith in
+    c .before .loop .inv .1 ∙
+    ap (λ (i : ℕ). membersOf (loadsIn (loadsOf (s .args .costs .now) (s .args .deadlines .now) (s .args .periods .now) i) (take i (s .args .server .now)) (s .args .q))) e
+
+pub gather-spec : {M : Type 1} → statement M
+gather-spec =
+    tie.close
+    (tie.spec
+    Inv-loop
+    μ-loop
+    loop-holds
+    mul-if1
+    shared-slice-read-if1
+    mul-with-load
+    shared-slice-read-with-load
+    mul-with-load-2
+    shared-slice-read-with-load-2
+    mul-with-load-3
+    shared-slice-read-with-load-3
+    with-load-requires
+    add-i
+    loop-less
+    loop-again
+    returns)

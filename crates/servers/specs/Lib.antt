@@ -1,0 +1,5 @@
+pub mod Row
+pub mod Members
+pub mod Placement
+pub mod Reserve
+pub mod Claims

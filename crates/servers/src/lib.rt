@@ -1,0 +1,48 @@
+// From loads to servers: placement by first fit in file order, and the smallest reserve of each server.
+use crate::placement::place;
+use crate::sizing::size;
+ghost use mathlib.Core.Path.{_≡_};
+ghost use Rattle.demand.specs.Load.{loadsOf};
+ghost use Rattle.servers.specs.Members.{Sized};
+ghost use Rattle.servers.specs.Reserve.{serversOf};
+
+pub mod members; // members.rt: the loads of one server
+pub mod placement; // placement.rt: first fit
+pub mod sizing; // sizing.rt: the smallest reserve of each server
+
+// The server of each task in file order, and the reserve of each server; servers count from 1, unused room is zero.
+pub struct Servers {
+    pub count: u64,
+    pub server: [u64; 64],
+    pub reserve: [u64; 64],
+}
+
+pub fn serve<'a>(
+    costs: &'a [u64],
+    deadlines: &'a [u64],
+    periods: &'a [u64],
+    n: usize,
+    slot: u64,
+    loss: u64,
+) -> Servers
+    requires { ⌜ Sized (now costs) (now deadlines) (now periods) n slot loss ⌝ }
+    ensures { λ r. ⌜ r ≡ serversOf (loadsOf (now (costs .entry)) (now (deadlines .entry)) (now (periods .entry)) n) slot loss ⌝ }
+{
+    let placed = place(costs, deadlines, periods, n, slot, loss);
+    let server = placed.server;
+    let reserve = size(
+        costs,
+        deadlines,
+        periods,
+        &server,
+        n,
+        placed.count,
+        slot,
+        loss,
+    );
+    Servers {
+        count: placed.count,
+        server,
+        reserve,
+    }
+}

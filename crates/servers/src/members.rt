@@ -1,0 +1,72 @@
+// The loads of one server, gathered from the tasks in file order, and the server's own horizon.
+// What they mean stands in specs/Members.antt and specs/Placement.antt.
+use wholes::Multiple;
+ghost use mathlib.Core.Path.{_≡_};
+ghost use Prim.Native.Nat.{_<_};
+ghost use lib.ListN.{take};
+ghost use Rattle.demand.specs.Load.{Load, loadsOf};
+ghost use Rattle.verdict.specs.Verdict.{ownHorizon};
+ghost use Rattle.servers.specs.Members.{membersOf, held, withLoad, Gathered, Bounded};
+ghost use Rattle.servers.specs.Placement.{loadsIn};
+
+pub struct Members {
+    pub count: usize,
+    pub costs: [u64; 64],
+    pub deadlines: [u64; 64],
+    pub periods: [u64; 64],
+}
+
+pub fn with_load(m: Members, cost: u64, deadline: u64, period: u64) -> Members
+    requires { ⌜ m .count < 64 ⌝ }
+    ensures { λ r. ⌜ r ≡ withLoad m (record { cost = cost; deadline = deadline; period = period }) ⌝ }
+{
+    let at = m.count;
+    let mut more = m;
+    more.costs[at] = cost;
+    more.deadlines[at] = deadline;
+    more.periods[at] = period;
+    more.count = at + 1;
+    more
+}
+
+// The loads of server q among the first n tasks.
+pub fn gather<'a>(
+    costs: &'a [u64],
+    deadlines: &'a [u64],
+    periods: &'a [u64],
+    server: &'a [u64],
+    n: usize,
+    q: u64,
+) -> Members
+    requires { ⌜ Gathered (now costs) (now deadlines) (now periods) (now server) n ⌝ }
+    ensures { λ r. ⌜ r ≡ membersOf (loadsIn (loadsOf (now (costs .entry)) (now (deadlines .entry)) (now (periods .entry)) n) (take n (now (server .entry))) q) ⌝ }
+{
+    let none = [0u64; 64];
+    let mut m = Members {
+        count: 0,
+        costs: none,
+        deadlines: none,
+        periods: none,
+    };
+    let mut i: usize = 0;
+    while i < n {
+        if server[i] == q {
+            m = with_load(m, costs[i], deadlines[i], periods[i]);
+        }
+        i += 1;
+    }
+    m
+}
+
+// The least common multiple of the slot and the server's periods. It divides the file's horizon, so it is within the limit.
+pub fn own_horizon(m: Members, slot: u64) -> u64
+    requires { ⌜ Bounded (m .costs) (m .deadlines) (m .periods) (m .count) slot ⌝ }
+    ensures { λ r. ⌜ r ≡ ownHorizon slot (held m) ⌝ }
+{
+    let n = m.count;
+    let Multiple::Within(horizon) = wholes::least_multiple_of(slot, &m.periods, n, 10_000_000)
+    else {
+        return slot;
+    };
+    horizon
+}

@@ -1,0 +1,67 @@
+// The smallest reserve of each server of a placement. What it means stands in specs/Reserve.antt.
+// The server of each task stands in a slice, of which the first n count.
+use crate::members::gather;
+use crate::members::own_horizon;
+ghost use mathlib.Core.Path.{_≡_};
+ghost use Prim.Native.Nat.{_≤_};
+ghost use lib.ListN.{length, take};
+ghost use Rattle.demand.specs.Load.{loadsOf};
+ghost use Rattle.verdict.specs.Reserve.{smallestReserve};
+ghost use Rattle.servers.specs.Row.{row};
+ghost use Rattle.servers.specs.Members.{Sized};
+ghost use Rattle.servers.specs.Placement.{loadsIn};
+ghost use Rattle.servers.specs.Reserve.{reservesUpTo};
+
+pub fn reserve_of<'a>(
+    costs: &'a [u64],
+    deadlines: &'a [u64],
+    periods: &'a [u64],
+    server: &'a [u64],
+    n: usize,
+    q: u64,
+    slot: u64,
+    loss: u64,
+) -> u64
+    requires { ⌜ Sized (now costs) (now deadlines) (now periods) n slot loss ⌝ }
+    requires { ⌜ n ≤ length (now server) ⌝ }
+    ensures { λ r. ⌜ r ≡ smallestReserve (loadsIn (loadsOf (now (costs .entry)) (now (deadlines .entry)) (now (periods .entry)) n) (take n (now (server .entry))) q) slot loss ⌝ }
+{
+    let m = gather(costs, deadlines, periods, server, n, q);
+    let horizon = own_horizon(m, slot);
+    let count = m.count;
+    verdict::reserve::smallest_reserve(
+        &m.costs,
+        &m.deadlines,
+        &m.periods,
+        count,
+        slot,
+        loss,
+        horizon,
+    )
+}
+
+// The reserves of servers 1 to count, in server order.
+pub fn size<'a>(
+    costs: &'a [u64],
+    deadlines: &'a [u64],
+    periods: &'a [u64],
+    server: &'a [u64],
+    n: usize,
+    count: u64,
+    slot: u64,
+    loss: u64,
+) -> [u64; 64]
+    requires { ⌜ Sized (now costs) (now deadlines) (now periods) n slot loss ⌝ }
+    requires { ⌜ (n ≤ length (now server)) × (count ≤ 64) ⌝ }
+    ensures { λ r. ⌜ r ≡ row (reservesUpTo (loadsOf (now (costs .entry)) (now (deadlines .entry)) (now (periods .entry)) n) slot loss (take n (now (server .entry))) count) ⌝ }
+{
+    let mut reserve = [0u64; 64];
+    let mut at: usize = 0;
+    let mut q: u64 = 0;
+    while q < count {
+        q += 1;
+        reserve[at] = reserve_of(costs, deadlines, periods, server, n, q, slot, loss);
+        at += 1;
+    }
+    reserve
+}
