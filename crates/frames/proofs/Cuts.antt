@@ -41,7 +41,8 @@ unfolding closed line after
 closed-split [] p = cc
 closed-split (b ∷ bs) p = go (eqb b LF) refl p (closed-split bs)
   where
-    go : (t : Bool) → eqb b LF ≡ t → either t (closed bs) ≡ true → (closed bs ≡ true → bs ≡ line bs ++ (LF ∷ after bs)) → b ∷ bs ≡ pickBytes t [] (b ∷ line bs) ++ (LF ∷ pickBytes t bs (after bs))
+    go : (t : Bool) → eqb b LF ≡ t → either t (closed bs) ≡ true → (closed bs ≡ true → bs ≡ line bs ++ (LF ∷ after bs))
+        → b ∷ bs ≡ pickBytes t [] (b ∷ line bs) ++ (LF ∷ pickBytes t bs (after bs))
     go true e q ih = ap (λ (n : ℕ). n ∷ bs) (eqb-true b LF e)
     go false e q ih = ap (λ (l : List ℕ). b ∷ l) (ih q)
 

@@ -50,7 +50,8 @@ module _ (b : List ℕ) (at : ℕ) (ws vs : List ℕ) (i start w : ℕ) (e : sta
   pub start-within : start + w ≤ at + sum ws
   start-within = omega (arith, sum-take ws i, sum-front ws (suc i))
 
-  pub fields-next : at + sum ws ≤ length b → stored (stored b at (fields (take i ws) vs)) start (hex w (getD vs i 0)) ≡ stored b at (fields (take (i + 1) ws) vs)
+  pub fields-next : at + sum ws ≤ length b
+      → stored (stored b at (fields (take i ws) vs)) start (hex w (getD vs i 0)) ≡ stored b at (fields (take (i + 1) ws) vs)
   fields-next h =
       ap₂ (λ (j k : ℕ). stored (stored b at (fields (take i ws) vs)) j (hex k (getD vs i 0)))
       (e ∙ ap (λ (n : ℕ). at + n) (sym (fields-length (take i ws) vs))) ew

@@ -64,7 +64,8 @@ module _ (frame : Frame) (text : List ℕ) (f : formed frame text ≡ true) wher
       ∙ drop-append-add (line text) (LF ∷ after text) 1)
 
   -- a field's digits stand in the text itself
-  pub formed-part : (field : ℕ) → take (widthOf frame field) (drop (placeOf frame field) (line text)) ≡ take (widthOf frame field) (drop (placeOf frame field) text)
+  pub formed-part : (field : ℕ)
+      → take (widthOf frame field) (drop (placeOf frame field) (line text)) ≡ take (widthOf frame field) (drop (placeOf frame field) text)
   formed-part field =
       sym
       (ap (λ (l : List ℕ). take (widthOf frame field) (drop (placeOf frame field) l)) formed-text
@@ -92,7 +93,8 @@ module _ (frame : Frame) (text : List ℕ) (f : formed frame text ≡ true) wher
       (number-below (take (widthOf frame field) (drop (placeOf frame field) (line text))) (field-legal field))
 
 -- digits of the right kind and length, with an LF behind, are formed whatever follows
-pub made-formed : (frame : Frame) (ds rest : List ℕ) → length ds ≡ lengthOf frame → take 2 ds ≡ kindOf frame → allLegal ds ≡ true → formed frame (ds ++ (LF ∷ rest)) ≡ true
+pub made-formed : (frame : Frame) (ds rest : List ℕ) → length ds ≡ lengthOf frame → take 2 ds ≡ kindOf frame
+    → allLegal ds ≡ true → formed frame (ds ++ (LF ∷ rest)) ≡ true
 unfolding formed
 made-formed frame ds rest n k l =
     both-true (closed-cut ds rest)

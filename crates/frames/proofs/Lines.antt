@@ -73,7 +73,8 @@ fields-at frame text (suc (suc (suc (suc (suc zero))))) h = refl
 fields-at frame text (suc (suc (suc (suc (suc (suc zero)))))) h = refl
 fields-at frame text (suc (suc (suc (suc (suc (suc (suc k))))))) h = absurd (omega arith)
 
-value-at : (frame : Frame) (text : List ℕ) (k : ℕ) → fieldOf frame k text ≡ number (take (widthOf frame k) (drop (sum (take k (widthsOf frame))) (drop 2 (line text))))
+value-at : (frame : Frame) (text : List ℕ) (k : ℕ)
+    → fieldOf frame k text ≡ number (take (widthOf frame k) (drop (sum (take k (widthsOf frame))) (drop 2 (line text))))
 unfolding fieldOf
 value-at frame text k = ap (λ (l : List ℕ). number (take (widthOf frame k) l)) (sym (drop-drop (sum (take k (widthsOf frame))) 2 (line text)))
 
@@ -87,7 +88,8 @@ line-fields frame text f =
     ds-length : length (drop 2 (line text)) ≡ sum (widthsOf frame)
     ds-length = omega (arith, length-drop 2 (line text), formed-size frame text f)
 
-    values : (k : ℕ) → k < length (widthsOf frame) → getD (fieldsOf frame text) k 0 ≡ number (take (widthOf frame k) (drop (sum (take k (widthsOf frame))) (drop 2 (line text))))
+    values : (k : ℕ) → k < length (widthsOf frame)
+        → getD (fieldsOf frame text) k 0 ≡ number (take (widthOf frame k) (drop (sum (take k (widthsOf frame))) (drop 2 (line text))))
     values k h =
         fields-at frame text k (omega (arith, fields-seven frame))
         ∙ value-at frame text k
@@ -105,7 +107,9 @@ line-fields frame text f =
         ∙ ap₂ _++_ (formed-kind frame text f) (sym all)
 
 -- a kind, the fields and an LF, stored one behind the other, are the line
-pub line-stored : (b : List ℕ) (at : ℕ) (frame : Frame) (vs kind : List ℕ) (n : ℕ) → kind ≡ kindOf frame → n ≡ lengthOf frame → at + lengthOf frame + 1 ≤ length b → stored (stored (stored b at kind) (at + 2) (fields (widthsOf frame) vs)) (at + n) (LF ∷ []) ≡ stored b at (lineOf frame vs)
+pub line-stored : (b : List ℕ) (at : ℕ) (frame : Frame) (vs kind : List ℕ) (n : ℕ) → kind ≡ kindOf frame
+    → n ≡ lengthOf frame → at + lengthOf frame + 1 ≤ length b
+    → stored (stored (stored b at kind) (at + 2) (fields (widthsOf frame) vs)) (at + n) (LF ∷ []) ≡ stored b at (lineOf frame vs)
 unfolding lineOf
 line-stored b at frame vs kind n e en h =
     ap (λ (l : List ℕ). stored (stored (stored b at l) (at + 2) (fields (widthsOf frame) vs)) (at + n) (LF ∷ [])) e

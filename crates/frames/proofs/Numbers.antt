@@ -13,6 +13,7 @@ use lib.ListN.{length, take, drop, getD, set, length-append}
 use lib.Seq.{drop-cons}
 use Rattle.frames.specs.Digit.{legal, valueOf, digitOf, allLegal}
 use Rattle.frames.specs.Line.{stored}
+use Rattle.frames.specs.Table.{markOf}
 use Rattle.frames.specs.Number.{numberFrom, number, hex}
 use Rattle.frames.proofs.Digits.{value-digit, digit-value, digit-legal, value-below, legal-head, legal-tail, legal-append, legal-cons, illegal-cons}
 use Rattle.frames.proofs.Stored.{stored-set}
@@ -112,7 +113,8 @@ hex-number ds p = hex-from 0 ds p
 pub part-start : (text : List ℕ) (at width : ℕ) → take (width - 0) (drop (at + 0) text) ≡ take width (drop at text)
 part-start text at width = ap₂ (λ (n m : ℕ). take n (drop m text)) (sub-zero width) (add-zero at)
 
-pub part-next : (text : List ℕ) (at width i : ℕ) → i < width → at + width ≤ length text → take (width - i) (drop (at + i) text) ≡ getD text (at + i) 0 ∷ take (width - (i + 1)) (drop (at + (i + 1)) text)
+pub part-next : (text : List ℕ) (at width i : ℕ) → i < width → at + width ≤ length text
+    → take (width - i) (drop (at + i) text) ≡ getD text (at + i) 0 ∷ take (width - (i + 1)) (drop (at + (i + 1)) text)
 part-next text at width i h f =
     ap₂ take count (drop-cons text (at + i) 0 (omega arith))
     ∙ ap (λ (n : ℕ). getD text (at + i) 0 ∷ take (width - (i + 1)) (drop n text)) next
@@ -134,19 +136,23 @@ module _ (text : List ℕ) (at width i : ℕ) (inside : i < width) (fits : at + 
   pub legal-stops : legal (getD text (at + i) 0) ≡ false → allLegal (take (width - i) (drop (at + i) text)) ≡ false
   legal-stops p = ap allLegal (part-next text at width i inside fits) ∙ illegal-cons _ _ p
 
-  pub legal-goes-on : legal (getD text (at + i) 0) ≡ true → allLegal (take (width - i) (drop (at + i) text)) ≡ allLegal (take (width - (i + 1)) (drop (at + (i + 1)) text))
+  pub legal-goes-on : legal (getD text (at + i) 0) ≡ true
+      → allLegal (take (width - i) (drop (at + i) text)) ≡ allLegal (take (width - (i + 1)) (drop (at + (i + 1)) text))
   legal-goes-on p = ap allLegal (part-next text at width i inside fits) ∙ legal-cons _ _ p
 
-  whole : allLegal (take (width - i) (drop (at + i) text)) ≡ true → allLegal (getD text (at + i) 0 ∷ take (width - (i + 1)) (drop (at + (i + 1)) text)) ≡ true
+  whole : allLegal (take (width - i) (drop (at + i) text)) ≡ true
+      → allLegal (getD text (at + i) 0 ∷ take (width - (i + 1)) (drop (at + (i + 1)) text)) ≡ true
   whole p = ap allLegal (sym (part-next text at width i inside fits)) ∙ p
 
   pub part-legal : allLegal (take (width - i) (drop (at + i) text)) ≡ true → legal (getD text (at + i) 0) ≡ true
   part-legal p = legal-head _ _ (whole p)
 
-  pub part-rest : allLegal (take (width - i) (drop (at + i) text)) ≡ true → allLegal (take (width - (i + 1)) (drop (at + (i + 1)) text)) ≡ true
+  pub part-rest : allLegal (take (width - i) (drop (at + i) text)) ≡ true
+      → allLegal (take (width - (i + 1)) (drop (at + (i + 1)) text)) ≡ true
   part-rest p = legal-tail _ _ (whole p)
 
-  pub part-number : (h : ℕ) → numberFrom h (take (width - i) (drop (at + i) text)) ≡ numberFrom (h * 16 + valueOf (getD text (at + i) 0)) (take (width - (i + 1)) (drop (at + (i + 1)) text))
+  pub part-number : (h : ℕ)
+      → numberFrom h (take (width - i) (drop (at + i) text)) ≡ numberFrom (h * 16 + valueOf (getD text (at + i) 0)) (take (width - (i + 1)) (drop (at + (i + 1)) text))
   part-number h = ap (numberFrom h) (part-next text at width i inside fits) ∙ from-cons h _ _
 
 -- a number grown by one digit stays below its power, and below 64 bits up to fifteen digits
@@ -157,8 +163,14 @@ pub power-fits : (i : ℕ) → i ≤ 15 → 16 ^ i ≤ 16 ^ 15
 power-fits i p = pow-le-pow-right (lit< tt) p
 
 -- the lowest digit set, and the rest yet to be stored, is the whole number stored
-pub digit-stored : (b : List ℕ) (at w v : ℕ) → at + w < length b → stored (set b (at + w) (digitOf (v % 16))) at (hex w (v / 16)) ≡ stored b at (hex (suc w) v)
+pub digit-stored : (b : List ℕ) (at w v : ℕ) → at + w < length b
+    → stored (set b (at + w) (digitOf (v % 16))) at (hex w (v / 16)) ≡ stored b at (hex (suc w) v)
 unfolding hex
 digit-stored b at w v p =
     ap (λ (n : ℕ). stored (set b (at + n) (digitOf (v % 16))) at (hex w (v / 16))) (sym (hex-length w (v / 16)))
     ∙ stored-set b at (hex w (v / 16)) (digitOf (v % 16)) (subst (λ (n : ℕ). at + n < length b) (sym (hex-length w (v / 16))) p)
+
+-- the mark is the greatest number of eight digits
+pub mark-hex : hex 8 (16 ^ 8 - 1) ≡ markOf
+unfolding hex digitOf markOf
+mark-hex = refl

@@ -37,7 +37,8 @@ module _ (text : List ℕ) (at : ℕ) (frame : Frame) (kind : List ℕ) (e : kin
       ∙ same-two (getD text at 0) (getD text (at + 1) 0) (getD (kindOf frame) 0 0) (getD (kindOf frame) 1 0)
       ∙ ap (λ (l : List ℕ). both (eqb (getD text at 0) (getD l 0 0)) (eqb (getD text (at + 1) 0) (getD l 1 0))) (sym e)
 
-  pub kind-second : getD text at 0 ≡ getD kind 0 0 → same (take 2 (drop at text)) (kindOf frame) ≡ eqb (getD text (at + 1) 0) (getD kind 1 0)
+  pub kind-second : getD text at 0 ≡ getD kind 0 0
+      → same (take 2 (drop at text)) (kindOf frame) ≡ eqb (getD text (at + 1) 0) (getD kind 1 0)
   kind-second p = kind-test ∙ ap (λ (t : Bool). both t (eqb (getD text (at + 1) 0) (getD kind 1 0))) (eq-eqb (getD text at 0) (getD kind 0 0) p)
 
   pub kind-first : (getD text at 0 ≡ getD kind 0 0 → ⊥) → same (take 2 (drop at text)) (kindOf frame) ≡ eqb (getD text at 0) (getD kind 0 0)
@@ -60,7 +61,8 @@ module _ (frame : Frame) (text : List ℕ) (at n : ℕ) (e : n ≡ lengthOf fram
   pub not-kind : same (take 2 (drop at text)) (kindOf frame) ≡ false → formed frame (drop at text) ≡ false
   not-kind h = cannot-pass (formed frame (drop at text)) (λ (f : formed frame (drop at text) ≡ true). let z : true ≡ false = sym (formed-same frame (drop at text) f) ∙ h in let y : _≡_ {A = ℕ} 0 1 = cc in omega arith)
 
-  pub rest-legal : n < length text - at → getD text (at + n) 0 ≡ LF → same (take 2 (drop at text)) (kindOf frame) ≡ true → formed frame (drop at text) ≡ allLegal (take n (drop at text))
+  pub rest-legal : n < length text - at → getD text (at + n) 0 ≡ LF → same (take 2 (drop at text)) (kindOf frame) ≡ true
+      → formed frame (drop at text) ≡ allLegal (take n (drop at text))
   rest-legal h l k =
       formed-is frame (drop at text)
       ∙ ap (λ (t : Bool). both t (both (eqb (getD (drop at text) (lengthOf frame) 0) LF) (both (same (take 2 (drop at text)) (kindOf frame)) (allLegal (take (lengthOf frame) (drop at text))))))

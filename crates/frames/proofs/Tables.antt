@@ -1,15 +1,15 @@
 -- Laws of the table of frames: the line lengths, and what the filled rows have at each field.
 -- Assumes nothing.
 use Prim.Native.Nat.{ℕ, zero, suc, _+_, _≤_, _<_}
-use mathlib.Core.Path.{_≡_, refl, _∙_, ap}
+use mathlib.Core.Path.{_≡_, refl, sym, _∙_, ap}
 use mathlib.Core.Bool.{Bool, true}
 use mathlib.Core.List.{List, [], _∷_, _++_, map}
 use native.Mathlib.Numerals.{add-one}
 use native.Mathlib.Omega.{arith}
-use lib.Dec.{leb, lit≤}
+use lib.Dec.{leb, ltb, eqb}
 use lib.ListN.{length, getD, take, replicate}
 use lib.Seq.{getD-take, take-all}
-use borrow.Author.Tests.{leb-true}
+use borrow.Author.Tests.{leb-true, ltb-true, eqb-true}
 use Rattle.frames.specs.declared.table.Row.{Row}
 use Rattle.frames.specs.declared.table.Frame.{Frame}
 use Rattle.frames.specs.declared.table.Frame.the-variants.{Header, Task, Plan, Server, Placed, Processor, Refused}
@@ -21,31 +21,67 @@ use Rattle.frames.proofs.Tests.{both-left, both-right}
 abbrev pub frames : List Frame
 frames = Header ∷ Task ∷ Plan ∷ Server ∷ Placed ∷ Processor ∷ Refused ∷ []
 
+-- a list over the frames has each frame's entry at its place
+at-place : {B : Type 0} (g : Frame → B) (none : B) (frame : Frame) → getD (map g frames) (indexOf frame) none ≡ g frame
+at-place g none Header = refl
+at-place g none Task = refl
+at-place g none Plan = refl
+at-place g none Server = refl
+at-place g none Placed = refl
+at-place g none Processor = refl
+at-place g none Refused = refl
+
 -- the table's entry at a frame's place is that frame's row
 pub row-at : (table : List Row) (none : Row) → table ≡ map rowOf frames → (frame : Frame) → getD table (indexOf frame) none ≡ rowOf frame
-row-at table none e Header = ap (λ (l : List Row). getD l 0 none) e
-row-at table none e Task = ap (λ (l : List Row). getD l 1 none) e
-row-at table none e Plan = ap (λ (l : List Row). getD l 2 none) e
-row-at table none e Server = ap (λ (l : List Row). getD l 3 none) e
-row-at table none e Placed = ap (λ (l : List Row). getD l 4 none) e
-row-at table none e Processor = ap (λ (l : List Row). getD l 5 none) e
-row-at table none e Refused = ap (λ (l : List Row). getD l 6 none) e
+row-at table none e frame = ap (λ (l : List Row). getD l (indexOf frame) none) e ∙ at-place rowOf none frame
+
+all-true : (n k : ℕ) → getD (replicate n true) k true ≡ true
+all-true zero k = refl
+all-true (suc n) zero = refl
+all-true (suc n) (suc k) = all-true n k
+
+-- a test that computes to true over all frames passes at each
+pub at-frame : (test : Frame → Bool) → map test frames ≡ replicate 7 true → (frame : Frame) → test frame ≡ true
+at-frame test e frame =
+    sym (at-place test true frame)
+    ∙ ap (λ (l : List Bool). getD l (indexOf frame) true) e
+    ∙ all-true 7 (indexOf frame)
+
+pub index-seven : (frame : Frame) → indexOf frame < 7
+index-seven frame = ltb-true (indexOf frame) 7 (at-frame (λ (f : Frame). ltb (indexOf f) 7) refl frame)
+
+-- a kind is two legal digits
+pub kind-length : (frame : Frame) → length (kindOf frame) ≡ 2
+unfolding kindOf
+kind-length frame = eqb-true (length (kindOf frame)) 2 (at-frame (λ (f : Frame). eqb (length (kindOf f)) 2) refl frame)
+
+pub kind-legal : (frame : Frame) → allLegal (kindOf frame) ≡ true
+unfolding kindOf allLegal legal
+kind-legal frame = at-frame (λ (f : Frame). allLegal (kindOf f)) refl frame
+
+two : (l : List ℕ) → length l ≡ 2 → l ≡ getD l 0 0 ∷ getD l 1 0 ∷ []
+two [] e = absurd (omega arith)
+two (a ∷ []) e = absurd (omega arith)
+two (a ∷ b ∷ []) e = refl
+two (a ∷ b ∷ d ∷ l) e = absurd (omega arith)
+
+pub kind-two : (frame : Frame) → kindOf frame ≡ getD (kindOf frame) 0 0 ∷ getD (kindOf frame) 1 0 ∷ []
+kind-two frame = two (kindOf frame) (kind-length frame)
+
+-- no frame has more than seven fields
+pub fields-seven : (frame : Frame) → length (widthsOf frame) ≤ 7
+unfolding widthsOf
+fields-seven frame = leb-true (length (widthsOf frame)) 7 (at-frame (λ (f : Frame). leb (length (widthsOf f)) 7) refl frame)
+
+-- no line is longer than thirty digits
+pub length-thirty : (frame : Frame) → lengthOf frame ≤ 30
+unfolding sum widthsOf
+length-thirty frame = leb-true (lengthOf frame) 30 (at-frame (λ (f : Frame). leb (lengthOf f) 30) refl frame)
 
 -- the line lengths of document 01
 pub line-lengths : map lengthOf frames ≡ 30 ∷ 22 ∷ 22 ∷ 20 ∷ 6 ∷ 12 ∷ 6 ∷ []
 unfolding sum widthsOf
 line-lengths = refl
-
--- no frame has more than seven fields
-pub fields-seven : (frame : Frame) → length (widthsOf frame) ≤ 7
-unfolding widthsOf
-fields-seven Header = lit≤ tt
-fields-seven Task = lit≤ tt
-fields-seven Plan = lit≤ tt
-fields-seven Server = lit≤ tt
-fields-seven Placed = lit≤ tt
-fields-seven Processor = lit≤ tt
-fields-seven Refused = lit≤ tt
 
 -- no list of widths has one above a bound
 abbrev below : ℕ → List ℕ → Bool
@@ -58,18 +94,9 @@ below-at n (w ∷ ws) p zero = leb-true w n (both-left (leb w n) (below n ws) p)
 below-at n (w ∷ ws) p (suc k) = below-at n ws (both-right (leb w n) (below n ws) p) k
 
 -- no field is wider than eight digits
-below-eight : (frame : Frame) → below 8 (widthsOf frame) ≡ true
-unfolding widthsOf
-below-eight Header = refl
-below-eight Task = refl
-below-eight Plan = refl
-below-eight Server = refl
-below-eight Placed = refl
-below-eight Processor = refl
-below-eight Refused = refl
-
 pub width-eight : (frame : Frame) (field : ℕ) → widthOf frame field ≤ 8
-width-eight frame field = below-at 8 (widthsOf frame) (below-eight frame) field
+unfolding widthsOf
+width-eight frame field = below-at 8 (widthsOf frame) (at-frame (λ (f : Frame). below 8 (widthsOf f)) refl frame) field
 
 -- zeros at the end of a list change no field
 getD-zeros : (ws : List ℕ) (n k : ℕ) → getD (ws ++ replicate n 0) k 0 ≡ getD ws k 0
@@ -108,58 +135,7 @@ place-within frame field = omega (arith, sum-take (widthsOf frame) field, sum-fr
 pub place-seven : (frame : Frame) → placeOf frame 7 ≡ lengthOf frame
 place-seven frame = ap (λ (ws : List ℕ). 2 + sum ws) (take-all 7 (widthsOf frame) (fields-seven frame))
 
--- no line is longer than thirty digits
-pub length-thirty : (frame : Frame) → lengthOf frame ≤ 30
-unfolding sum widthsOf
-length-thirty Header = lit≤ tt
-length-thirty Task = lit≤ tt
-length-thirty Plan = lit≤ tt
-length-thirty Server = lit≤ tt
-length-thirty Placed = lit≤ tt
-length-thirty Processor = lit≤ tt
-length-thirty Refused = lit≤ tt
-
-pub index-seven : (frame : Frame) → indexOf frame < 7
-index-seven Header = lit≤ tt
-index-seven Task = lit≤ tt
-index-seven Plan = lit≤ tt
-index-seven Server = lit≤ tt
-index-seven Placed = lit≤ tt
-index-seven Processor = lit≤ tt
-index-seven Refused = lit≤ tt
-
 -- the next field starts where this one ends
 pub place-next : (frame : Frame) (field : ℕ) → placeOf frame (field + 1) ≡ placeOf frame field + widthOf frame field
 place-next frame field =
     ap (λ (n : ℕ). placeOf frame n) (add-one field) ∙ omega (arith, sum-take (widthsOf frame) field)
-
--- a kind is two legal digits
-pub kind-length : (frame : Frame) → length (kindOf frame) ≡ 2
-unfolding kindOf
-kind-length Header = refl
-kind-length Task = refl
-kind-length Plan = refl
-kind-length Server = refl
-kind-length Placed = refl
-kind-length Processor = refl
-kind-length Refused = refl
-
-pub kind-legal : (frame : Frame) → allLegal (kindOf frame) ≡ true
-unfolding kindOf allLegal legal
-kind-legal Header = refl
-kind-legal Task = refl
-kind-legal Plan = refl
-kind-legal Server = refl
-kind-legal Placed = refl
-kind-legal Processor = refl
-kind-legal Refused = refl
-
-pub kind-two : (frame : Frame) → kindOf frame ≡ getD (kindOf frame) 0 0 ∷ getD (kindOf frame) 1 0 ∷ []
-unfolding kindOf
-kind-two Header = refl
-kind-two Task = refl
-kind-two Plan = refl
-kind-two Server = refl
-kind-two Placed = refl
-kind-two Processor = refl
-kind-two Refused = refl

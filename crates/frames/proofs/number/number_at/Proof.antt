@@ -44,7 +44,8 @@ value-requires c κs =
     part-legal (a .text .now) (a .at) (a .width) (c .before .before .loop .i) (omega arith) (omega arith) (c .before .before .loop .inv .2)
 
 -- the number with the digit read stays below its power
-grown : (c : tie.After-value Inv-loop μ-loop) → c .before .before .before .loop .sum * 16 + c .value .result < 16 ^ (c .before .before .before .loop .i + 1)
+grown : (c : tie.After-value Inv-loop μ-loop)
+    → c .before .before .before .loop .sum * 16 + c .value .result < 16 ^ (c .before .before .before .loop .i + 1)
 grown c =
     let a = c .before .before .before .before .before .args in
     let l = c .before .before .before .loop in
