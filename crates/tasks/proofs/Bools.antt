@@ -11,6 +11,10 @@ use Rattle.frames.specs.declared.refusal.Refusal.{Refusal}
 use Rattle.frames.specs.declared.refusal.Outcome.{Outcome}
 use Rattle.frames.specs.declared.refusal.Outcome.the-variants.{Done, Refused}
 
+-- what tells two constructors apart proves anything
+pub clash : {A : Type 0} → _≡_ {A = ℕ} 0 1 → A
+clash z = absurd (omega arith)
+
 -- from Done as a refusal, or true as false, all follows
 pub done-refused : {A : Type 0} {r : Refusal} → Done ≡ Refused r → A
 done-refused {A} {r} e = let z : _≡_ {A = ℕ} 0 1 = cc in absurd (omega arith)

@@ -4,3 +4,7 @@ pub mod Carried
 pub mod Some
 pub mod WriteAsks
 pub mod WriteText
+pub mod Past
+pub mod Lines
+pub mod Standing
+pub mod Reading

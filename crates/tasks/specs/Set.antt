@@ -1,8 +1,8 @@
 -- The task set as a value: its tasks in file order, the all-zero set, and the set with its unused room at zero.
 -- Document 01, "The numbers of a task set" and "Refusal numbers and their order".
-use Prim.Native.Nat.{ℕ, _-_}
+use Prim.Native.Nat.{ℕ, _+_, _-_}
 use mathlib.Core.List.{List, _++_}
-use lib.ListN.{length, take, replicate}
+use lib.ListN.{length, take, replicate, set as put}
 use Rattle.tasks.specs.declared.set.Header.{Header}
 use Rattle.tasks.specs.declared.set.Task.{Task}
 use Rattle.tasks.specs.declared.set.TaskSet.{TaskSet}
@@ -33,3 +33,7 @@ members set = take (set .count) (set .tasks)
 -- a set of these tasks, its unused room at zero
 unfoldable pub setOf : Header → List Task → TaskSet
 setOf header ts = record { header = header; count = length ts; tasks = ts ++ replicate (mostTasks - length ts) zeroTask }
+
+-- a set with one task more at its first unused place
+abbrev pub withTask : TaskSet → Task → TaskSet
+withTask set task = record { header = set .header; count = set .count + 1; tasks = put (set .tasks) (set .count) task }
