@@ -1,0 +1,29 @@
+# Finds, or installs, what the outside tests build and run with. Everything that is linked is for x86-64, as the proved
+# archives are; another processor runs it under an emulator.
+# Sets CC, RUSTC and RUN (arrays).
+have() { command -v "$1" >/dev/null 2>&1; }
+
+install() {
+  echo "installing: $*"
+  apt-get update -qq && DEBIAN_FRONTEND=noninteractive apt-get install -y -qq --no-install-recommends "$@" >/dev/null
+}
+
+tools() {
+  if [ "$(uname -m)" = x86_64 ]; then
+    have gcc || install gcc libc6-dev
+    have rustc || install rustc
+    CC=(gcc)
+    RUSTC=(rustc)
+    RUN=()
+    return
+  fi
+  have x86_64-linux-gnu-gcc || install gcc-x86-64-linux-gnu
+  have qemu-x86_64 || install qemu-user
+  if [ ! -d /usr/lib/rustlib/x86_64-unknown-linux-gnu ]; then
+    dpkg --add-architecture amd64
+    install rustc libstd-rust-dev:amd64
+  fi
+  CC=(x86_64-linux-gnu-gcc)
+  RUSTC=(/usr/bin/rustc --target x86_64-unknown-linux-gnu -C linker=x86_64-linux-gnu-gcc)
+  RUN=(qemu-x86_64)
+}
