@@ -27,6 +27,9 @@ pub either-right : (a b : Bool) → either a b ≡ false → b ≡ false
 either-right true b p = cc
 either-right false b p = p
 
+pub either-none : {a b : Bool} → a ≡ false → b ≡ false → either a b ≡ false
+either-none p q = rw (p, q)
+
 -- of a header only the slot can be too large
 pub header-overflow : (h : Header) → h .processors < 256 → h .relj < 65536 → h .relo < 65536 → h .ctswo < 65536 → h .resd < 65536 → h .cpmdo < 65536 → headerOverflows h ≡ ltb 16777215 (h .slot)
 unfolding headerOverflows
@@ -53,6 +56,19 @@ unfolding askRow
 ask-rows set p q r t = rw (p, q, r, t)
 
 -- a set that row 11 lets pass breaks none of its parts
-pub ask-count : (set : TaskSet) → askRow set ≡ false → countRow set ≡ false
-unfolding askRow
-ask-count set p = either-left (countRow set) _ p
+module _ (set : TaskSet) (pass : askRow set ≡ false) where
+  pub ask-count : countRow set ≡ false
+  unfolding askRow
+  ask-count = either-left (countRow set) _ pass
+
+  pub ask-twice : twiceRow (members set) ≡ false
+  unfolding askRow
+  ask-twice = either-left (twiceRow (members set)) _ (either-right (countRow set) _ pass)
+
+  pub ask-header : headerOverflows (set .header) ≡ false
+  unfolding askRow
+  ask-header = either-left (headerOverflows (set .header)) _ (either-right (twiceRow (members set)) _ (either-right (countRow set) _ pass))
+
+  pub ask-tasks : some taskOverflows (members set) ≡ false
+  unfolding askRow
+  ask-tasks = either-right (headerOverflows (set .header)) _ (either-right (twiceRow (members set)) _ (either-right (countRow set) _ pass))

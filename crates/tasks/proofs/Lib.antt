@@ -8,3 +8,4 @@ pub mod Past
 pub mod Lines
 pub mod Standing
 pub mod Reading
+pub mod WriteAnswers

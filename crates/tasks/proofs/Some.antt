@@ -1,17 +1,19 @@
 -- Laws of the tests over a set's tasks, read task by task from a place on: some task meets a test, an id repeats.
 -- Assumes nothing.
-use Prim.Native.Nat.{ℕ, suc, _+_, _≤_, _<_}
+use Prim.Native.Nat.{ℕ, zero, suc, _+_, _≤_, _<_}
 use mathlib.Core.Path.{_≡_, refl, sym, _∙_, ap}
 use mathlib.Core.Bool.{Bool, true, false}
-use mathlib.Core.List.{List, [], _∷_}
+use mathlib.Core.List.{List, [], _∷_, _++_}
 use native.Mathlib.Numerals.{add-one}
 use native.Mathlib.Omega.{arith}
 use lib.Dec.{eqb}
 use lib.ListN.{length, take, drop, getD, drop-of-length-le}
 use lib.Seq.{drop-cons, getD-take, length-take-le}
+use borrow.Author.Tests.{ne-eqb, eqb-false}
 use Rattle.frames.specs.Digit.{either}
 use Rattle.tasks.specs.declared.set.Task.{Task}
 use Rattle.tasks.specs.Rows.{some, twiceRow}
+use Rattle.tasks.proofs.Carried.{either-left, either-right, either-none}
 
 pub some-nil : (p : Task → Bool) → some p [] ≡ false
 unfolding some
@@ -62,3 +64,41 @@ twice-left ts n i none b fits inside e =
 
 pub twice-end : (ts : List Task) (n i : ℕ) → n ≤ length ts → n ≤ i → twiceRow (drop i (take n ts)) ≡ false
 twice-end ts n i fits past = ap twiceRow (left-none ts n i fits past) ∙ twice-nil
+
+-- a test that no task meets fails at each
+pub some-at : (p : Task → Bool) (ts : List Task) (i : ℕ) (none : Task) → some p ts ≡ false → i < length ts → p (getD ts i none) ≡ false
+some-at p [] i none e h = absurd (omega arith)
+some-at p (t ∷ ts) zero none e h = either-left (p t) (some p ts) (sym (some-cons p t ts) ∙ e)
+some-at p (t ∷ ts) (suc i) none e h = some-at p ts i none (either-right (p t) (some p ts) (sym (some-cons p t ts) ∙ e)) (omega arith)
+
+-- one task more behind them, which does not meet it either
+pub some-more : (p : Task → Bool) (ts : List Task) (t : Task) → some p ts ≡ false → p t ≡ false → some p (ts ++ (t ∷ [])) ≡ false
+some-more p [] t e f = some-cons p t [] ∙ either-none f (some-nil p)
+some-more p (u ∷ ts) t e f =
+    let g : either (p u) (some p ts) ≡ false = sym (some-cons p u ts) ∙ e in
+    some-cons p u (ts ++ (t ∷ [])) ∙ either-none (either-left (p u) (some p ts) g) (some-more p ts t (either-right (p u) (some p ts) g) f)
+
+-- ids that differ, the other way round
+pub other-way : (a b : ℕ) → eqb a b ≡ false → eqb b a ≡ false
+other-way a b e = ne-eqb b a (λ (p : b ≡ a). eqb-false a b e (sym p))
+
+-- where no id repeats, no task before a place has the id of the one there
+pub twice-before : (ts : List Task) (i : ℕ) (none : Task) → twiceRow ts ≡ false → i < length ts → some (sameId (getD ts i none)) (take i ts) ≡ false
+twice-before [] i none e h = absurd (omega arith)
+twice-before (t ∷ ts) zero none e h = some-nil (sameId t)
+twice-before (t ∷ ts) (suc i) none e h =
+    let f : either (some (sameId t) ts) (twiceRow ts) ≡ false = sym (twice-cons t ts) ∙ e in
+    some-cons (sameId (getD ts i none)) t (take i ts)
+    ∙ either-none (other-way (getD ts i none .id) (t .id) (some-at (sameId t) ts i none (either-left (some (sameId t) ts) (twiceRow ts) f) (omega arith)))
+    (twice-before ts i none (either-right (some (sameId t) ts) (twiceRow ts) f) (omega arith))
+
+-- one task more behind them, whose id none of them has
+pub twice-more : (ts : List Task) (t : Task) → twiceRow ts ≡ false → some (sameId t) ts ≡ false → twiceRow (ts ++ (t ∷ [])) ≡ false
+twice-more [] t e f = twice-cons t [] ∙ either-none (some-nil (sameId t)) twice-nil
+twice-more (u ∷ ts) t e f =
+    let g : either (some (sameId u) ts) (twiceRow ts) ≡ false = sym (twice-cons u ts) ∙ e in
+    let h : either (sameId t u) (some (sameId t) ts) ≡ false = sym (some-cons (sameId t) u ts) ∙ f in
+    twice-cons u (ts ++ (t ∷ []))
+    ∙ either-none
+    (some-more (sameId u) ts t (either-left (some (sameId u) ts) (twiceRow ts) g) (other-way (u .id) (t .id) (either-left (sameId t u) (some (sameId t) ts) h)))
+    (twice-more ts t (either-right (some (sameId u) ts) (twiceRow ts) g) (either-right (sameId t u) (some (sameId t) ts) h))

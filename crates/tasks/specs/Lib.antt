@@ -4,3 +4,4 @@ pub mod File
 pub mod Shape
 pub mod Read
 pub mod Write
+pub mod WriteClaims

@@ -17,7 +17,8 @@ ghost use lib.ListN.{length as bytes};
 ghost use Rattle.frames.specs.Table.{lengthOf};
 ghost use Rattle.frames.specs.Line.{lineOf, stored};
 ghost use Rattle.tasks.specs.Set.{mostTasks};
-ghost use Rattle.tasks.specs.Write.{headerValues, taskValues, textOf, writerAsks, writeOf, leaves};
+ghost use Rattle.tasks.specs.Write.{headerValues, taskValues, textOf, writerAsks};
+ghost use Rattle.tasks.specs.WriteClaims.{Wrote};
 
 // 11 ASK of the task writer.
 pub fn writer_asks(set: TaskSet) -> bool
@@ -95,7 +96,7 @@ fn put_text(out: &mut [u8], set: TaskSet)
 
 // The bytes written, or the refusal.
 pub fn write(set: TaskSet, out: &mut [u8]) -> Written
-    ensures { λ r. ⌜ (r ≡ writeOf set (now (out .entry))) × (now (out .exit) ≡ leaves (writeOf set (now (out .entry))) (now (out .entry)) (textOf set)) ⌝ }
+    ensures { λ r. ⌜ Wrote set (now (out .entry)) r (now (out .exit)) ⌝ }
 {
     if writer_asks(set) {
         return Written::Refused(Refusal::Ask);
