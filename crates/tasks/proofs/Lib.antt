@@ -9,3 +9,4 @@ pub mod Lines
 pub mod Standing
 pub mod Reading
 pub mod WriteAnswers
+pub mod RoundTripSet
