@@ -4,7 +4,7 @@ use native.Mathlib.Omega.{arith}
 use mathlib.Core.Path.{_≡_, refl, sym, ap, _∙_}
 use mathlib.Core.Logic.{_⊎_, inl, inr, ⊎-elim}
 use mathlib.Core.Bool.{Bool, true, false, false≢true}
-use native.Mathlib.Nat.{le-suc-iff, eq-or-lt-of-le}
+use native.Mathlib.Nat.{le-suc-iff}
 use native.Mathlib.Decide.{decLt}
 use Rattle.demand.specs.Demand.{pick}
 use Rattle.verdict.specs.Search.{lastUpTo, firstUpTo, orElse}

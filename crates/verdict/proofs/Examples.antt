@@ -10,7 +10,6 @@ use Rattle.demand.specs.Supply.{supplyPast, supply}
 use Rattle.verdict.specs.Search.{firstUpTo}
 use Rattle.verdict.specs.Verdict.{failing, ownHorizon, firstFailing, verdictAt, verdictOf, passing}
 use Rattle.verdict.specs.Reserve.{enough, smallestReserve}
-use Rattle.verdict.specs.declared.answer.Reading.{Reading}
 use Rattle.verdict.specs.declared.answer.Verdict.the-variants.{Yes, No}
 
 -- a server with one task, without overheads

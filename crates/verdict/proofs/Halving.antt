@@ -1,10 +1,10 @@
 -- The halving of `first_short`, over any property of lengths: what holds at each turn.
-use Prim.Native.Nat.{ℕ, zero, suc, _+_, _≤_, _<_}
+use Prim.Native.Nat.{ℕ, _+_, _≤_, _<_}
 use native.Mathlib.Omega.{arith}
 use native.Mathlib.Decide.{decLt}
 use mathlib.Core.Path.{_≡_, sym, _∙_}
 use mathlib.Core.Bool.{Bool, true}
-use Rattle.verdict.specs.Search.{lastUpTo, firstUpTo, NoneIn, Last, First}
+use Rattle.verdict.specs.Search.{lastUpTo, firstUpTo, NoneIn, Last}
 use Rattle.verdict.proofs.Bounded.{none-has, last-zero, last-found, first-none, first-is}
 
 -- none up to lo has p, and top has it

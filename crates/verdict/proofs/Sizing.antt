@@ -3,7 +3,7 @@ use Prim.Native.Nat.{ℕ, zero, suc, _+_, _-_, _^_, _≤_, _<_}
 use native.Mathlib.Omega.{arith}
 use native.Mathlib.Nat.{le-antisymm}
 use native.Mathlib.Decide.{decLt}
-use mathlib.Core.Path.{_≡_, refl, sym, ap, _∙_}
+use mathlib.Core.Path.{_≡_, refl, sym, _∙_}
 use mathlib.Core.Logic.{_⊎_, inl, inr, ⊎-elim}
 use mathlib.Core.Bool.{Bool, true, false, _&&_, false≢true}
 use mathlib.Core.List.{List}
@@ -12,7 +12,7 @@ use borrow.Author.Tests.{lt-ltb, le-ltb, ltb-true}
 use Rattle.demand.specs.Load.{Load}
 use Rattle.demand.specs.Supply.{Ring, Allowed}
 use Rattle.demand.specs.Passes.{Passes}
-use Rattle.verdict.specs.Search.{firstUpTo, orElse, NoneIn, First}
+use Rattle.verdict.specs.Search.{firstUpTo, NoneIn, First}
 use Rattle.verdict.specs.Verdict.{passing}
 use Rattle.verdict.specs.Reserve.{enough, smallestReserve, Smallest}
 use Rattle.verdict.specs.Claims.{Asked, ReserveMeans, ReserveOne, OneLess}

@@ -3,19 +3,19 @@ use Prim.Native.Nat.{ℕ, zero, suc, _≤_, _<_, _∣_, suc-le-suc}
 use native.Mathlib.Omega.{arith}
 use native.Mathlib.Nat.{eq-zero-or-pos, le-of-suc-le-suc}
 use mathlib.Core.Path.{_≡_, refl, sym, ap, _∙_}
-use mathlib.Core.Logic.{_⊎_, _↔_, ⊎-elim}
-use mathlib.Core.Bool.{Bool, true, false, false≢true}
+use mathlib.Core.Logic.{⊎-elim}
+use mathlib.Core.Bool.{true, false, false≢true}
 use mathlib.Core.List.{List, [], _∷_, map}
 use borrow.Author.Tests.{ltb-true, ltb-false, lt-ltb, le-ltb}
 use Rattle.demand.specs.Load.{Load, Sound, Every}
 use Rattle.demand.specs.Demand.{demand}
-use Rattle.demand.specs.Supply.{Allowed, supply}
+use Rattle.demand.specs.Supply.{supply}
 use Rattle.demand.specs.Passes.{Passes}
 use Rattle.demand.proofs.Horizon.{loads-decide}
 use Rattle.demand.proofs.Reserve.{never-turns, alone-passes}
 use Rattle.wholes.specs.Multiple.{leastMultipleOf, Divide, AllPositive}
 use Rattle.wholes.proofs.MultipleLaws.{multiple-of-pos, others-divide-of}
-use Rattle.verdict.specs.Search.{lastUpTo, firstUpTo, NoneIn, First}
+use Rattle.verdict.specs.Search.{firstUpTo, NoneIn, First}
 use Rattle.verdict.specs.Verdict.{failing, ownHorizon, firstFailing, verdictAt, verdictOf, isYes, passing, Horizon}
 use Rattle.verdict.specs.Claims.{Asked, FailsFirst, PassingMeans, VerdictMeans, AnyHorizon, PassingStays, FirstMeans, LastMeans}
 use Rattle.verdict.specs.declared.answer.Reading.{Reading}

@@ -11,8 +11,6 @@ use Rattle.demand.specs.Passes.{Passes}
 use Rattle.verdict.specs.Search.{lastUpTo, firstUpTo, NoneIn, Last, First}
 use Rattle.verdict.specs.Verdict.{failing, firstFailing, verdictOf, passing, Horizon}
 use Rattle.verdict.specs.Reserve.{smallestReserve, Smallest}
-use Rattle.verdict.specs.declared.answer.Reading.{Reading}
-use Rattle.verdict.specs.declared.answer.Verdict.{Verdict}
 use Rattle.verdict.specs.declared.answer.Verdict.the-variants.{Yes, No}
 
 -- lastUpTo answers t exactly when t is the largest in 1..n, and 0 exactly when there is none

@@ -9,7 +9,6 @@ use Rattle.demand.specs.Load.{Load, Every}
 use Rattle.demand.specs.Demand.{demand}
 use Rattle.demand.specs.Supply.{supply}
 use Rattle.verdict.specs.Search.{firstUpTo}
-use Rattle.verdict.specs.declared.answer.Reading.{Reading}
 use Rattle.verdict.specs.declared.answer.Verdict.{Verdict}
 use Rattle.verdict.specs.declared.answer.Verdict.the-variants.{Yes, No}
 

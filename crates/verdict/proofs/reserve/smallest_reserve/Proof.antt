@@ -1,6 +1,6 @@
 -- `smallest_reserve` meets its contract. The loop's invariant: no reserve up to `lo` is enough; `hi` is, or it is the slot.
 -- The measure is the distance between them. Assumes nothing.
-use Prim.Native.Nat.{ℕ, _+_, _-_, _/_, _≤_, _<_}
+use Prim.Native.Nat.{_+_, _-_, _/_}
 use native.Mathlib.Omega.{arith}
 use Rattle.demand.specs.Load.{loadsOf}
 use Rattle.verdict.proofs.Judged.{asked-of}

@@ -1,10 +1,8 @@
 -- `first_short` meets its contract. The loop's invariant: no length up to `lo` is short, and `top` is.
 -- The measure is the distance between them. Assumes nothing.
-use Prim.Native.Nat.{ℕ, _+_, _-_, _/_, _≤_, _<_}
-use mathlib.Core.Path.{_≡_}
+use Prim.Native.Nat.{ℕ, _+_, _-_, _/_, _<_}
 use mathlib.Core.Bool.{Bool}
 use native.Mathlib.Omega.{arith}
-use borrow.Author.Needs.{needs}
 use Rattle.demand.specs.Load.{loadsOf}
 use Rattle.verdict.specs.Search.{short}
 use Rattle.verdict.proofs.Halving.{Halved, halving-starts, halving-none, halving-up, halving-down, halving-ends}
