@@ -6,7 +6,7 @@ use mathlib.Core.Path.{_≡_, sym, ap, _∙_, fun-ext}
 use mathlib.Core.Logic.{⊎-elim}
 use mathlib.Core.Bool.{Bool}
 use mathlib.Core.List.{List}
-use lib.Dec.{eqb, lit<}
+use lib.Dec.{eqb}
 use borrow.Author.Tests.{eq-eqb, ne-eqb}
 use Rattle.demand.specs.Load.{Load, Loaded, loadsOf}
 use Rattle.demand.specs.Demand.{demand}
@@ -39,8 +39,8 @@ module _ {ls : List Load} {S L R H : ℕ} (testable : Testable ls S L H) (allowe
   gap-usable e = omega (arith, e, gap-below S L R allowed (testable .slot-some))
 
   -- enough to search up to any length within the horizon
-  pub searched : {f K : ℕ} → f ≡ gap S L R → K ≤ H → Searched S f 0 K
-  searched e h = record { usable = gap-usable e; small-extra = lit< tt; small = omega (arith, testable .horizon-small) }
+  pub searched : {f extra K : ℕ} → f ≡ gap S L R → extra < 2 ^ 48 → K ≤ H → Searched S f extra K
+  searched e x h = record { usable = gap-usable e; small-extra = x; small = omega (arith, testable .horizon-small) }
 
 pub asked-of : {costs deadlines periods : List ℕ} {n S L H : ℕ} → Loaded costs deadlines periods n
     → Testable (loadsOf costs deadlines periods n) S L H → Asked (loadsOf costs deadlines periods n) S

@@ -10,7 +10,7 @@ gap-of-requires c κs = let s = c .before .before .before in gap-asked (s .pre .
 last-short-requires : tie.Need-last-short-requires
 last-short-requires c κs =
     let s = c .before .before .before .before in
-    (s .pre .0, searched (s .pre .1 .0) (s .pre .1 .1) (c .gap-of .ensures) (omega arith))
+    (s .pre .0, searched (s .pre .1 .0) (s .pre .1 .1) (c .gap-of .ensures) (omega arith) (omega arith))
 
 returns : tie.Need-returns
 returns c =

@@ -18,7 +18,7 @@ gap-of-requires c κs = let s = c .before .before .before in gap-asked (s .pre .
 first-short-requires : tie.Need-first-short-requires
 first-short-requires c κs =
     let s = c .before .before .before .before in
-    (s .pre .0, searched (s .pre .1 .0) (s .pre .1 .1) (c .gap-of .ensures) (omega arith))
+    (s .pre .0, searched (s .pre .1 .0) (s .pre .1 .1) (c .gap-of .ensures) (omega arith) (omega arith))
 
 returns : tie.Need-returns
 returns c =
