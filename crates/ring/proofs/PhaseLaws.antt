@@ -60,6 +60,12 @@ module _ (S : ℕ) (h : 1 ≤ S) where
   pub since-is : (s x d : ℕ) → d < S → (s + d) % S ≡ x % S → since S s x ≡ d
   since-is s x d l e = turn-once S s (since S s x) d (since-below s x) l (since-back s x ∙ sym e)
 
+  -- the same with the difference taken first
+  pub since-form : (s x : ℕ) → since S s x ≡ (x + (S - s % S)) % S
+  since-form s x =
+      let e : x + S - s % S ≡ x + (S - s % S) = omega (arith, mod-lt s h) in
+      ap (λ (n : ℕ). n % S) e
+
   -- j ticks later the turn is j longer
   pub since-later : (s x j : ℕ) → since S s (x + j) ≡ (since S s x + j) % S
   since-later s x j =

@@ -26,10 +26,9 @@ pub fn stand_at(reserves: &[u64], n: usize, slot: u64, at: Position) -> Stand
         if reserve < slot {
             end += reserve;
             if place < end {
-                return Stand {
-                    server: i as u64 + 1,
-                    left: end - place,
-                };
+                let server = i as u64 + 1;
+                let left = end - place;
+                return Stand { server, left };
             }
         }
         i += 1;

@@ -12,5 +12,7 @@ pub fn position(slot: u64, ring: u64, processor: u64, tick: Tick) -> Position
 {
     let x = tick.0;
     let length = ring * slot;
-    Position((x % length + (processor - 1) * slot) % length)
+    let reduced = x % length;
+    let offset = (processor - 1) * slot;
+    Position((reduced + offset) % length)
 }

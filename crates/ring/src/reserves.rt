@@ -4,7 +4,7 @@ ghost use mathlib.Core.Path.{_≡_};
 ghost use Prim.Native.Nat.{_≤_};
 ghost use lib.ListN.{take};
 ghost use Rattle.ring.specs.Laid.{Laid};
-ghost use Rattle.ring.specs.Reserves.{ringTicks, wholes, startOf, ringProcessors};
+ghost use Rattle.ring.specs.Reserves.{ringTicks, wholes, startOf, ringProcessors, idlePositions};
 
 // The sum of the reserves on the ring.
 pub fn ring_ticks(reserves: &[u64], n: usize, slot: u64) -> u64
@@ -45,6 +45,16 @@ pub fn ring_processors(reserves: &[u64], n: usize, slot: u64) -> u64
     ensures { λ r. ⌜ r ≡ ringProcessors slot (take n (now (reserves .entry))) ⌝ }
 {
     wholes::ceiling(ring_ticks(reserves, n, slot), slot)
+}
+
+// The positions after the last reserve.
+pub fn idle_positions(reserves: &[u64], n: usize, slot: u64) -> u64
+    requires { ⌜ Laid slot (now reserves) n ⌝ }
+    ensures { λ r. ⌜ r ≡ idlePositions slot (take n (now (reserves .entry))) ⌝ }
+{
+    let ticks = ring_ticks(reserves, n, slot);
+    let length = wholes::ceiling(ticks, slot) * slot;
+    length - ticks
 }
 
 // Where the reserve of ring server q starts: after all ring reserves of lower number.

@@ -59,6 +59,9 @@ pub fn first(reserves: &[u64], n: usize, slot: u64, processor: u64) -> Stand
         let at = position(slot, ring, processor, Tick(0));
         return stand_at(reserves, n, slot, at);
     }
-    let server = whole_server(reserves, n, slot, processor - ring - 1);
-    Stand { server, left: slot }
+    let own = whole_server(reserves, n, slot, processor - ring - 1);
+    Stand {
+        server: own,
+        left: slot,
+    }
 }

@@ -55,23 +55,25 @@ add-end c =
     let at = c .before .before .before in
     let laid = at .before .before .pre .0 in
     let h = c .before .before .loop-test .taken in
-    omega (arith, laid .slot-below, pass-more laid (at .loop .i) h (c .if1 .taken), ring-room laid (at .loop .i + 1) (omega arith))
+    omega (arith, laid .slot-below, laid .within (at .loop .i) h, ring-room laid (at .loop .i) (omega arith))
 
-add-t15 : tie.Need-add-t15 Inv-loop μ-loop
-add-t15 c = omega (arith, c .before .before .before .before .before .before .pre .0 .few)
+add-server : tie.Need-add-server Inv-loop μ-loop
+add-server c = omega (arith, c .before .before .before .before .before .before .pre .0 .few)
 
-sub-t16 : tie.Need-sub-t16 Inv-loop μ-loop
-sub-t16 c = search needs
+sub-left : tie.Need-sub-left Inv-loop μ-loop
+sub-left c = search needs
 
 returns : tie.Need-returns Inv-loop μ-loop
 returns c =
     let at = c .before .before .before .before in
-    stand-found (at .before .before .pre .0) (at .before .before .args .at) (at .loop .i) (at .loop .end)
-    (c .before .before .before .loop-test .taken)
-    (c .before .if1 .taken)
+    let a = at .before .before .args in
+    let reserve : ℕ = getD (a .reserves .now) (at .loop .i) 0 in
+    let ring : reserve < a .slot = omega (arith, c .before .if1 .taken) in
+    let before : a .at .0 < at .loop .end + reserve = omega (arith, c .if2 .taken) in
+    stand-found (at .before .before .pre .0) (a .at) (at .loop .i) (at .loop .end) (c .before .before .before .loop-test .taken) ring
     (at .loop .inv .1)
     (at .loop .inv .2)
-    (c .if2 .taken)
+    before
 
 add-i : tie.Need-add-i Inv-loop μ-loop
 add-i c = search needs
@@ -82,12 +84,17 @@ loop-less c = search needs
 loop-again : tie.Need-loop-again Inv-loop μ-loop
 loop-again c =
     let at = c .before .before .before in
+    let a = at .before .before .args in
     let laid = at .before .before .pre .0 in
     let h = c .before .before .loop-test .taken in (
       omega arith,
       ⊎-elim
-          (λ w. omega (arith, w .2, at .loop .inv .1, pass-more laid (at .loop .i) h (w .0 .taken)))
-          (λ w. omega (arith, w .1, at .loop .inv .1, pass-same laid (at .loop .i) h (w .0 .left)))
+          (λ w.
+          let l : getD (a .reserves .now) (at .loop .i) 0 < a .slot = omega (arith, w .0 .taken) in
+          omega (arith, w .2, at .loop .inv .1, pass-more laid (at .loop .i) h l))
+          (λ w.
+          let l : a .slot ≤ getD (a .reserves .now) (at .loop .i) 0 = omega (arith, w .0 .left) in
+          omega (arith, w .1, at .loop .inv .1, pass-same laid (at .loop .i) h l))
           (c .if1 .came),
       ⊎-elim (λ w. omega (arith, w .2, w .1 .left)) (λ w. omega (arith, w .1, at .loop .inv .2)) (c .if1 .came),
     )
@@ -116,8 +123,8 @@ stand-at-spec =
     mul-reserve
     shared-slice-read-reserve
     add-end
-    add-t15
-    sub-t16
+    add-server
+    sub-left
     returns
     add-i
     loop-less

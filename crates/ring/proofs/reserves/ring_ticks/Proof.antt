@@ -30,8 +30,9 @@ shared-slice-read-reserve c = search needs
 add-sum : tie.Need-add-sum Inv-loop μ-loop
 add-sum c =
     let at = c .before .before .before in
+    let laid = at .before .pre in
     let h = c .before .before .loop-test .taken in
-    omega (arith, at .before .pre .slot-below, pass-more (at .before .pre) (at .loop .i) h (c .if1 .taken), ring-room (at .before .pre) (at .loop .i + 1) (omega arith))
+    omega (arith, laid .slot-below, laid .within (at .loop .i) h, ring-room laid (at .loop .i) (omega arith))
 
 add-i : tie.Need-add-i Inv-loop μ-loop
 add-i c = search needs
@@ -42,11 +43,16 @@ loop-less c = search needs
 loop-again : tie.Need-loop-again Inv-loop μ-loop
 loop-again c =
     let at = c .before .before .before in
+    let a = at .before .args in
     let h = c .before .before .loop-test .taken in (
       omega arith,
       ⊎-elim
-          (λ w. omega (arith, w .1, at .loop .inv .1, pass-more (at .before .pre) (at .loop .i) h (w .0 .taken)))
-          (λ w. omega (arith, w .1, at .loop .inv .1, pass-same (at .before .pre) (at .loop .i) h (w .0 .left)))
+          (λ w.
+          let l : getD (a .reserves .now) (at .loop .i) 0 < a .slot = omega (arith, w .0 .taken) in
+          omega (arith, w .1, at .loop .inv .1, pass-more (at .before .pre) (at .loop .i) h l))
+          (λ w.
+          let l : a .slot ≤ getD (a .reserves .now) (at .loop .i) 0 = omega (arith, w .0 .left) in
+          omega (arith, w .1, at .loop .inv .1, pass-same (at .before .pre) (at .loop .i) h l))
           (c .if1 .came),
     )
 

@@ -15,7 +15,7 @@ sub-before : tie.Need-sub-before
 sub-before c = search needs
 
 ring-ticks-requires : tie.Need-ring-ticks-requires
-ring-ticks-requires c κs = fewer (c .before .pre .0) (c .before .args .q - 1) (omega arith)
+ring-ticks-requires c κs = fewer (c .before .pre .0) _ (omega arith)
 
 returns : tie.Need-returns
 returns c =

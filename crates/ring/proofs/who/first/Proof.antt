@@ -1,6 +1,8 @@
 -- `who::first` meets its contract: a ring processor by its position, any other by its own server.
 -- Assumes nothing.
+use Prim.Native.Nat.{_≤_, _<_}
 use mathlib.Core.Path.{_∙_}
+use native.Mathlib.Omega.{arith}
 use Rattle.ring.proofs.WhoLaws.{phase-asks, phase-lands, first-lands, first-own}
 use borrow.Author.Needs.{needs}
 use Rattle.ring.proofs.who.first.Statement.{statement}
@@ -10,20 +12,23 @@ ring-processors-requires : tie.Need-ring-processors-requires
 ring-processors-requires c κs = search needs
 
 position-requires : tie.Need-position-requires
-position-requires c κs = phase-asks (c .before .before .before .pre .0) (c .before .ring-processors .ensures) (c .before .before .before .pre .1) (c .if1 .taken)
+position-requires c κs =
+    let s = c .before .before .before in
+    let l : s .args .processor ≤ c .before .ring-processors .result = omega (arith, c .if1 .taken) in
+    phase-asks (s .pre .0) (c .before .ring-processors .ensures) (s .pre .1) l
 
 stand-at-requires : tie.Need-stand-at-requires
 stand-at-requires c κs =
-    let s = c .before .before .before .before in (
-      s .pre .0,
-      phase-lands (s .pre .0) (c .before .before .ring-processors .ensures) (c .position .result) _ (s .pre .1) (c .before .if1 .taken) (c .position .ensures),
-    )
+    let s = c .before .before .before .before in
+    let l : s .args .processor ≤ c .before .before .ring-processors .result = omega (arith, c .before .if1 .taken) in
+    (s .pre .0, phase-lands (s .pre .0) (c .before .before .ring-processors .ensures) (c .position .result) _ (s .pre .1) l (c .position .ensures))
 
 returns : tie.Need-returns
 returns c =
     let s = c .before .before .before .before .before in
+    let l : s .args .processor ≤ c .before .before .before .ring-processors .result = omega (arith, c .before .before .if1 .taken) in
     c .stand-at .ensures ∙
-    first-lands (s .pre .0) (c .before .before .before .ring-processors .ensures) (c .before .position .result) (s .pre .1) (c .before .before .if1 .taken) (c .before .position .ensures)
+    first-lands (s .pre .0) (c .before .before .before .ring-processors .ensures) (c .before .position .result) (s .pre .1) l (c .before .position .ensures)
 
 sub-whole-server : tie.Need-sub-whole-server
 sub-whole-server c = search needs
@@ -37,7 +42,8 @@ whole-server-requires c κs = search needs
 returns-2 : tie.Need-returns-2
 returns-2 c =
     let s = c .before .before .before .before in
-    first-own (s .pre .0) (c .before .before .ring-processors .ensures) (c .whole-server .result) (c .before .if1 .left) (c .whole-server .ensures)
+    let l : c .before .before .ring-processors .result < s .args .processor = omega (arith, c .before .if1 .left) in
+    first-own (s .pre .0) (c .before .before .ring-processors .ensures) (c .whole-server .result) l (c .whole-server .ensures)
 
 pub first-spec : {M : Type 1} → statement M
 first-spec =

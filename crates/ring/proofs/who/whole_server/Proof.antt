@@ -4,7 +4,6 @@ use Prim.Native.Nat.{ℕ, suc, _+_, _-_, _≤_, _<_}
 use mathlib.Core.Path.{_≡_, refl, sym, ap, _∙_}
 use mathlib.Core.Logic.{⊎-elim}
 use borrow.Author.Needs.{needs}
-use native.Mathlib.Nat.{pos-of-ne-zero}
 use native.Mathlib.Omega.{arith}
 use lib.ListN.{length, getD, take, drop}
 use Rattle.ring.specs.Who.{wholeFrom, wholeServer}
@@ -34,9 +33,11 @@ add-result c = omega (arith, c .before .before .before .before .before .pre .few
 returns : tie.Need-returns Inv-loop μ-loop
 returns c =
     let at = c .before .before .before .before in
+    let a = at .before .args in
+    let slot : a .slot ≤ getD (a .reserves .now) (at .loop .i) 0 = omega (arith, c .before .if1 .taken) in
+    let none : at .loop .more ≡ 0 = omega (arith, c .if2 .taken) in
     sym
-    (at .loop .inv .1 ∙
-    walk-here (at .before .pre) (at .loop .i) (at .loop .more) (c .before .before .before .loop-test .taken) (c .before .if1 .taken) (c .if2 .taken))
+    (at .loop .inv .1 ∙ walk-here (at .before .pre) (at .loop .i) (at .loop .more) (c .before .before .before .loop-test .taken) slot none)
 
 sub-more : tie.Need-sub-more Inv-loop μ-loop
 sub-more c = search needs
@@ -57,9 +58,12 @@ loop-again c =
       omega arith,
       ⊎-elim
           (λ w.
-          let some : 1 ≤ at .loop .more = pos-of-ne-zero (w .1 .left) in
-          at .loop .inv .1 ∙ walk-next laid (at .loop .i) (at .loop .more) h (w .0 .taken) some ∙ ap next (sym (w .2)))
-          (λ w. at .loop .inv .1 ∙ walk-past laid (at .loop .i) (at .loop .more) h (w .0 .left) ∙ ap next (sym (w .1)))
+          let slot : a .slot ≤ getD (a .reserves .now) (at .loop .i) 0 = omega (arith, w .0 .taken) in
+          let some : 1 ≤ at .loop .more = omega (arith, w .1 .left) in
+          at .loop .inv .1 ∙ walk-next laid (at .loop .i) (at .loop .more) h slot some ∙ ap next (sym (w .2)))
+          (λ w.
+          let ring : getD (a .reserves .now) (at .loop .i) 0 < a .slot = omega (arith, w .0 .left) in
+          at .loop .inv .1 ∙ walk-past laid (at .loop .i) (at .loop .more) h ring ∙ ap next (sym (w .1)))
           (c .if1 .came),
     )
 
