@@ -1,13 +1,14 @@
 -- `frames::number::value` meets its contract: the value of a legal digit by its two cases.
 -- Assumes nothing.
 use mathlib.Core.Path.{sym}
+use native.Mathlib.Omega.{arith}
 use borrow.Author.Needs.{needs}
 use Rattle.frames.proofs.Digits.{legal-low, value-figure, value-letter}
 use Rattle.frames.proofs.number.value.Statement.{statement}
 use Rattle.frames.proofs.number.value.Tie as tie
 
 sub-result : tie.Need-sub-result
-sub-result c = legal-low _ (c .before .pre)
+sub-result c = omega (arith, legal-low (c .before .args .b) (c .before .pre))
 
 cast-result : tie.Need-cast-result
 cast-result c = search needs
