@@ -10,3 +10,6 @@ pub mod Standing
 pub mod Reading
 pub mod WriteAnswers
 pub mod RoundTripSet
+pub mod FirstLaws
+pub mod Exactly
+pub mod Accepted

@@ -1,0 +1,100 @@
+-- What is promised of reading a task file: each refusal exactly when its row says, and what an accepted file is.
+-- Document 01, "Refusal numbers and their order" and "How tight each promise is".
+use Prim.Native.Nat.{ℕ, suc, _+_, _<_, _≤_}
+use mathlib.Core.List.{List, []}
+use mathlib.Core.Bool.{Bool, true, false}
+use mathlib.Core.Path.{_≡_}
+use mathlib.Core.Logic.{_↔_}
+use lib.ListN.{length}
+use Rattle.frames.specs.Refused.{numberOf}
+use Rattle.frames.specs.declared.refusal.Refusal.{Refusal}
+use Rattle.frames.specs.declared.refusal.Refusal.the-variants.{Line, Order, Count, Twice, Board, Range}
+use Rattle.frames.specs.declared.refusal.Outcome.the-variants.{Done, Refused}
+use Rattle.tasks.specs.declared.set.TaskSet.{TaskSet}
+use Rattle.tasks.specs.declared.read.ReadAnswer.{ReadAnswer}
+use Rattle.tasks.specs.Set.{mostTasks, zeroSet, members}
+use Rattle.tasks.specs.Rows.{boardRow, rangeRow}
+use Rattle.tasks.specs.File.{past, tasksIn, lineRow, orderRow, countLineRow, twiceLineRow, lineOutcome, headerAt, taskAt, tasksFrom}
+use Rattle.tasks.specs.Read.{readOf}
+use Rattle.tasks.specs.Shape.{Shaped, placeAfter}
+
+-- rows 1 to 4, which are tested at a line
+pub data LineRow : Type 0 where
+  LINE ORDER COUNT TWICE : LineRow
+
+abbrev pub refusalAt : LineRow → ℕ → Refusal
+refusalAt LINE k = Line k
+refusalAt ORDER k = Order k
+refusalAt COUNT k = Count k
+refusalAt TWICE k = Twice k
+
+abbrev pub holdsAt : LineRow → List ℕ → ℕ → Bool
+holdsAt LINE text k = lineRow text k
+holdsAt ORDER text k = orderRow text k
+holdsAt COUNT text k = countLineRow text k
+holdsAt TWICE text k = twiceLineRow text k
+
+-- no row holds at any line before line k, or at any line
+abbrev pub Clear : List ℕ → ℕ → Type 0
+Clear text k = (j : ℕ) → 1 ≤ j → j < k → lineOutcome text j ≡ Done
+
+abbrev pub AllClear : List ℕ → Type 0
+AllClear text = (j : ℕ) → 1 ≤ j → lineOutcome text j ≡ Done
+
+-- rows 1 to 4 with place k: no row holds before line k, and of those that hold there this is the lowest
+pub record FirstAt (row : LineRow) (text : List ℕ) (k : ℕ) : Type 0 where
+  pub counted : 1 ≤ k
+  pub clear : Clear text k
+  pub lower : (other : LineRow) → numberOf (refusalAt other k) < numberOf (refusalAt row k) → holdsAt other text k ≡ false
+  pub holds : holdsAt row text k ≡ true
+
+abbrev pub ReadExactlyLine : Type 0
+ReadExactlyLine = (row : LineRow) (text : List ℕ) (k : ℕ) → (readOf text .outcome ≡ Refused (refusalAt row k)) ↔ FirstAt row text k
+
+-- row 5: every line is clear, and the header breaks it
+abbrev pub ReadExactlyBoard : Type 0
+ReadExactlyBoard =
+    (text : List ℕ) → (readOf text .outcome ≡ Refused Board) ↔ (AllClear text × (boardRow (headerAt text) ≡ true))
+
+-- row 6 with place k: every line is clear, the header is right, and task k is the first out of range
+pub record FirstRange (text : List ℕ) (k : ℕ) : Type 0 where
+  pub clear : AllClear text
+  pub board : boardRow (headerAt text) ≡ false
+  pub counted : 1 ≤ k
+  pub within : k ≤ tasksIn text
+  pub holds : rangeRow (taskAt (past k text)) ≡ true
+  pub earlier : (j : ℕ) → 1 ≤ j → j < k → rangeRow (taskAt (past j text)) ≡ false
+
+abbrev pub ReadExactlyRange : Type 0
+ReadExactlyRange = (text : List ℕ) (k : ℕ) → (readOf text .outcome ≡ Refused (Range k)) ↔ FirstRange text k
+
+-- accepted: none of rows 1 to 6 holds
+pub record NoRow (text : List ℕ) : Type 0 where
+  pub clear : AllClear text
+  pub board : boardRow (headerAt text) ≡ false
+  pub range : (j : ℕ) → 1 ≤ j → j ≤ tasksIn text → rangeRow (taskAt (past j text)) ≡ false
+
+abbrev pub ReadExactlyDone : Type 0
+ReadExactlyDone = (text : List ℕ) → (readOf text .outcome ≡ Done) ↔ NoRow text
+
+-- the reader gives 1 to 6, and with a refusal the all-zero set
+abbrev pub ReadRefuses : Type 0
+ReadRefuses = (text : List ℕ) (r : Refusal) → readOf text .outcome ≡ Refused r → (numberOf r ≤ 6) × (readOf text .set ≡ zeroSet)
+
+-- two answers that keep the reader's promise coincide
+abbrev pub ReadDetermined : Type 0
+ReadDetermined = (text : List ℕ) (a b : ReadAnswer) → a ≡ readOf text → b ≡ readOf text → a ≡ b
+
+-- an accepted file is a header and 1 to 64 tasks, nothing after them, and the answer holds those
+pub record Accepted (text : List ℕ) : Type 0 where
+  pub any : 1 ≤ tasksIn text
+  pub most : tasksIn text ≤ mostTasks
+  pub shaped : Shaped text (tasksIn text)
+  pub bytes : length text ≡ placeAfter (tasksIn text)
+  pub ended : past (suc (tasksIn text)) text ≡ []
+  pub header : readOf text .set .header ≡ headerAt text
+  pub count : readOf text .set .count ≡ tasksIn text
+  pub tasks : members (readOf text .set) ≡ tasksFrom text (tasksIn text)
+
+abbrev pub ReadAccepted : Type 0
+ReadAccepted = (text : List ℕ) → readOf text .outcome ≡ Done → Accepted text
