@@ -1,17 +1,16 @@
 -- When a server is on the board, and which of those ticks are usable to it: by x − start, modulo the slot.
 -- Assumes nothing.
-use Prim.Native.Nat.{ℕ, zero, suc, pred, _+_, _*_, _-_, _%_, _≤_, _<_}
-use mathlib.Core.Path.{_≡_, refl, sym, ap, subst, _∙_}
+use Prim.Native.Nat.{ℕ, zero, suc, _+_, _-_, _≤_, _<_}
+use mathlib.Core.Path.{_≡_, sym, ap, subst, _∙_}
 use mathlib.Core.List.{List}
-use mathlib.Core.Logic.{_⊎_, inl, inr, ⊎-elim, _↔_}
+use mathlib.Core.Logic.{inl, inr, ⊎-elim, _↔_}
 use native.Mathlib.Nat.{le-trans, le-of-eq}
 use native.Mathlib.Omega.{arith}
-use lib.ListN.{length, getD, take}
 use Rattle.ring.specs.declared.clock.Tick.{Tick}
-use Rattle.ring.specs.Reserves.{reserveOf, ringTicks, startOf, wholes, ringProcessors, ringLength, processorsOf}
+use Rattle.ring.specs.Reserves.{reserveOf, ringTicks, startOf, ringProcessors, ringLength}
 use Rattle.ring.specs.Phase.{phase}
 use Rattle.ring.specs.Who.{wholeServer}
-use Rattle.ring.specs.Serves.{RingServer, WholeProcessor, ServesOnRing, ServesWhole, Serves, OnBoard, UsableOnRing, Usable, sinceStart}
+use Rattle.ring.specs.Serves.{RingServer, WholeProcessor, ServesOnRing, ServesWhole, OnBoard, UsableOnRing, Usable, sinceStart}
 use Rattle.ring.specs.Claims.{Board}
 use Rattle.ring.proofs.Cases.{le-or-lt}
 use Rattle.ring.proofs.Starts.{ring-holds}

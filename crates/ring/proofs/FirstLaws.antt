@@ -1,10 +1,9 @@
 -- The reserves fill the ring up to their sum, and each ring processor has a first reserve of at least one tick.
 -- Assumes nothing.
-use Prim.Native.Nat.{ℕ, zero, suc, pred, _+_, _*_, _-_, _≤_, _<_}
-use mathlib.Core.Path.{_≡_, refl, sym, ap, subst, _∙_}
+use Prim.Native.Nat.{ℕ, zero, suc, _+_, _*_, _-_, _≤_, _<_}
+use mathlib.Core.Path.{_≡_, sym, ap, subst, _∙_}
 use mathlib.Core.List.{List}
-use mathlib.Core.Bool.{true}
-use mathlib.Core.Logic.{_⊎_, inl, inr, ⊎-elim}
+use mathlib.Core.Logic.{⊎-elim}
 use native.Mathlib.Nat.{le-refl, zero-mul}
 use native.Mathlib.Omega.{arith}
 use lib.ListN.{length, getD, take}
@@ -12,7 +11,7 @@ use lib.Seq.{take-length}
 use Rattle.ring.specs.declared.clock.Position.{Position}
 use Rattle.ring.specs.declared.cover.Stand.{Stand}
 use Rattle.ring.specs.Reserves.{reserveOf, ringTicks, startOf, ringProcessors, ringLength, idlePositions}
-use Rattle.ring.specs.Cover.{covers, covererUpTo, standAt}
+use Rattle.ring.specs.Cover.{covererUpTo}
 use Rattle.ring.specs.Who.{firstOf}
 use Rattle.ring.specs.Serves.{RingServer}
 use Rattle.ring.specs.Claims.{CoveredOnce, CoveredNever, FilledRing, First}

@@ -1,23 +1,22 @@
 -- In any S consecutive ticks a server holds exactly R processor ticks.
 -- Assumes nothing.
-use Prim.Native.Nat.{ℕ, zero, suc, pred, min, _+_, _*_, _-_, _%_, _≤_, _<_}
+use Prim.Native.Nat.{ℕ, zero, suc, min, _+_, _-_, _%_, _≤_, _<_}
 use mathlib.Core.Path.{_≡_, refl, sym, ap, subst, _∙_}
 use mathlib.Core.List.{List}
 use mathlib.Core.Bool.{Bool, true, false}
-use mathlib.Core.Logic.{_⊎_, inl, inr, ⊎-elim}
-use native.Mathlib.Nat.{le-refl, le-trans, le-suc-iff, add-assoc, add-suc, mod-eq-of-lt, mod-eq-sub-mod, le-antisymm}
+use mathlib.Core.Logic.{⊎-elim}
+use native.Mathlib.Nat.{le-refl, le-suc-iff, mod-eq-of-lt, mod-eq-sub-mod, le-antisymm}
 use native.Mathlib.Omega.{arith}
 use borrow.Author.Tests.{eqb-true, eq-eqb}
 use lib.Dec.{ltb, eqb}
-use lib.ListN.{length, getD}
+use lib.ListN.{length}
 use Rattle.ring.specs.declared.clock.Tick.{Tick}
-use Rattle.ring.specs.Laid.{Reserved}
-use Rattle.ring.specs.Reserves.{pick, reserveOf, startOf, processorsOf, ringProcessors, wholes}
+use Rattle.ring.specs.Reserves.{pick, reserveOf, startOf, processorsOf}
 use Rattle.ring.specs.Who.{whoOf}
 use Rattle.ring.specs.Serves.{RingServer, WholeProcessor, ServesOnRing, ServesWhole, Serves, OnBoard, sinceStart}
 use Rattle.ring.specs.Held.{later, countTo, heldAt, held}
 use Rattle.ring.proofs.Cases.{le-or-lt, pick-lt, pick-ge}
-use Rattle.ring.proofs.PhaseLaws.{since, since-below, since-later, turn-cases}
+use Rattle.ring.proofs.PhaseLaws.{since-below, since-later}
 use Rattle.ring.proofs.ServeLaws.{one-processor, named-served, served-named}
 use Rattle.ring.proofs.BoardLaws.{board-ring, board-whole}
 

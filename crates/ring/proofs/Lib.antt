@@ -10,4 +10,5 @@ pub mod ServeLaws
 pub mod BoardLaws
 pub mod HeldLaws
 pub mod FirstLaws
+pub mod RotaLaws
 pub mod Theorems

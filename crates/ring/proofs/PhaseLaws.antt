@@ -1,9 +1,9 @@
 -- Turns on a circle, and the phase rule: at each tick the ring processors stand on the positions of one residue, one on each.
 -- Assumes nothing.
-use Prim.Native.Nat.{ℕ, zero, suc, _+_, _*_, _-_, _/_, _%_, _≤_, _<_}
-use mathlib.Core.Path.{_≡_, refl, sym, ap, _∙_}
+use Prim.Native.Nat.{ℕ, _+_, _*_, _-_, _/_, _%_, _≤_, _<_}
+use mathlib.Core.Path.{_≡_, sym, ap, _∙_}
 use mathlib.Core.Logic.{_⊎_, inl, inr, ⊎-elim}
-use native.Mathlib.Nat.{le-trans, one-le-mul, mod-lt, mod-eq-of-lt, mod-eq-sub-mod, mod-add-mod, add-mod-mod, add-mul-mod-self-right, add-mul-div-right, div-add-mod', div-lt-iff-lt-mul, zero-add, mul-le-mul-right}
+use native.Mathlib.Nat.{one-le-mul, mod-lt, mod-eq-of-lt, mod-eq-sub-mod, mod-add-mod, add-mod-mod, add-mul-mod-self-right, add-mul-div-right, div-add-mod', div-lt-iff-lt-mul, zero-add, mul-le-mul-right}
 use native.Mathlib.Omega.{arith}
 use lib.Arith.{digits-div, digits-mod, mod-mul}
 use Rattle.ring.specs.declared.clock.Tick.{Tick}

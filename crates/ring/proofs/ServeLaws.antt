@@ -1,10 +1,9 @@
 -- Who serves whom: one server a processor, one processor a server, and the answer to "who runs" names it and stays.
 -- Assumes nothing.
-use Prim.Native.Nat.{ℕ, zero, suc, pred, _+_, _*_, _-_, _%_, _≤_, _<_}
-use mathlib.Core.Path.{_≡_, refl, sym, ap, subst, _∙_}
+use Prim.Native.Nat.{ℕ, zero, suc, _+_, _-_, _%_, _≤_, _<_}
+use mathlib.Core.Path.{_≡_, sym, ap, subst, _∙_}
 use mathlib.Core.List.{List}
-use mathlib.Core.Bool.{true}
-use mathlib.Core.Logic.{_⊎_, inl, inr, ⊎-elim, _↔_}
+use mathlib.Core.Logic.{_⊎_, inl, inr, ⊎-elim}
 use native.Mathlib.Nat.{le-trans, le-refl, mod-lt, mod-eq-of-lt, mod-add-mod, sub-add-eq}
 use native.Mathlib.Numerals.{sub-one}
 use native.Mathlib.Omega.{arith}
@@ -15,7 +14,7 @@ use Rattle.ring.specs.declared.clock.Position.{Position}
 use Rattle.ring.specs.declared.cover.Stand.{Stand}
 use Rattle.ring.specs.Reserves.{reserveOf, ringTicks, startOf, wholes, ringProcessors, ringLength, processorsOf}
 use Rattle.ring.specs.Phase.{phase}
-use Rattle.ring.specs.Cover.{covers, covererUpTo, standAt}
+use Rattle.ring.specs.Cover.{covererUpTo, standAt}
 use Rattle.ring.specs.Who.{wholeServer, whoOf}
 use Rattle.ring.specs.Serves.{ServesOnRing, ServesWhole, Serves}
 use Rattle.ring.specs.Held.{later}

@@ -1,19 +1,17 @@
 -- What stands at a position: the server that covers it with the rest of its reserve, or the idle stretch.
 -- Assumes nothing.
-use Prim.Native.Nat.{ℕ, zero, suc, pred, _+_, _*_, _-_, _≤_, _<_}
-use mathlib.Core.Path.{_≡_, refl, sym, ap, subst, _∙_}
+use Prim.Native.Nat.{ℕ, suc, _+_, _*_, _-_, _≤_, _<_}
+use mathlib.Core.Path.{_≡_, refl, sym, ap, _∙_}
 use mathlib.Core.List.{List}
-use native.Mathlib.Nat.{le-refl}
 use native.Mathlib.Numerals.{add-one}
 use native.Mathlib.Omega.{arith}
 use lib.ListN.{length, getD, take}
-use lib.Seq.{take-take, getD-take, take-length}
+use lib.Seq.{take-take, getD-take}
 use Rattle.ring.specs.declared.clock.Position.{Position}
 use Rattle.ring.specs.declared.cover.Stand.{Stand}
 use Rattle.ring.specs.Laid.{Laid}
 use Rattle.ring.specs.Reserves.{reserveOf, ringTicks, startOf, ringProcessors, ringLength}
 use Rattle.ring.specs.Cover.{covererUpTo, leftFrom, standAt}
-use Rattle.ring.proofs.Starts.{taken-length}
 use Rattle.ring.proofs.CoverLaws.{Covers, covers-there, coverer-is, coverer-none}
 
 module _ (S : ℕ) (rs : List ℕ) (at : Position) where

@@ -1,19 +1,18 @@
 -- Sums over the reserves in server order: where each ring server starts, how many have a whole processor, and the ring's length.
 -- Assumes nothing.
-use Prim.Native.Nat.{ℕ, zero, suc, pred, _+_, _*_, _-_, _≤_, _<_, _^_}
+use Prim.Native.Nat.{ℕ, zero, suc, _+_, _*_, _≤_, _<_, _^_}
 use mathlib.Core.Path.{_≡_, refl, sym, ap, _∙_}
 use mathlib.Core.List.{List, [], _∷_, _++_}
-use mathlib.Core.Logic.{_⊎_, inl, inr, ⊎-elim}
-use native.Mathlib.Nat.{le-trans, le-refl, mul-le-mul-right, add-assoc, add-zero, zero-mul}
+use mathlib.Core.Logic.{⊎-elim}
+use native.Mathlib.Nat.{le-trans, le-refl, mul-le-mul-right}
 use native.Mathlib.Numerals.{add-one}
 use native.Mathlib.Omega.{arith}
 use lib.Dec.{ltb}
 use lib.ListN.{length, getD, take, drop, take-append-drop}
-use lib.Seq.{take-suc, take-take, length-take-le, getD-take}
-use Rattle.wholes.specs.Ceiling.{Ceiling, ceilingOf}
+use lib.Seq.{take-suc, take-add, take-take, length-take-le, getD-take}
 use Rattle.wholes.proofs.CeilingLaws.{ceiling-least}
 use Rattle.ring.specs.Laid.{Laid, Reserved}
-use Rattle.ring.specs.Reserves.{pick, reserveOf, ringTicks, wholes, startOf, ringProcessors, ringLength}
+use Rattle.ring.specs.Reserves.{pick, ringTicks, wholes, ringProcessors, ringLength}
 use Rattle.ring.proofs.Cases.{le-or-lt, pick-lt, pick-ge}
 
 -- ---- a sum over a list, by the first element and the rest
@@ -45,11 +44,11 @@ abbrev wholeTerm : ℕ → ℕ → ℕ
 wholeTerm S R = pick (ltb R S) 0 1
 
 module _ (S : ℕ) where
-  ring-cons : (R : ℕ) (Rs : List ℕ) → ringTicks S (R ∷ Rs) ≡ ringTerm S R + ringTicks S Rs
+  pub ring-cons : (R : ℕ) (Rs : List ℕ) → ringTicks S (R ∷ Rs) ≡ ringTerm S R + ringTicks S Rs
   unfolding ringTicks
   ring-cons R Rs = refl
 
-  ring-nil : ringTicks S [] ≡ 0
+  pub ring-nil : ringTicks S [] ≡ 0
   unfolding ringTicks
   ring-nil = refl
 
@@ -77,6 +76,15 @@ module _ (S : ℕ) where
 
     pub ring-part : (i : ℕ) → ringTicks S (take i rs) ≤ ringTicks S rs
     ring-part i = sum-part (ringTicks S) (ringTerm S) ring-nil ring-cons i rs
+
+    -- the reserves up to a server and those after it
+    pub ring-split : (i : ℕ) → ringTicks S (take i rs) + ringTicks S (drop i rs) ≡ ringTicks S rs
+    ring-split i =
+        sym (sum-append (ringTicks S) (ringTerm S) ring-nil ring-cons (take i rs) (drop i rs)) ∙ ap (ringTicks S) (take-append-drop i rs)
+
+    pub ring-between : (q i : ℕ) → ringTicks S (take (q + i) rs) ≡ ringTicks S (take q rs) + ringTicks S (take i (drop q rs))
+    ring-between q i =
+        ap (ringTicks S) (take-add q i rs) ∙ sum-append (ringTicks S) (ringTerm S) ring-nil ring-cons (take q rs) (take i (drop q rs))
 
     pub wholes-same : (i : ℕ) → i < length rs → getD rs i 0 < S → wholes S (take (suc i) rs) ≡ wholes S (take i rs)
     wholes-same i h l =

@@ -1,18 +1,18 @@
 -- Each claim of specs/Claims.antt, proved.
 -- Assumes nothing.
-use Prim.Native.Nat.{ℕ, pred, _-_, _≤_, _<_}
+use Prim.Native.Nat.{ℕ, _-_, _≤_}
 use native.Mathlib.Nat.{le-trans}
 use native.Mathlib.Numerals.{sub-one}
 use native.Mathlib.Omega.{arith}
-use mathlib.Core.Path.{_≡_, sym, ap, subst}
-use lib.ListN.{length, getD}
-use Rattle.ring.specs.Laid.{Reserved}
-use Rattle.ring.specs.Claims.{NoOverlap, Filled, NoRing, FirstReserve, PhaseExact, OneServer, OneProcessor, WhoServes, WhoStays, OnBoardWhen, UsableWhen, InAnySlot}
+use mathlib.Core.Path.{subst}
+use lib.ListN.{getD}
+use Rattle.ring.specs.Claims.{NoOverlap, Filled, NoRing, FirstReserve, PhaseExact, OneServer, OneProcessor, WhoServes, WhoStays, RotaUnrolled, OnBoardWhen, UsableWhen, InAnySlot}
 use Rattle.ring.proofs.CoverLaws.{covers-told, no-overlap}
 use Rattle.ring.proofs.FirstLaws.{filled-ring, no-processors, no-idle, first-reserve}
 use Rattle.ring.proofs.PhaseLaws.{phase-below, phase-agrees, phase-reached, phase-once}
 use Rattle.ring.proofs.ServeLaws.{one-server, one-processor, answers, stays}
 use Rattle.ring.proofs.BoardLaws.{board, usable-when}
+use Rattle.ring.proofs.RotaLaws.{unrolled-who}
 use Rattle.ring.proofs.HeldLaws.{in-any-slot}
 
 pub noOverlap : NoOverlap
@@ -46,6 +46,9 @@ whoServes S rs p x a b = answers S rs p x a b
 
 pub whoStays : WhoStays
 whoStays S rs p x h a b = stays S rs p x h a
+
+pub rotaUnrolled : RotaUnrolled
+rotaUnrolled S rs p x res a b = unrolled-who S rs res p a x
 
 pub onBoardWhen : OnBoardWhen
 onBoardWhen S rs x h = board S rs x h

@@ -1,14 +1,12 @@
 -- Who runs, by the two kinds of processor, and what the functions that ask it hand on.
 -- Assumes nothing.
-use Prim.Native.Nat.{ℕ, suc, _+_, _*_, _-_, _%_, _≤_, _<_, _^_}
-use mathlib.Core.Path.{_≡_, refl, sym, ap, _∙_}
+use Prim.Native.Nat.{ℕ, _*_, _-_, _%_, _≤_, _<_, _^_}
+use mathlib.Core.Path.{_≡_, sym, ap, _∙_}
 use mathlib.Core.List.{List}
-use mathlib.Core.Bool.{Bool}
 use native.Mathlib.Nat.{le-trans}
 use native.Mathlib.Omega.{arith}
 use borrow.Author.Tests.{le-leb, lt-leb}
-use lib.Dec.{leb}
-use lib.ListN.{length, getD, take}
+use lib.ListN.{take}
 use Rattle.ring.specs.declared.clock.Tick.{Tick}
 use Rattle.ring.specs.declared.clock.Position.{Position}
 use Rattle.ring.specs.declared.cover.Stand.{Stand}
@@ -16,7 +14,7 @@ use Rattle.ring.specs.Laid.{Laid}
 use Rattle.ring.specs.Reserves.{ringProcessors, ringLength}
 use Rattle.ring.specs.Phase.{phase}
 use Rattle.ring.specs.Cover.{standAt}
-use Rattle.ring.specs.Who.{pickStand, wholeServer, whoOf, firstOf}
+use Rattle.ring.specs.Who.{wholeServer, whoOf, firstOf}
 use Rattle.ring.proofs.Starts.{length-room}
 use Rattle.ring.proofs.PhaseLaws.{phase-below, phase-first}
 

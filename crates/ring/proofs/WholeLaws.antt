@@ -1,17 +1,16 @@
 -- The servers that have a whole processor, in server order: each processor past the ring has one, and no two have the same.
 -- Assumes nothing.
-use Prim.Native.Nat.{ℕ, zero, suc, pred, _+_, _-_, _≤_, _<_}
+use Prim.Native.Nat.{ℕ, zero, suc, _+_, _-_, _≤_, _<_}
 use mathlib.Core.Path.{_≡_, refl, sym, ap, _∙_}
 use mathlib.Core.List.{List, [], _∷_}
-use mathlib.Core.Logic.{_⊎_, inl, inr, ⊎-elim}
+use mathlib.Core.Logic.{⊎-elim}
 use native.Mathlib.Numerals.{add-one}
 use native.Mathlib.Omega.{arith}
-use lib.Dec.{ltb}
 use lib.ListN.{length, getD, take, drop, drop-of-length-le}
 use lib.Seq.{drop-cons, getD-take}
 use Rattle.ring.specs.Laid.{Laid}
-use Rattle.ring.specs.Reserves.{pick, wholes}
-use Rattle.ring.specs.Who.{wholeFrom, wholeServer}
+use Rattle.ring.specs.Reserves.{wholes}
+use Rattle.ring.specs.Who.{wholeFrom}
 use Rattle.ring.proofs.Cases.{le-or-lt, pick-lt, pick-ge}
 use Rattle.ring.proofs.Starts.{taken-length, wholes-cons, wholes-nil}
 

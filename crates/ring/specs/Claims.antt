@@ -15,6 +15,7 @@ use Rattle.ring.specs.Cover.{covers, covererUpTo}
 use Rattle.ring.specs.Who.{whoOf, firstOf}
 use Rattle.ring.specs.Serves.{RingServer, WholeProcessor, Serves, OnBoard, Usable, sinceStart}
 use Rattle.ring.specs.Held.{later, held}
+use Rattle.ring.specs.Rota.{unrolled}
 
 -- ---- rule 3: reserves stand one after another
 
@@ -109,6 +110,12 @@ pub record Stays (S : ℕ) (reserves : List ℕ) (p : ℕ) (x : Tick) : Type 0 w
 abbrev pub WhoStays : Type 0
 WhoStays =
     (S : ℕ) (reserves : List ℕ) (p : ℕ) (x : Tick) → 1 ≤ S → 1 ≤ p → p ≤ processorsOf S reserves → Stays S reserves p x
+
+-- the printed rota, unrolled from each processor's first reserve, is the answer at every tick
+abbrev pub RotaUnrolled : Type 0
+RotaUnrolled =
+    (S : ℕ) (reserves : List ℕ) (p x : ℕ) → Reserved S reserves → 1 ≤ p → p ≤ processorsOf S reserves →
+    unrolled S reserves p x ≡ whoOf S reserves p (record { 0 = x })
 
 -- ---- a server's ticks
 

@@ -1,10 +1,10 @@
 -- Which server's reserve covers a position of the ring, and the ticks to that reserve's end.
 -- Document 01, "From tasks to servers to ring", rules 3 and 5.
-use Prim.Native.Nat.{ℕ, zero, suc, _+_, _-_, _*_}
+use Prim.Native.Nat.{ℕ, zero, suc, _+_, _-_}
 use mathlib.Core.List.{List}
 use mathlib.Core.Bool.{Bool, true, false}
 use lib.ListN.{length}
-use lib.Dec.{leb, ltb, eqb}
+use lib.Dec.{leb, ltb}
 use Rattle.ring.specs.declared.clock.Position.{Position}
 use Rattle.ring.specs.declared.cover.Stand.{Stand}
 use Rattle.ring.specs.Reserves.{pick, reserveOf, startOf, ringLength}

@@ -5,4 +5,5 @@ pub mod Cover
 pub mod Who
 pub mod Serves
 pub mod Held
+pub mod Rota
 pub mod Claims

@@ -1,9 +1,9 @@
 -- The reserves of all servers in server order, and where those below a slot stand on the ring.
 -- Document 01, "From tasks to servers to ring", rule 3.
-use Prim.Native.Nat.{ℕ, zero, suc, pred, _+_, _*_, _-_}
+use Prim.Native.Nat.{ℕ, pred, _+_, _*_, _-_}
 use mathlib.Core.List.{List, [], _∷_}
 use lib.ListN.{getD, take}
-use lib.Dec.{ltb, eqb}
+use lib.Dec.{ltb}
 use Rattle.wholes.specs.Ceiling.{ceilingOf}
 use mathlib.Core.Bool.{Bool, true, false}
 

@@ -1,11 +1,10 @@
 -- Who runs on a processor at a tick, and for how long; and the first reserve of each processor.
 -- Document 01, "From tasks to servers to ring", rules 4 and 5, and the question "who runs".
-use Prim.Native.Nat.{ℕ, zero, suc, _+_, _-_, _*_, _%_}
+use Prim.Native.Nat.{ℕ, zero, suc, _-_, _*_, _%_}
 use mathlib.Core.List.{List, [], _∷_}
 use mathlib.Core.Bool.{Bool, true, false}
 use lib.Dec.{leb, ltb}
 use Rattle.ring.specs.declared.clock.Tick.{Tick}
-use Rattle.ring.specs.declared.clock.Position.{Position}
 use Rattle.ring.specs.declared.cover.Stand.{Stand}
 use Rattle.ring.specs.Reserves.{pick, ringProcessors}
 use Rattle.ring.specs.Phase.{phase}

@@ -1,11 +1,11 @@
 -- `cover::stand_at` meets its contract. The loop's invariant: `end` is where the first i reserves end, and the position is not before it.
 -- The measure is what is left of n. Assumes nothing.
-use Prim.Native.Nat.{ℕ, suc, _+_, _*_, _-_, _≤_, _<_}
-use mathlib.Core.Path.{_≡_, refl, sym, ap, _∙_}
+use Prim.Native.Nat.{ℕ, _+_, _*_, _-_, _≤_, _<_}
+use mathlib.Core.Path.{_≡_, refl, ap, _∙_}
 use mathlib.Core.Logic.{⊎-elim}
 use borrow.Author.Needs.{needs}
 use native.Mathlib.Omega.{arith}
-use lib.ListN.{length, getD, take}
+use lib.ListN.{getD, take}
 use Rattle.ring.specs.Reserves.{ringTicks, ringProcessors, ringLength}
 use Rattle.wholes.specs.Ceiling.{ceilingOf}
 use Rattle.ring.proofs.Starts.{pass-more, pass-same, ring-room, length-room}

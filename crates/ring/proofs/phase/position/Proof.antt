@@ -1,7 +1,6 @@
 -- `phase::position` meets its contract: the tick is below the ring's length before the processor's offset is added.
 -- Assumes nothing.
 use Prim.Native.Nat.{ℕ, _+_, _*_, _-_, _%_, _≤_, _<_, _^_}
-use mathlib.Core.Path.{_≡_}
 use borrow.Author.Needs.{needs}
 use native.Mathlib.Nat.{one-le-mul, mul-le-mul-right, lt-of-le-of-lt, lt-trans, mod-lt, mod-add-mod}
 use native.Mathlib.Omega.{arith}

@@ -1,12 +1,12 @@
 -- `reserves::idle_positions` meets its contract: the ring holds its reserves, so nothing wraps.
 -- Assumes nothing.
-use Prim.Native.Nat.{ℕ, _*_, _-_, _≤_}
+use Prim.Native.Nat.{ℕ, _*_}
 use mathlib.Core.Path.{_≡_, ap, _∙_}
 use borrow.Author.Needs.{needs}
 use native.Mathlib.Omega.{arith}
 use lib.ListN.{take}
 use Rattle.wholes.specs.Ceiling.{ceilingOf}
-use Rattle.ring.specs.Reserves.{ringTicks, ringLength}
+use Rattle.ring.specs.Reserves.{ringLength}
 use Rattle.ring.proofs.Starts.{ring-holds, length-room}
 use Rattle.ring.proofs.reserves.idle_positions.Statement.{statement}
 use Rattle.ring.proofs.reserves.idle_positions.Tie as tie

@@ -1,11 +1,11 @@
 -- `reserves::ring_ticks` meets its contract. The loop's invariant: the sum is that of the first i reserves.
 -- The measure is what is left of n. Assumes nothing.
-use Prim.Native.Nat.{ℕ, _+_, _*_, _-_, _≤_, _<_}
+use Prim.Native.Nat.{ℕ, _-_, _≤_, _<_}
 use mathlib.Core.Path.{_≡_, refl, ap, _∙_}
 use mathlib.Core.Logic.{⊎-elim}
 use borrow.Author.Needs.{needs}
 use native.Mathlib.Omega.{arith}
-use lib.ListN.{length, getD, take}
+use lib.ListN.{getD, take}
 use Rattle.ring.specs.Reserves.{ringTicks}
 use Rattle.ring.proofs.Starts.{pass-more, pass-same, ring-room}
 use Rattle.ring.proofs.reserves.ring_ticks.Statement.{statement}

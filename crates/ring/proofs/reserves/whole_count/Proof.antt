@@ -1,11 +1,11 @@
 -- `reserves::whole_count` meets its contract. The loop's invariant: the count is that of the first i reserves.
 -- The measure is what is left of n. Assumes nothing.
-use Prim.Native.Nat.{ℕ, _+_, _*_, _-_, _≤_, _<_}
+use Prim.Native.Nat.{ℕ, _-_, _≤_, _<_}
 use mathlib.Core.Path.{_≡_, refl, ap, _∙_}
 use mathlib.Core.Logic.{⊎-elim}
 use borrow.Author.Needs.{needs}
 use native.Mathlib.Omega.{arith}
-use lib.ListN.{length, getD, take}
+use lib.ListN.{getD, take}
 use Rattle.ring.specs.Reserves.{wholes}
 use Rattle.ring.proofs.Starts.{count-more, count-same, count-room}
 use Rattle.ring.proofs.reserves.whole_count.Statement.{statement}

@@ -5,7 +5,7 @@ use mathlib.Core.Path.{_≡_, refl, sym, ap, _∙_}
 use mathlib.Core.Logic.{⊎-elim}
 use borrow.Author.Needs.{needs}
 use native.Mathlib.Omega.{arith}
-use lib.ListN.{length, getD, take, drop}
+use lib.ListN.{getD, take, drop}
 use Rattle.ring.specs.Who.{wholeFrom, wholeServer}
 use Rattle.ring.proofs.WholeLaws.{walk-past, walk-here, walk-next, walk-none}
 use Rattle.ring.proofs.who.whole_server.Statement.{statement}
