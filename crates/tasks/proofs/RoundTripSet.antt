@@ -1,8 +1,8 @@
 -- A set that can be written, read again, is the same set: its text has the shape of a file, and each line gives its figures back.
 -- Assumes nothing.
-use Prim.Native.Nat.{ℕ, zero, suc, _+_, _*_, _-_, _^_, _≤_, _<_}
-use mathlib.Core.Path.{_≡_, refl, sym, _∙_, ap, ap₂, subst}
-use mathlib.Core.Bool.{Bool, true, false, not}
+use Prim.Native.Nat.{ℕ, zero, suc, _+_, _-_, _^_, _≤_, _<_}
+use mathlib.Core.Path.{_≡_, refl, sym, _∙_, ap, ap₂}
+use mathlib.Core.Bool.{Bool, false}
 use mathlib.Core.List.{List, [], _∷_, _++_}
 use native.Mathlib.Numerals.{add-one}
 use native.Mathlib.Omega.{arith}
@@ -24,8 +24,8 @@ use Rattle.tasks.specs.declared.set.Task.{Task}
 use Rattle.tasks.specs.declared.set.TaskSet.{TaskSet}
 use Rattle.tasks.specs.Set.{mostTasks, zeroTask, members, setOf}
 use Rattle.tasks.specs.Rows.{firstOf, when, some, atTask, firstTask, rangeRow, headerOverflows, taskOverflows, figuresOutcome}
-use Rattle.tasks.specs.File.{past, lineOutcome, linesOutcome, headerAt, taskAt, tasksFrom, tasksIn}
-use Rattle.tasks.specs.Read.{fileSet, answer, readOf}
+use Rattle.tasks.specs.File.{past, lineOutcome, linesOutcome, headerAt, taskAt, tasksFrom}
+use Rattle.tasks.specs.Read.{fileSet, answer}
 use Rattle.tasks.specs.Shape.{Shaped}
 use Rattle.tasks.specs.Write.{headerValues, taskValues, taskLines, textOf, writerAsks}
 use Rattle.tasks.specs.WriteClaims.{Whole, ReadWritten, ReadWrittenSame}

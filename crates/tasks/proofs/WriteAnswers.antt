@@ -1,10 +1,10 @@
 -- The writer's answer exactly when its rows say, what the buffer then holds, and that both are determined.
 -- Assumes nothing.
 use Prim.Native.Nat.{ℕ, _+_, _≤_, _<_}
-use mathlib.Core.Path.{_≡_, refl, sym, _∙_, ap, subst}
+use mathlib.Core.Path.{_≡_, refl, sym, _∙_, ap}
 use mathlib.Core.Logic.{_⊎_, inl, inr}
 use mathlib.Core.Bool.{Bool, true, false}
-use mathlib.Core.List.{List, _++_}
+use mathlib.Core.List.{List}
 use native.Mathlib.Omega.{arith}
 use lib.Dec.{ltb}
 use lib.ListN.{length, take, drop}
@@ -18,7 +18,7 @@ use Rattle.frames.specs.declared.refusal.Written.the-variants.{Bytes, Refused}
 use Rattle.frames.proofs.Stored.{stored-length}
 use Rattle.tasks.specs.declared.set.TaskSet.{TaskSet}
 use Rattle.tasks.specs.Write.{textOf, writerAsks, writeOf, leaves}
-use Rattle.tasks.specs.WriteClaims.{Wrote, WriteExactly, WritesExactly, WriteLeaves, WritesLeave, WriteDetermined}
+use Rattle.tasks.specs.WriteClaims.{Wrote, WritesExactly, WritesLeave, WriteDetermined}
 use Rattle.tasks.proofs.WriteAsks.{write-ask, write-room, write-bytes}
 
 clash : {A : Type 0} → _≡_ {A = ℕ} 0 1 → A

@@ -1,13 +1,13 @@
 -- Laws of a set's text: its length, and its 02 lines stored one behind the other.
 -- Assumes nothing.
-use Prim.Native.Nat.{ℕ, zero, suc, _+_, _*_, _≤_, _<_}
+use Prim.Native.Nat.{ℕ, _+_, _*_, _≤_, _<_}
 use mathlib.Core.Path.{_≡_, refl, sym, _∙_, ap}
 use mathlib.Core.List.{List, [], _∷_, _++_, append-assoc, append-nil}
 use native.Mathlib.Numerals.{add-one}
 use native.Mathlib.Omega.{arith}
 use lib.ListN.{length, take, getD, length-append}
 use lib.Seq.{take-suc, length-take-le}
-use Rattle.frames.specs.Table.{widthsOf, sum, lengthOf}
+use Rattle.frames.specs.Table.{widthsOf, lengthOf}
 use Rattle.frames.specs.Line.{lineOf, fields, stored}
 use Rattle.frames.specs.declared.table.Frame.{Frame}
 use Rattle.frames.proofs.Lines.{line-length}
@@ -16,16 +16,15 @@ use Rattle.tasks.specs.declared.set.Task.{Task}
 use Rattle.tasks.specs.declared.set.TaskSet.{TaskSet}
 use Rattle.tasks.specs.Set.{members}
 use Rattle.tasks.proofs.Firsts.{members-length}
+use Rattle.tasks.proofs.Past.{header-length, task-length}
 use Rattle.tasks.specs.Write.{headerValues, taskValues, taskLines, textOf}
 
 -- an 01 line has 31 bytes, an 02 line 23
 pub header-size : lengthOf Frame.Header + 1 ≡ 31
-unfolding sum widthsOf
-header-size = refl
+header-size = ap (λ (n : ℕ). n + 1) header-length
 
 pub task-size : lengthOf Frame.Task + 1 ≡ 23
-unfolding sum widthsOf
-task-size = refl
+task-size = ap (λ (n : ℕ). n + 1) task-length
 
 -- the fields that a task's line lacks write nothing
 pub task-line : (id cost deadline period : ℕ) → lineOf Frame.Task (id ∷ cost ∷ deadline ∷ period ∷ 0 ∷ 0 ∷ 0 ∷ []) ≡ lineOf Frame.Task (id ∷ cost ∷ deadline ∷ period ∷ [])

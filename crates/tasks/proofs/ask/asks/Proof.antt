@@ -1,6 +1,6 @@
 -- The parts of row 11 in order; past row 3 the count is within the room.
 -- Assumes nothing.
-use mathlib.Core.Path.{_≡_, refl, sym, _∙_}
+use mathlib.Core.Path.{refl, sym, _∙_}
 use borrow.Author.Needs.{needs}
 use Rattle.tasks.proofs.Carried.{ask-rows, count-within}
 use Rattle.tasks.proofs.ask.asks.Statement.{statement}

@@ -1,6 +1,6 @@
 -- Only the slot can be too large for its field: the other figures' types hold no more than their digits.
 -- Assumes nothing.
-use mathlib.Core.Path.{_≡_, sym}
+use mathlib.Core.Path.{sym}
 use Rattle.tasks.proofs.Carried.{header-overflow}
 use Rattle.tasks.proofs.ask.header_overflows.Statement.{statement}
 use Rattle.tasks.proofs.ask.header_overflows.Tie as tie

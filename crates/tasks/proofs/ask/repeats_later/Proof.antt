@@ -1,10 +1,9 @@
 -- The loop's invariant: the tasks from `j` on answer for all that stand after `i`.
 -- Assumes nothing.
-use Prim.Native.Nat.{_≤_, _<_, _-_, _+_}
+use Prim.Native.Nat.{_≤_, _-_, _+_}
 use mathlib.Core.Path.{_≡_, refl, sym, _∙_}
 use mathlib.Core.Bool.{true, false}
 use native.Mathlib.Omega.{arith}
-use borrow.Author.Needs.{needs}
 use borrow.Author.Tests.{eq-eqb, ne-eqb}
 use lib.ListN.{length, length-map, drop, getD}
 use Rattle.tasks.specs.Set.{members, zeroTask}
@@ -12,8 +11,6 @@ use Rattle.tasks.specs.Rows.{some}
 use Rattle.tasks.proofs.Some.{sameId, some-left, some-end}
 use Rattle.tasks.proofs.ask.repeats_later.Statement.{statement}
 use Rattle.tasks.proofs.ask.repeats_later.Tie as tie
-use Rattle.tasks.proofs.ask.repeats_later.Reads as reads
-use Rattle.tasks.proofs.ask.repeats_later.Lts as lts
 
 abbrev Inv-loop : tie.InvT-loop
 Inv-loop i set id count j₀ j =

@@ -1,10 +1,7 @@
 -- Only a task's times can be too large for their fields: an id's type holds no more than its digits.
 -- Assumes nothing.
-use mathlib.Core.Path.{_≡_, sym, _∙_, ap}
-use mathlib.Core.Bool.{Bool}
-use lib.Dec.{ltb}
+use mathlib.Core.Path.{sym}
 use borrow.Author.Tests.{lt-ltb, le-ltb}
-use Rattle.frames.specs.Digit.{either}
 use Rattle.tasks.proofs.Carried.{task-overflow}
 use Rattle.tasks.proofs.ask.task_overflows.Statement.{statement}
 use Rattle.tasks.proofs.ask.task_overflows.Tie as tie

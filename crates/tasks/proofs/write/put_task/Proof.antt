@@ -1,6 +1,6 @@
 -- The line of a task's four figures; the fields that it lacks write nothing.
 -- Assumes nothing.
-use mathlib.Core.Path.{_≡_, _∙_, ap}
+use mathlib.Core.Path.{_∙_, ap}
 use borrow.Author.Needs.{needs}
 use Rattle.frames.specs.Line.{stored}
 use Rattle.tasks.proofs.WriteText.{task-line}

@@ -9,7 +9,7 @@ use Rattle.frames.specs.Line.{lineOf, stored}
 use Rattle.frames.specs.declared.table.Frame.{Frame}
 use Rattle.frames.proofs.Stored.{stored-nil}
 use Rattle.tasks.specs.Set.{members, zeroTask}
-use Rattle.tasks.specs.Write.{taskValues, taskLines, textOf}
+use Rattle.tasks.specs.Write.{taskValues, taskLines}
 use Rattle.tasks.proofs.WriteText.{header-size, task-size, lines-at, lines-nil, lines-stored, text-bytes, text-stored}
 use Rattle.tasks.proofs.write.put_text.Statement.{statement}
 use Rattle.tasks.proofs.write.put_text.Tie as tie
