@@ -13,3 +13,4 @@ pub mod RoundTripSet
 pub mod FirstLaws
 pub mod Exactly
 pub mod Accepted
+pub mod RoundTripText
