@@ -8,3 +8,5 @@ pub mod PlacementLaws
 pub mod StandingLaws
 pub mod ReserveLaws
 pub mod ServerClaims
+pub mod LaidLaws
+pub mod Worked

@@ -1,16 +1,14 @@
 -- Laws of the struct that holds a server's loads: what it holds, one load more, and its horizon by the row of periods.
-use Prim.Native.Nat.{ℕ, zero, suc, _+_, _≤_, _<_}
+use Prim.Native.Nat.{ℕ, zero, suc, _<_}
 use native.Mathlib.Omega.{arith}
 use mathlib.Core.Path.{_≡_, refl, sym, ap, _∙_}
 use mathlib.Core.List.{List, [], _∷_, _++_, map, map-append}
-use lib.ListN.{length, getD, set, take, length-append, length-map}
-use Rattle.wholes.specs.Multiple.{leastMultipleOf, Positive}
+use lib.ListN.{length, set, length-append, length-map}
+use Rattle.wholes.specs.Multiple.{Positive}
 use Rattle.demand.specs.Load.{Load, Sound, loadAt, loadsOf}
 use Rattle.demand.proofs.Demand.{every-at}
-use Rattle.verdict.specs.Verdict.{ownHorizon}
 use Rattle.servers.specs.Row.{row}
 use Rattle.servers.specs.Members.{membersOf, held, withLoad, Bounded}
-use Rattle.servers.specs.declared.members.Members.{Members}
 use Rattle.servers.proofs.RowLaws.{row-more}
 
 -- ---- three slices

@@ -1,24 +1,25 @@
 -- A part of a file's loads, as one server has it: it is sound, and its horizon divides the file's.
 -- So whatever is asked of the file's loads for placing and sizing holds of the struct that holds such a part.
-use Prim.Native.Nat.{ℕ, zero, suc, _+_, _^_, _≤_, _<_, _∣_}
+use Prim.Native.Nat.{ℕ, zero, suc, _≤_, _<_, _∣_}
 use native.Mathlib.Omega.{arith}
 use native.Mathlib.Nat.{le-of-suc-le-suc, le-of-dvd}
-use mathlib.Core.Path.{_≡_, refl, sym, ap, subst, _∙_}
+use mathlib.Core.Path.{_≡_, sym, ap, subst, _∙_}
 use mathlib.Core.List.{List, [], _∷_, _++_, map}
-use lib.ListN.{length, length-map}
+use lib.ListN.{length, length-map, length-append}
 use Rattle.wholes.specs.Multiple.{Divide}
 use Rattle.wholes.proofs.MultipleLaws.{multiple-of-divides, first-divides-of}
-use Rattle.demand.specs.Load.{Load, Sound, Every, Loaded, loadsOf}
-use Rattle.demand.proofs.Demand.{every-first}
+use Rattle.demand.specs.Load.{Load, Sound, Every, loadAt, loadsOf}
+use Rattle.demand.proofs.Demand.{loads-length, every-snoc, every-first, every-at}
 use Rattle.verdict.specs.Verdict.{ownHorizon, Horizon, Testable}
 use Rattle.verdict.specs.Claims.{Asked}
 use Rattle.verdict.proofs.Verdict.{own-horizon}
-use Rattle.servers.specs.Members.{membersOf, held, Bounded, Sized}
+use Rattle.servers.specs.Row.{row}
+use Rattle.servers.specs.Members.{membersOf, held, withLoad, Bounded, Sized}
 use Rattle.servers.specs.Placement.{loadsIn}
 use Rattle.servers.specs.declared.members.Members.{Members}
 use Rattle.servers.proofs.RowLaws.{row-length}
-use Rattle.servers.proofs.MemberLaws.{held-members}
-use Rattle.servers.proofs.LoadLaws.{every-in}
+use Rattle.servers.proofs.MemberLaws.{held-members, members-more}
+use Rattle.servers.proofs.LoadLaws.{every-in, in-few}
 
 every-both : (P Q : Load → Type 0) (ls : List Load) → Every P ls → Every Q ls → Every (λ (l : Load). P l × Q l) ls
 every-both P Q [] p q = tt
@@ -99,14 +100,8 @@ module _ {costs deadlines periods : List ℕ} {n S L : ℕ} (file : Sized costs 
         loss = file .loss;
       }
     where
-      there : (f : Load → ℕ) → length ks ≤ length (Rattle.servers.specs.Row.row (map f ks))
+      there : (f : Load → ℕ) → length ks ≤ length (row (map f ks))
       there f = omega (arith, length-map ks f, row-length (map f ks) (rw (length-map ks f) few))
-
-  -- the struct that holds a part of the file may be placed and sized
-  pub part-sized : (m : Members) (ks : List Load) → m ≡ membersOf ks → length ks ≤ 64 → Every (Fine (ownHorizon S (loadsOf costs deadlines periods n))) ks →
-      Sized (m .costs) (m .deadlines) (m .periods) (m .count) S L
-  part-sized m ks e few fine =
-      subst (λ (k : Members). Sized (k .costs) (k .deadlines) (k .periods) (k .count) S L) (sym e) (part-made ks few fine)
 
   -- with its own horizon it may be tested
   pub testable : (h : ℕ) → h ≡ ownHorizon S (loadsOf costs deadlines periods n) → Testable (loadsOf costs deadlines periods n) S L h
@@ -140,3 +135,44 @@ sized-first {costs} {deadlines} {periods} {n} {S} {L} i h file =
       };
       loss = file .loss;
     }
+
+-- a struct that holds a part of the file's loads
+pub record Holds (costs deadlines periods : List ℕ) (n S : ℕ) (m : Members) (ks : List Load) : Type 0 where
+  pub is : m ≡ membersOf ks
+  pub few : length ks ≤ 64
+  pub fine : Every (Fine (ownHorizon S (loadsOf costs deadlines periods n))) ks
+
+module _ {costs deadlines periods : List ℕ} {n S L : ℕ} (file : Sized costs deadlines periods n S L) where
+  -- what is asked of the file's loads holds of the struct's
+  pub holds-sized : {m : Members} {ks : List Load} → Holds costs deadlines periods n S m ks → Sized (m .costs) (m .deadlines) (m .periods) (m .count) S L
+  holds-sized {m} {ks} h =
+      subst (λ (k : Members). Sized (k .costs) (k .deadlines) (k .periods) (k .count) S L) (sym (h .is)) (part-made file ks (h .few) (h .fine))
+
+  -- the loads of a server among the first i tasks
+  pub holds-gathered : (placement : List ℕ) (i q : ℕ) (m : Members) → i ≤ n → m ≡ membersOf (loadsIn (loadsOf costs deadlines periods i) placement q) →
+      Holds costs deadlines periods n S m (loadsIn (loadsOf costs deadlines periods i) placement q)
+  holds-gathered placement i q m h e =
+      record {
+        is = e;
+        few = omega (arith, file .bounded .few, in-few (loadsOf costs deadlines periods i) placement q, loads-length costs deadlines periods i);
+        fine = every-in (Fine H) (loadsOf costs deadlines periods i) placement q (every-first costs deadlines periods (Fine H) n h (all-fine file));
+      }
+    where
+      H : ℕ
+      H = ownHorizon S (loadsOf costs deadlines periods n)
+
+  -- and task i with them
+  pub holds-with : (i : ℕ) {m : Members} {ks : List Load} (more : Members) → i < n → length ks < 64 → Holds costs deadlines periods n S m ks →
+      more ≡ withLoad m (loadAt costs deadlines periods i) → Holds costs deadlines periods n S more (ks ++ (loadAt costs deadlines periods i ∷ []))
+  holds-with i {m} {ks} more h room w e =
+      record {
+        is = e ∙ ap (λ (k : Members). withLoad k (loadAt costs deadlines periods i)) (w .is) ∙ members-more ks (loadAt costs deadlines periods i) room;
+        few = omega (arith, length-append ks (loadAt costs deadlines periods i ∷ []));
+        fine = every-snoc (Fine H) ks (loadAt costs deadlines periods i) (w .fine) (every-at costs deadlines periods (Fine H) n h (all-fine file));
+      }
+    where
+      H : ℕ
+      H = ownHorizon S (loadsOf costs deadlines periods n)
+
+pub holds-loads : {costs deadlines periods : List ℕ} {n S : ℕ} {m : Members} {ks : List Load} → Holds costs deadlines periods n S m ks → held m ≡ ks
+holds-loads {ks = ks} h = ap held (h .is) ∙ held-members ks

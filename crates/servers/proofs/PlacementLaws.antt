@@ -1,11 +1,11 @@
 -- Placement grows by one task at a time, and what is placed stays: the laws that the loop over tasks goes by.
-use Prim.Native.Nat.{ℕ, zero, suc, _+_, _≤_, _<_, max}
+use Prim.Native.Nat.{ℕ, _+_, max}
 use native.Mathlib.Omega.{arith}
-use mathlib.Core.Path.{_≡_, refl, sym, ap, subst, _∙_}
+use mathlib.Core.Path.{_≡_, sym, ap, subst, _∙_}
 use mathlib.Core.List.{List, [], _∷_, _++_, append-assoc, append-nil}
 use lib.ListN.{length, length-append}
 use Rattle.demand.specs.Load.{Load}
-use Rattle.servers.specs.Placement.{serversIn, takes, fit, placeFrom, placementOf}
+use Rattle.servers.specs.Placement.{serversIn, fit, placeFrom, placementOf}
 
 -- one task more: its server is among those that there are, or is the highest
 pub servers-more : (placement : List ℕ) (a : ℕ) → serversIn (placement ++ (a ∷ [])) ≡ max (serversIn placement) a

@@ -1,9 +1,9 @@
 -- Laws of the reserves of a placement: how many, one more, and the reserve of each server.
-use Prim.Native.Nat.{ℕ, zero, suc, _+_, _≤_, _<_}
+use Prim.Native.Nat.{ℕ, zero, suc, _+_, _<_}
 use native.Mathlib.Numerals.{add-one}
 use native.Mathlib.Omega.{arith}
 use native.Mathlib.Decide.{decLt}
-use mathlib.Core.Path.{_≡_, refl, sym, ap, _∙_}
+use mathlib.Core.Path.{_≡_, refl, ap, _∙_}
 use mathlib.Core.List.{List, [], _∷_, _++_}
 use lib.ListN.{length, getD, length-append, List·getD-append}
 use lib.Seq.{getD-at}
@@ -29,9 +29,6 @@ module _ (ls : List Load) (S L : ℕ) (placement : List ℕ) where
   reserves-at zero i h = absurd (omega arith)
   reserves-at (suc n) i h = by (decLt i n) (reserves-at n i)
     where
-      last : List ℕ
-      last = smallestReserve (loadsIn ls placement (suc n)) S L ∷ []
-
       by : Dec (i < n) → (i < n → getD (reservesUpTo ls S L placement n) i 0 ≡ smallestReserve (loadsIn ls placement (suc i)) S L)
           → getD (reservesUpTo ls S L placement n ++ (smallestReserve (loadsIn ls placement (suc n)) S L ∷ [])) i 0 ≡ smallestReserve (loadsIn ls placement (suc i)) S L
       by (yes g) before =

@@ -1,9 +1,9 @@
 -- Laws of a row of 64 places: its length, its front, and one number more.
-use Prim.Native.Nat.{ℕ, zero, suc, _+_, _-_, _≤_, _<_}
+use Prim.Native.Nat.{ℕ, suc, _+_, _-_, _≤_, _<_}
 use native.Mathlib.Omega.{arith}
-use mathlib.Core.Path.{_≡_, refl, sym, ap, _∙_}
+use mathlib.Core.Path.{_≡_, sym, _∙_}
 use mathlib.Core.List.{List, [], _∷_, _++_}
-use lib.ListN.{length, getD, set, take, replicate, length-append, length-replicate, List·getD-append}
+use lib.ListN.{length, set, take, replicate, length-append, length-replicate}
 use lib.Seq.{append-snoc, set-append-seam, take-at}
 use Rattle.servers.specs.Row.{row}
 

@@ -1,22 +1,20 @@
 -- The claims of specs/Claims.antt, proved.
-use Prim.Native.Nat.{ℕ, zero, suc, _+_, _-_, _≤_, _<_}
+use Prim.Native.Nat.{ℕ, zero, suc, _-_, _≤_}
 use native.Mathlib.Omega.{arith}
 use mathlib.Core.Path.{_≡_, refl, sym, ap, subst, _∙_}
 use mathlib.Core.Logic.{_⊎_, inl, inr, ⊎-elim}
-use mathlib.Core.Bool.{Bool, true, false}
+use mathlib.Core.Bool.{true, false}
 use mathlib.Core.List.{List, [], _∷_, _++_, append-assoc}
 use lib.ListN.{length, getD, take}
 use lib.Seq.{take-at, getD-at, append-snoc}
 use Rattle.demand.specs.Load.{Load, Sound, Every}
-use Rattle.demand.specs.Passes.{Passes}
 use Rattle.demand.proofs.Demand.{every-snoc, every-front, every-last}
 use Rattle.verdict.specs.Claims.{Asked}
 use Rattle.verdict.specs.Search.{NoneIn, First}
-use Rattle.verdict.specs.Verdict.{passing}
 use Rattle.verdict.specs.Reserve.{Smallest}
 use Rattle.verdict.proofs.Verdict.{passing-means}
 use Rattle.verdict.proofs.Sizing.{reserve-means}
-use Rattle.servers.specs.Placement.{loadsIn, serversIn, takes, fit, placementOf}
+use Rattle.servers.specs.Placement.{loadsIn, serversIn, takes, fit, placeFrom, placementOf}
 use Rattle.servers.specs.Reserve.{reservesUpTo, reservesOf}
 use Rattle.servers.specs.Claims.{Parted, EachInOne, EveryPasses, PassesWith, Lowest, Opened, FirstFit, SmallestReserves, ServerLoads}
 use Rattle.servers.proofs.LoadLaws.{every-in}
@@ -36,7 +34,7 @@ module _ (S L : ℕ) where
   fit-old-or-new ls l = old-or-new ls S L (placementOf ls S L) l (fit ls S L (placementOf ls S L) l) (fit-takes-or-new ls S L (placementOf ls S L) l)
 
   parted : (ls : List Load) → Parted ls (placementOf ls S L)
-  unfolding placementOf Rattle.servers.specs.Placement.placeFrom serversIn
+  unfolding placementOf placeFrom serversIn
   parted =
       by-last (λ (ls : List Load). Parted ls (placementOf ls S L))
       (record { one-each = refl; there = λ i h. absurd (omega arith); none-empty = λ q a b. absurd (omega arith) })
@@ -45,7 +43,7 @@ module _ (S L : ℕ) where
       (parted-more ls (placementOf ls S L) l (fit ls S L (placementOf ls S L) l) p (fit-old-or-new ls l)))
 
   few : (ls : List Load) → serversIn (placementOf ls S L) ≤ length (placementOf ls S L)
-  unfolding placementOf Rattle.servers.specs.Placement.placeFrom serversIn
+  unfolding placementOf placeFrom serversIn
   few =
       by-last (λ (ls : List Load). serversIn (placementOf ls S L) ≤ length (placementOf ls S L))
       (omega arith)
@@ -54,7 +52,7 @@ module _ (S L : ℕ) where
       (few-more (placementOf ls S L) (fit ls S L (placementOf ls S L) l) (fit-old-or-new ls l) h))
 
   all-pass : 1 ≤ S → (ls : List Load) → Every Sound ls → AllPass ls S L (placementOf ls S L)
-  unfolding placementOf Rattle.servers.specs.Placement.placeFrom serversIn
+  unfolding placementOf placeFrom serversIn
   all-pass some =
       by-last (λ (ls : List Load). Every Sound ls → AllPass ls S L (placementOf ls S L))
       (λ s q a b. absurd (omega arith))

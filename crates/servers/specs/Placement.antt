@@ -1,9 +1,8 @@
 -- Placement by first fit in file order. A placement is the list of each task's server, in file order; servers count from 1.
 -- Document 01, "From tasks to servers to ring", rule 1 (the report's Alg. 1 and Ineq. 1).
-use Prim.Native.Nat.{ℕ, zero, suc, max}
+use Prim.Native.Nat.{ℕ, suc, max}
 use mathlib.Core.List.{List, [], _∷_, _++_}
 use mathlib.Core.Bool.{Bool, true, false}
-use lib.ListN.{length}
 use lib.Dec.{eqb}
 use Rattle.demand.specs.Load.{Load}
 use Rattle.verdict.specs.Search.{firstUpTo, orElse}

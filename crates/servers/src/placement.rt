@@ -29,6 +29,7 @@ pub fn passes_with<'a>(
     let after = with_load(before, costs[i], deadlines[i], periods[i]);
     let horizon = own_horizon(after, slot);
     let n = after.count;
+    let whole = slot;
     verdict::judge::passes(
         &after.costs,
         &after.deadlines,
@@ -36,7 +37,7 @@ pub fn passes_with<'a>(
         n,
         slot,
         loss,
-        slot,
+        whole,
         horizon,
     )
 }

@@ -1,14 +1,12 @@
 -- `own_horizon` meets its contract: the limit holds the server's horizon, so the multiple is always within it. Assumes nothing.
-use Prim.Native.Nat.{ℕ, _<_, _≤_}
-use mathlib.Core.Path.{_≡_, refl, sym, ap, _∙_}
+use Prim.Native.Nat.{ℕ, _<_}
+use mathlib.Core.Path.{sym, ap, _∙_}
 use mathlib.Core.List.{List}
 use borrow.Author.Needs.{needs}
 use native.Mathlib.Omega.{arith}
 use lib.ListN.{take}
 use Rattle.wholes.specs.Multiple.{leastMultipleOf, within}
 use Rattle.wholes.proofs.WithinLaws.{within-value, past-value}
-use Rattle.demand.specs.Load.{loadsOf}
-use Rattle.verdict.specs.Verdict.{ownHorizon}
 use Rattle.verdict.proofs.Horizons.{periods-taken, own-taken}
 use Rattle.servers.specs.Members.{Bounded}
 use Rattle.servers.proofs.MemberLaws.{bounded-positive}

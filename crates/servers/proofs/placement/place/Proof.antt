@@ -1,94 +1,38 @@
 -- `place` meets its contract. The loop's invariant: the first i tasks are placed, and the servers are counted.
 -- The measure is what is left of n. Assumes nothing.
-use Prim.Native.Nat.{ℕ, suc, _+_, _-_, _≤_, _<_, max}
-use mathlib.Core.Path.{_≡_, refl, sym, ap, subst, _∙_}
+use Prim.Native.Nat.{ℕ, _+_, _-_, _≤_, max}
+use mathlib.Core.Path.{_≡_, sym, ap, subst, _∙_}
 use mathlib.Core.Logic.{⊎-elim}
-use mathlib.Core.List.{List, [], _∷_, _++_}
+use mathlib.Core.List.{List}
 use borrow.Author.Needs.{needs}
 use native.Mathlib.Omega.{arith}
-use lib.ListN.{length, set, take}
-use Rattle.demand.specs.Load.{Load, loadAt, loadsOf}
-use Rattle.demand.proofs.Demand.{loads-next, loads-length, every-first}
-use Rattle.servers.specs.Row.{row}
-use Rattle.servers.specs.Members.{Sized}
-use Rattle.servers.specs.Placement.{serversIn, fit, placeFrom, placementOf, placed}
-use Rattle.servers.proofs.RowLaws.{row-length, row-take, row-more}
+use lib.ListN.{set}
+use Rattle.demand.specs.Load.{Load, loadsOf}
+use Rattle.demand.proofs.Demand.{loads-next}
+use Rattle.servers.specs.Placement.{placementOf, placed}
 use Rattle.servers.proofs.PartLaws.{sized-first}
-use Rattle.servers.proofs.PlacementLaws.{servers-more, placement-length, placement-more}
-use Rattle.servers.proofs.ServerClaims.{servers-few}
+use Rattle.servers.proofs.LaidLaws.{Laid, laid-none, laid-room, laid-count, laid-few, laid-next, laid-placed}
 use Rattle.servers.proofs.placement.place.Statement.{statement}
 use Rattle.servers.proofs.placement.place.Tie as tie
 
 abbrev Inv-loop : tie.InvT-loop
 Inv-loop costs deadlines periods n slot loss count₀ server₀ i₀ count server i =
-    (i ≤ n) × (server ≡ row (placementOf (loadsOf costs deadlines periods i) slot loss))
-    × (count ≡ serversIn (placementOf (loadsOf costs deadlines periods i) slot loss))
+    (i ≤ n) × Laid (loadsOf costs deadlines periods i) slot loss i server count
 
 abbrev μ-loop : tie.MeasureT-loop
 μ-loop costs deadlines periods n slot loss count₀ server₀ i₀ count server i = n - i
 
-module _ (costs deadlines periods : List ℕ) (i S L : ℕ) (few : i < 64) where
-  -- the placement of the first i tasks
-  abbrev so-far : List ℕ
-  so-far = placementOf (loadsOf costs deadlines periods i) S L
-
-  as-long : length (placementOf (loadsOf costs deadlines periods i) S L) ≡ i
-  as-long = placement-length (loadsOf costs deadlines periods i) S L ∙ loads-length costs deadlines periods i
-
-  counted : serversIn (placementOf (loadsOf costs deadlines periods i) S L) ≤ i
-  counted = omega (arith, servers-few (loadsOf costs deadlines periods i) S L, loads-length costs deadlines periods i)
-
-  module _ (server : List ℕ) (e : server ≡ row (placementOf (loadsOf costs deadlines periods i) S L)) where
-    roomy : length server ≡ 64
-    roomy = ap length e ∙ row-length so-far (omega (arith, as-long))
-
-    front : take i server ≡ placementOf (loadsOf costs deadlines periods i) S L
-    front = ap (take i) e ∙ row-take so-far i as-long
-
-    module _ (q : ℕ) (f : q ≡ fit (loadsOf costs deadlines periods i) S L (take i server) (loadAt costs deadlines periods i)) where
-      next : placementOf (loadsOf costs deadlines periods (i + 1)) S L ≡ so-far ++ (q ∷ [])
-      next =
-          ap (λ (ls : List Load). placementOf ls S L) (loads-next costs deadlines periods i) ∙
-          placement-more (loadsOf costs deadlines periods i) S L (loadAt costs deadlines periods i) ∙
-          ap (λ (x : ℕ). so-far ++ (x ∷ []))
-          (sym (f ∙ ap (λ (p : List ℕ). fit (loadsOf costs deadlines periods i) S L p (loadAt costs deadlines periods i)) front))
-
-      stored : set server i q ≡ row (placementOf (loadsOf costs deadlines periods (i + 1)) S L)
-      stored =
-          ap (λ (ns : List ℕ). set ns i q) e ∙
-          ap (λ (k : ℕ). set (row so-far) k q) (sym as-long) ∙
-          row-more so-far q (omega (arith, as-long)) ∙
-          ap row (sym next)
-
-      recounted : serversIn (placementOf (loadsOf costs deadlines periods (i + 1)) S L) ≡ max (serversIn so-far) q
-      recounted = ap serversIn next ∙ servers-more so-far q
-
-made : (count : ℕ) (server placement : List ℕ) → count ≡ serversIn placement → server ≡ row placement → record { count = count; server = server } ≡ placed placement
-unfolding placed
-made count server placement a b = rw (a, b)
-
 loop-holds : tie.Need-loop-holds Inv-loop μ-loop
-unfolding loadsOf placementOf placeFrom serversIn
-loop-holds c = (omega arith, refl, refl)
+unfolding loadsOf
+loop-holds c = (omega arith, laid-none _ _)
 
 slice-aggregate-server-for : tie.Need-slice-aggregate-server-for Inv-loop μ-loop
-slice-aggregate-server-for c =
-    let s = c .before .before .before .before .before .before in
-    let at = c .before .before .loop in
-    sym (roomy (s .args .costs .now) (s .args .deadlines .now) (s .args .periods .now) (at .i) (s .args .slot) (s .args .loss) (omega arith) (at .server) (at .inv .1))
+slice-aggregate-server-for c = sym (laid-room (c .before .before .loop .inv .1))
 
 server-for-requires : tie.Need-server-for-requires Inv-loop μ-loop
 server-for-requires c κs =
-    let s = c .before .before .before .before .before .before in
-    let at = c .before .before .loop in
-    let few : at .i < 64 = omega arith in (
-      sized-first (at .i + 1) (omega arith) (s .pre),
-      (
-        omega (arith, roomy (s .args .costs .now) (s .args .deadlines .now) (s .args .periods .now) (at .i) (s .args .slot) (s .args .loss) few (at .server) (at .inv .1)),
-        at .inv .2 ∙ ap serversIn (sym (front (s .args .costs .now) (s .args .deadlines .now) (s .args .periods .now) (at .i) (s .args .slot) (s .args .loss) few (at .server) (at .inv .1))),
-        omega (arith, counted (s .args .costs .now) (s .args .deadlines .now) (s .args .periods .now) (at .i) (s .args .slot) (s .args .loss) few),
-      ),
-    )
+    let w = c .before .before .loop .inv .1 in
+    (sized-first (c .before .before .loop .i + 1) (omega arith) (c .before .before .before .before .before .before .pre), (omega (arith, w .few, laid-room w), laid-count w, laid-few w))
 
 mul-server : tie.Need-mul-server Inv-loop μ-loop
 mul-server c = omega arith
@@ -102,25 +46,25 @@ add-i c = search needs
 loop-less : tie.Need-loop-less Inv-loop μ-loop
 loop-less c = search needs
 
+-- the servers are counted again
+recounted : (c : tie.Joined1 Inv-loop μ-loop) → c .if1 .count ≡ max (c .before .before .before .before .loop .count) (c .before .server-for .result)
+recounted c = ⊎-elim (λ w. omega (arith, w .0 .taken, w .1)) (λ w. omega (arith, w .0 .left, w .1)) (c .if1 .came)
+
 loop-again : tie.Need-loop-again Inv-loop μ-loop
 loop-again c =
     let s = c .before .before .before .before .before .before .before .before in
-    let at = c .before .before .before .before .loop in
-    let few : at .i < 64 = omega arith in
-    let q = c .before .server-for .result in
-    let f = c .before .server-for .ensures in
-    let r = recounted (s .args .costs .now) (s .args .deadlines .now) (s .args .periods .now) (at .i) (s .args .slot) (s .args .loss) few (at .server) (at .inv .1) q f in (
+    let at = c .before .before .before .before .loop in (
       omega arith,
-      stored (s .args .costs .now) (s .args .deadlines .now) (s .args .periods .now) (at .i) (s .args .slot) (s .args .loss) few (at .server) (at .inv .1) q f,
-      ⊎-elim (λ w. omega (arith, w .0 .taken, w .1, at .inv .2, r)) (λ w. omega (arith, w .0 .left, w .1, at .inv .2, r)) (c .if1 .came),
+      subst (λ (ls : List Load). Laid ls (s .args .slot) (s .args .loss) (at .i + 1) (set (at .server) (at .i) (c .before .server-for .result)) (c .if1 .count))
+          (sym (loads-next (s .args .costs .now) (s .args .deadlines .now) (s .args .periods .now) (at .i)))
+          (laid-next (at .inv .1) _ _ _ (omega arith) (c .before .server-for .ensures) (recounted c)),
     )
 
 returns : tie.Need-returns Inv-loop μ-loop
 returns c =
     let s = c .before .before .before .before .before in
-    let at = c .before .loop in
-    let e : at .i ≡ s .args .n = omega arith in
-    made (at .count) (at .server) (placementOf (loadsOf (s .args .costs .now) (s .args .deadlines .now) (s .args .periods .now) (at .i)) (s .args .slot) (s .args .loss)) (at .inv .2) (at .inv .1) ∙
+    let e : c .before .loop .i ≡ s .args .n = omega arith in
+    laid-placed (c .before .loop .inv .1) ∙
     ap (λ (i : ℕ). placed (placementOf (loadsOf (s .args .costs .now) (s .args .deadlines .now) (s .args .periods .now) i) (s .args .slot) (s .args .loss))) e
 
 pub place-spec : {M : Type 1} → statement M

@@ -1,7 +1,7 @@
 -- `server_for` meets its contract. The loop's invariant: no server below q takes the task.
 -- The measure is what is left of the servers. Assumes nothing.
 use Prim.Native.Nat.{ℕ, suc, _+_, _-_, _≤_, _<_}
-use mathlib.Core.Path.{_≡_, refl, sym, ap, _∙_}
+use mathlib.Core.Path.{_≡_, sym, ap, _∙_}
 use mathlib.Core.Bool.{Bool, true, false}
 use mathlib.Core.List.{List}
 use borrow.Author.Needs.{needs}
@@ -9,7 +9,6 @@ use native.Mathlib.Omega.{arith}
 use native.Mathlib.Decide.{decLt}
 use lib.ListN.{take}
 use Rattle.demand.specs.Load.{Load, loadAt, loadsOf}
-use Rattle.verdict.specs.Search.{NoneIn}
 use Rattle.servers.specs.Placement.{serversIn, takes, fit}
 use Rattle.servers.proofs.FitLaws.{fit-found, fit-new}
 use Rattle.servers.proofs.placement.server_for.Statement.{statement}
