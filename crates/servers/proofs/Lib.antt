@@ -8,5 +8,6 @@ pub mod PlacementLaws
 pub mod StandingLaws
 pub mod ReserveLaws
 pub mod ServerClaims
-pub mod LaidLaws
+pub mod SoFarLaws
+pub mod ServedLaws
 pub mod Worked

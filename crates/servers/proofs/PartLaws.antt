@@ -58,6 +58,7 @@ pub asked : {costs deadlines periods : List ℕ} {n S : ℕ} → Bounded costs d
 asked b = record { sound = b .loaded .sound; slot = b .slot }
 
 module _ {costs deadlines periods : List ℕ} {n S L : ℕ} (file : Sized costs deadlines periods n S L) where
+  -- the file's horizon
   abbrev H : ℕ
   H = ownHorizon S (loadsOf costs deadlines periods n)
 
@@ -67,7 +68,7 @@ module _ {costs deadlines periods : List ℕ} {n S L : ℕ} (file : Sized costs 
       every-both Sound (λ (l : Load). l .period ∣ H) (loadsOf costs deadlines periods n) (file .bounded .loaded .sound)
       (own-horizon (loadsOf costs deadlines periods n) S (asked (file .bounded)) .of-periods)
 
-  -- the file's horizon is at least 1 and within the limit
+  -- it is at least 1 and within the limit
   horizon-some : 1 ≤ H
   horizon-some = own-horizon (loadsOf costs deadlines periods n) S (asked (file .bounded)) .some
 
@@ -75,6 +76,7 @@ module _ {costs deadlines periods : List ℕ} {n S L : ℕ} (file : Sized costs 
   unfolding ownHorizon
   horizon-within = file .bounded .horizon
 
+  -- so a part's horizon is within the limit, and the struct that holds the part may be placed and sized
   part-within : (ks : List Load) → Every (Fine H) ks → ownHorizon S ks ≤ 10000000
   part-within ks e =
       let d : ownHorizon S ks ∣ H = own-divides ks S H (slot-divides (loadsOf costs deadlines periods n) S) (every-map (Fine H) (λ (l : Load). l .period ∣ H) ks (λ l p. p .1) e) in
@@ -155,11 +157,8 @@ module _ {costs deadlines periods : List ℕ} {n S L : ℕ} (file : Sized costs 
       record {
         is = e;
         few = omega (arith, file .bounded .few, in-few (loadsOf costs deadlines periods i) placement q, loads-length costs deadlines periods i);
-        fine = every-in (Fine H) (loadsOf costs deadlines periods i) placement q (every-first costs deadlines periods (Fine H) n h (all-fine file));
+        fine = every-in (Fine (H file)) (loadsOf costs deadlines periods i) placement q (every-first costs deadlines periods (Fine (H file)) n h (all-fine file));
       }
-    where
-      H : ℕ
-      H = ownHorizon S (loadsOf costs deadlines periods n)
 
   -- and task i with them
   pub holds-with : (i : ℕ) {m : Members} {ks : List Load} (more : Members) → i < n → length ks < 64 → Holds costs deadlines periods n S m ks →
@@ -168,11 +167,8 @@ module _ {costs deadlines periods : List ℕ} {n S L : ℕ} (file : Sized costs 
       record {
         is = e ∙ ap (λ (k : Members). withLoad k (loadAt costs deadlines periods i)) (w .is) ∙ members-more ks (loadAt costs deadlines periods i) room;
         few = omega (arith, length-append ks (loadAt costs deadlines periods i ∷ []));
-        fine = every-snoc (Fine H) ks (loadAt costs deadlines periods i) (w .fine) (every-at costs deadlines periods (Fine H) n h (all-fine file));
+        fine = every-snoc (Fine (H file)) ks (loadAt costs deadlines periods i) (w .fine) (every-at costs deadlines periods (Fine (H file)) n h (all-fine file));
       }
-    where
-      H : ℕ
-      H = ownHorizon S (loadsOf costs deadlines periods n)
 
 pub holds-loads : {costs deadlines periods : List ℕ} {n S : ℕ} {m : Members} {ks : List Load} → Holds costs deadlines periods n S m ks → held m ≡ ks
 holds-loads {ks = ks} h = ap held (h .is) ∙ held-members ks

@@ -1,4 +1,5 @@
 // From loads to servers: placement by first fit in file order, and the smallest reserve of each server.
+// What they mean stands in specs/Placement.antt and specs/Reserve.antt.
 use crate::placement::place;
 use crate::sizing::size;
 ghost use mathlib.Core.Path.{_≡_};
@@ -17,6 +18,7 @@ pub struct Servers {
     pub reserve: [u64; 64],
 }
 
+// The tasks are placed, and then each server is sized.
 pub fn serve<'a>(
     costs: &'a [u64],
     deadlines: &'a [u64],

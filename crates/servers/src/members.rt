@@ -9,6 +9,7 @@ ghost use Rattle.verdict.specs.Verdict.{ownHorizon};
 ghost use Rattle.servers.specs.Members.{membersOf, held, withLoad, Gathered, Bounded};
 ghost use Rattle.servers.specs.Placement.{loadsIn};
 
+// Unused room is zero.
 pub struct Members {
     pub count: usize,
     pub costs: [u64; 64],
@@ -16,6 +17,7 @@ pub struct Members {
     pub periods: [u64; 64],
 }
 
+// One load more, in the first unused place.
 pub fn with_load(m: Members, cost: u64, deadline: u64, period: u64) -> Members
     requires { ⌜ m .count < 64 ⌝ }
     ensures { λ r. ⌜ r ≡ withLoad m (record { cost = cost; deadline = deadline; period = period }) ⌝ }
@@ -58,14 +60,16 @@ pub fn gather<'a>(
     m
 }
 
+// Document 01's limit of a file's horizon.
+const LIMIT: u64 = 10_000_000;
+
 // The least common multiple of the slot and the server's periods. It divides the file's horizon, so it is within the limit.
 pub fn own_horizon(m: Members, slot: u64) -> u64
     requires { ⌜ Bounded (m .costs) (m .deadlines) (m .periods) (m .count) slot ⌝ }
     ensures { λ r. ⌜ r ≡ ownHorizon slot (held m) ⌝ }
 {
     let n = m.count;
-    let Multiple::Within(horizon) = wholes::least_multiple_of(slot, &m.periods, n, 10_000_000)
-    else {
+    let Multiple::Within(horizon) = wholes::least_multiple_of(slot, &m.periods, n, LIMIT) else {
         return slot;
     };
     horizon

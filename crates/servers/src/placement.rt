@@ -10,7 +10,7 @@ ghost use Rattle.demand.specs.Load.{loadAt, loadsOf};
 ghost use Rattle.servers.specs.Members.{Sized};
 ghost use Rattle.servers.specs.Placement.{takes, fit, serversIn, placementOf, placed};
 
-// Task i is added before the horizon is taken.
+// Server q passes with task i added. The task is added before the horizon is taken.
 pub fn passes_with<'a>(
     costs: &'a [u64],
     deadlines: &'a [u64],

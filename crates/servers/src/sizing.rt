@@ -12,6 +12,7 @@ ghost use Rattle.servers.specs.Members.{Sized};
 ghost use Rattle.servers.specs.Placement.{loadsIn};
 ghost use Rattle.servers.specs.Reserve.{reservesUpTo};
 
+// The smallest allowed reserve with which server q passes.
 pub fn reserve_of<'a>(
     costs: &'a [u64],
     deadlines: &'a [u64],

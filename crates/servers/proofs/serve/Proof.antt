@@ -8,38 +8,38 @@ use Rattle.demand.specs.Load.{Load, loadsOf}
 use Rattle.demand.proofs.Demand.{loads-length}
 use Rattle.servers.specs.Row.{row}
 use Rattle.servers.specs.Reserve.{reservesUpTo, reservesOf, serversOf}
-use Rattle.servers.proofs.LaidLaws.{Laid, laid-room, laid-front, laid-few, placed-laid}
+use Rattle.servers.proofs.SoFarLaws.{SoFar, so-far-room, so-far-front, so-far-few, placed-so-far}
 use Rattle.servers.proofs.serve.Statement.{statement}
 use Rattle.servers.proofs.serve.Tie as tie
 
 -- a placement and the reserves of its servers are the answer
-served : {ls : List Load} {S L n : ℕ} {server : List ℕ} {count : ℕ} → Laid ls S L n server count →
+served : {ls : List Load} {S L n : ℕ} {server : List ℕ} {count : ℕ} → SoFar ls S L n server count →
     (reserve : List ℕ) → reserve ≡ row (reservesUpTo ls S L (take n server) count) →
     record { count = count; server = server; reserve = reserve } ≡ serversOf ls S L
 unfolding serversOf reservesOf
-served w reserve r = rw (r, laid-front w, w .count-is, w .row-is)
+served w reserve r = rw (r, so-far-front w, w .count-is, w .row-is)
 
 place-requires : tie.Need-place-requires
 place-requires c κs = c .before .before .before .pre
 
 -- what is known once the tasks are placed
-laid : (c : tie.After-place) →
+so-far : (c : tie.After-place) →
     let s = c .before .before .before .before in
-    Laid (loadsOf (s .args .costs .now) (s .args .deadlines .now) (s .args .periods .now) (s .args .n)) (s .args .slot) (s .args .loss) (s .args .n) (c .place .result .server) (c .place .result .count)
-laid c =
+    SoFar (loadsOf (s .args .costs .now) (s .args .deadlines .now) (s .args .periods .now) (s .args .n)) (s .args .slot) (s .args .loss) (s .args .n) (c .place .result .server) (c .place .result .count)
+so-far c =
     let s = c .before .before .before .before in
-    placed-laid (s .args .n) (c .place .result) (loads-length (s .args .costs .now) (s .args .deadlines .now) (s .args .periods .now) (s .args .n)) (s .pre .bounded .few) (c .place .ensures)
+    placed-so-far (s .args .n) (c .place .result) (loads-length (s .args .costs .now) (s .args .deadlines .now) (s .args .periods .now) (s .args .n)) (s .pre .bounded .few) (c .place .ensures)
 
 slice-aggregate-size : tie.Need-slice-aggregate-size
-slice-aggregate-size c = sym (laid-room (laid (c .before .before)))
+slice-aggregate-size c = sym (so-far-room (so-far (c .before .before)))
 
 size-requires : tie.Need-size-requires
 size-requires c κs =
-    let w = laid (c .before .before) in
-    (c .before .before .before .before .before .before .pre, (omega (arith, w .few, laid-room w), laid-few w))
+    let w = so-far (c .before .before) in
+    (c .before .before .before .before .before .before .pre, (omega (arith, w .few, so-far-room w), so-far-few w))
 
 returns : tie.Need-returns
-returns c = served (laid (c .before .before .before)) (c .size .result) (c .size .ensures)
+returns c = served (so-far (c .before .before .before)) (c .size .result) (c .size .ensures)
 
 pub serve-spec : {M : Type 1} → statement M
 serve-spec = tie.close (tie.spec place-requires slice-aggregate-size size-requires returns)

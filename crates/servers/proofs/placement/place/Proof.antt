@@ -11,28 +11,28 @@ use Rattle.demand.specs.Load.{Load, loadsOf}
 use Rattle.demand.proofs.Demand.{loads-next}
 use Rattle.servers.specs.Placement.{placementOf, placed}
 use Rattle.servers.proofs.PartLaws.{sized-first}
-use Rattle.servers.proofs.LaidLaws.{Laid, laid-none, laid-room, laid-count, laid-few, laid-next, laid-placed}
+use Rattle.servers.proofs.SoFarLaws.{SoFar, so-far-none, so-far-room, so-far-count, so-far-few, so-far-next, so-far-placed}
 use Rattle.servers.proofs.placement.place.Statement.{statement}
 use Rattle.servers.proofs.placement.place.Tie as tie
 
 abbrev Inv-loop : tie.InvT-loop
 Inv-loop costs deadlines periods n slot loss count₀ server₀ i₀ count server i =
-    (i ≤ n) × Laid (loadsOf costs deadlines periods i) slot loss i server count
+    (i ≤ n) × SoFar (loadsOf costs deadlines periods i) slot loss i server count
 
 abbrev μ-loop : tie.MeasureT-loop
 μ-loop costs deadlines periods n slot loss count₀ server₀ i₀ count server i = n - i
 
 loop-holds : tie.Need-loop-holds Inv-loop μ-loop
 unfolding loadsOf
-loop-holds c = (omega arith, laid-none _ _)
+loop-holds c = (omega arith, so-far-none _ _)
 
 slice-aggregate-server-for : tie.Need-slice-aggregate-server-for Inv-loop μ-loop
-slice-aggregate-server-for c = sym (laid-room (c .before .before .loop .inv .1))
+slice-aggregate-server-for c = sym (so-far-room (c .before .before .loop .inv .1))
 
 server-for-requires : tie.Need-server-for-requires Inv-loop μ-loop
 server-for-requires c κs =
     let w = c .before .before .loop .inv .1 in
-    (sized-first (c .before .before .loop .i + 1) (omega arith) (c .before .before .before .before .before .before .pre), (omega (arith, w .few, laid-room w), laid-count w, laid-few w))
+    (sized-first (c .before .before .loop .i + 1) (omega arith) (c .before .before .before .before .before .before .pre), (omega (arith, w .few, so-far-room w), so-far-count w, so-far-few w))
 
 mul-server : tie.Need-mul-server Inv-loop μ-loop
 mul-server c = omega arith
@@ -55,16 +55,16 @@ loop-again c =
     let s = c .before .before .before .before .before .before .before .before in
     let at = c .before .before .before .before .loop in (
       omega arith,
-      subst (λ (ls : List Load). Laid ls (s .args .slot) (s .args .loss) (at .i + 1) (set (at .server) (at .i) (c .before .server-for .result)) (c .if1 .count))
+      subst (λ (ls : List Load). SoFar ls (s .args .slot) (s .args .loss) (at .i + 1) (set (at .server) (at .i) (c .before .server-for .result)) (c .if1 .count))
           (sym (loads-next (s .args .costs .now) (s .args .deadlines .now) (s .args .periods .now) (at .i)))
-          (laid-next (at .inv .1) _ _ _ (omega arith) (c .before .server-for .ensures) (recounted c)),
+          (so-far-next (at .inv .1) _ _ _ (omega arith) (c .before .server-for .ensures) (recounted c)),
     )
 
 returns : tie.Need-returns Inv-loop μ-loop
 returns c =
     let s = c .before .before .before .before .before in
     let e : c .before .loop .i ≡ s .args .n = omega arith in
-    laid-placed (c .before .loop .inv .1) ∙
+    so-far-placed (c .before .loop .inv .1) ∙
     ap (λ (i : ℕ). placed (placementOf (loadsOf (s .args .costs .now) (s .args .deadlines .now) (s .args .periods .now) i) (s .args .slot) (s .args .loss))) e
 
 pub place-spec : {M : Type 1} → statement M

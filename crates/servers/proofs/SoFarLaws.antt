@@ -13,40 +13,40 @@ use Rattle.servers.proofs.RowLaws.{row-length, row-take, row-more}
 use Rattle.servers.proofs.PlacementLaws.{servers-more, placement-length, placement-more}
 use Rattle.servers.proofs.ServerClaims.{servers-few}
 
-pub record Laid (ls : List Load) (S L i : ℕ) (server : List ℕ) (count : ℕ) : Type 0 where
+pub record SoFar (ls : List Load) (S L i : ℕ) (server : List ℕ) (count : ℕ) : Type 0 where
   pub tasks : length ls ≡ i
   pub few : i ≤ 64
   pub row-is : server ≡ row (placementOf ls S L)
   pub count-is : count ≡ serversIn (placementOf ls S L)
 
 -- no task yet
-pub laid-none : (S L : ℕ) → Laid [] S L 0 (replicate 64 0) 0
+pub so-far-none : (S L : ℕ) → SoFar [] S L 0 (replicate 64 0) 0
 unfolding placementOf placeFrom serversIn
-laid-none S L = record { tasks = refl; few = omega arith; row-is = refl; count-is = refl }
+so-far-none S L = record { tasks = refl; few = omega arith; row-is = refl; count-is = refl }
 
-module _ {ls : List Load} {S L i : ℕ} {server : List ℕ} {count : ℕ} (w : Laid ls S L i server count) where
+module _ {ls : List Load} {S L i : ℕ} {server : List ℕ} {count : ℕ} (w : SoFar ls S L i server count) where
   as-long : length (placementOf ls S L) ≡ i
   as-long = placement-length ls S L ∙ w .tasks
 
   -- the row has its 64 places
-  pub laid-room : length server ≡ 64
-  laid-room = ap length (w .row-is) ∙ row-length (placementOf ls S L) (omega (arith, as-long, w .few))
+  pub so-far-room : length server ≡ 64
+  so-far-room = ap length (w .row-is) ∙ row-length (placementOf ls S L) (omega (arith, as-long, w .few))
 
   -- the placed tasks stand at its front
-  pub laid-front : take i server ≡ placementOf ls S L
-  laid-front = ap (take i) (w .row-is) ∙ row-take (placementOf ls S L) i as-long
+  pub so-far-front : take i server ≡ placementOf ls S L
+  so-far-front = ap (take i) (w .row-is) ∙ row-take (placementOf ls S L) i as-long
 
   -- the servers are counted, and few
-  pub laid-count : count ≡ serversIn (take i server)
-  laid-count = w .count-is ∙ ap serversIn (sym laid-front)
+  pub so-far-count : count ≡ serversIn (take i server)
+  so-far-count = w .count-is ∙ ap serversIn (sym so-far-front)
 
-  pub laid-few : count ≤ 64
-  laid-few = omega (arith, w .count-is, w .few, w .tasks, servers-few ls S L)
+  pub so-far-few : count ≤ 64
+  so-far-few = omega (arith, w .count-is, w .few, w .tasks, servers-few ls S L)
 
   -- one task more, in the server that the rule picks
-  pub laid-next : (l : Load) (q more : ℕ) → i < 64 → q ≡ fit ls S L (take i server) l → more ≡ max count q →
-      Laid (ls ++ (l ∷ [])) S L (i + 1) (set server i q) more
-  laid-next l q more h f m =
+  pub so-far-next : (l : Load) (q more : ℕ) → i < 64 → q ≡ fit ls S L (take i server) l → more ≡ max count q →
+      SoFar (ls ++ (l ∷ [])) S L (i + 1) (set server i q) more
+  so-far-next l q more h f m =
       record {
         tasks = length-append ls (l ∷ []) ∙ ap (λ (k : ℕ). k + 1) (w .tasks);
         few = omega arith;
@@ -61,15 +61,15 @@ module _ {ls : List Load} {S L i : ℕ} {server : List ℕ} {count : ℕ} (w : L
       next : placementOf (ls ++ (l ∷ [])) S L ≡ placementOf ls S L ++ (q ∷ [])
       next =
           placement-more ls S L l ∙
-          ap (λ (x : ℕ). placementOf ls S L ++ (x ∷ [])) (sym (f ∙ ap (λ (p : List ℕ). fit ls S L p l) laid-front))
+          ap (λ (x : ℕ). placementOf ls S L ++ (x ∷ [])) (sym (f ∙ ap (λ (p : List ℕ). fit ls S L p l) so-far-front))
 
   -- the struct of such a row
-  pub laid-placed : record { count = count; server = server } ≡ placed (placementOf ls S L)
+  pub so-far-placed : record { count = count; server = server } ≡ placed (placementOf ls S L)
   unfolding placed
-  laid-placed = rw (w .count-is, w .row-is)
+  so-far-placed = rw (w .count-is, w .row-is)
 
 -- and back
-pub placed-laid : {ls : List Load} {S L : ℕ} (i : ℕ) (p : Placed) → length ls ≡ i → i ≤ 64 → p ≡ placed (placementOf ls S L) → Laid ls S L i (p .server) (p .count)
+pub placed-so-far : {ls : List Load} {S L : ℕ} (i : ℕ) (p : Placed) → length ls ≡ i → i ≤ 64 → p ≡ placed (placementOf ls S L) → SoFar ls S L i (p .server) (p .count)
 unfolding placed
-placed-laid i p t h e =
+placed-so-far i p t h e =
     record { tasks = t; few = h; row-is = ap (λ (k : Placed). k .server) e; count-is = ap (λ (k : Placed). k .count) e }
