@@ -14,3 +14,5 @@ pub mod FirstLaws
 pub mod Exactly
 pub mod Accepted
 pub mod RoundTripText
+pub mod Prefix
+pub mod Examples

@@ -5,8 +5,10 @@ use mathlib.Core.List.{List, []}
 use mathlib.Core.Bool.{Bool, true, false}
 use mathlib.Core.Path.{_≡_}
 use mathlib.Core.Logic.{_↔_}
-use lib.ListN.{length}
+use lib.ListN.{length, take}
+use Rattle.frames.specs.Table.{lengthOf}
 use Rattle.frames.specs.Refused.{numberOf}
+use Rattle.frames.specs.declared.table.Frame.{Frame}
 use Rattle.frames.specs.declared.refusal.Refusal.{Refusal}
 use Rattle.frames.specs.declared.refusal.Refusal.the-variants.{Line, Order, Count, Twice, Board, Range}
 use Rattle.frames.specs.declared.refusal.Outcome.the-variants.{Done, Refused}
@@ -84,6 +86,13 @@ ReadRefuses = (text : List ℕ) (r : Refusal) → readOf text .outcome ≡ Refus
 -- two answers that keep the reader's promise coincide
 abbrev pub ReadDetermined : Type 0
 ReadDetermined = (text : List ℕ) (a b : ReadAnswer) → a ≡ readOf text → b ≡ readOf text → a ≡ b
+
+-- reading looks no further than a header, 64 tasks and the longest line after them
+abbrev pub furthest : ℕ
+furthest = placeAfter mostTasks + (lengthOf Frame.Header + 1)
+
+abbrev pub ReadLooksAt : Type 0
+ReadLooksAt = (n : ℕ) (text : List ℕ) → furthest ≤ n → readOf (take n text) ≡ readOf text
 
 -- an accepted file is a header and 1 to 64 tasks, nothing after them, and the answer holds those
 pub record Accepted (text : List ℕ) : Type 0 where
