@@ -9,6 +9,7 @@ use Rattle.verdict.specs.Search.{firstUpTo, orElse, NoneIn, First}
 use Rattle.verdict.proofs.Bounded.{first-is, first-none, first-view}
 use Rattle.servers.specs.Placement.{serversIn, takes, fit}
 
+-- the first number stands where it is not 0
 or-else-some : (a b : ℕ) → 1 ≤ a → orElse a b ≡ a
 or-else-some zero b h = absurd (omega arith)
 or-else-some (suc a) b h = refl

@@ -11,6 +11,7 @@ use borrow.Author.Tests.{eq-eqb, ne-eqb}
 use Rattle.demand.specs.Load.{Load, Every}
 use Rattle.servers.specs.Placement.{keep, loadsIn, serversIn}
 
+-- what is kept or left out at the front leaves the rest alone
 keep-append : (b : Bool) (l : Load) (ls ks : List Load) → keep b l (ls ++ ks) ≡ keep b l ls ++ ks
 keep-append true l ls ks = refl
 keep-append false l ls ks = refl
@@ -26,11 +27,13 @@ in-more (k ∷ ls) (b ∷ placement) l a q e =
     ap (keep (eqb b q) k) (in-more ls placement l a q (omega arith)) ∙
     keep-append (eqb b q) k (loadsIn ls placement q) (keep (eqb a q) l [])
 
+-- the server that the task joins has one load more
 pub in-joined : (ls : List Load) (placement : List ℕ) (l : Load) (a q : ℕ) → length placement ≡ length ls → a ≡ q →
     loadsIn (ls ++ (l ∷ [])) (placement ++ (a ∷ [])) q ≡ loadsIn ls placement q ++ (l ∷ [])
 in-joined ls placement l a q e h =
     in-more ls placement l a q e ∙ ap (λ (b : Bool). loadsIn ls placement q ++ keep b l []) (eq-eqb a q h)
 
+-- every other server has what it had
 pub in-apart : (ls : List Load) (placement : List ℕ) (l : Load) (a q : ℕ) → length placement ≡ length ls → (a ≡ q → ⊥) →
     loadsIn (ls ++ (l ∷ [])) (placement ++ (a ∷ [])) q ≡ loadsIn ls placement q
 in-apart ls placement l a q e h =

@@ -32,10 +32,12 @@ loads-laid (l ∷ ls) us vs ws =
 
 -- ---- the struct
 
+-- a struct made of loads holds them
 pub held-members : (ls : List Load) → held (membersOf ls) ≡ ls
 unfolding membersOf
 held-members ls = loads-laid ls _ _ _
 
+-- one figure more in a row of figures
 figure-more : (f : Load → ℕ) (ls : List Load) (l : Load) → length ls < 64 → set (row (map f ls)) (length ls) (f l) ≡ row (map f (ls ++ (l ∷ [])))
 figure-more f ls l h =
     ap (λ (n : ℕ). set (row (map f ls)) n (f l)) (sym (length-map ls f)) ∙

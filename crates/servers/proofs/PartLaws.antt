@@ -21,10 +21,12 @@ use Rattle.servers.proofs.RowLaws.{row-length}
 use Rattle.servers.proofs.MemberLaws.{held-members, members-more}
 use Rattle.servers.proofs.LoadLaws.{every-in, in-few}
 
+-- two things that hold of every load hold together
 every-both : (P Q : Load → Type 0) (ls : List Load) → Every P ls → Every Q ls → Every (λ (l : Load). P l × Q l) ls
 every-both P Q [] p q = tt
 every-both P Q (l ∷ ls) p q = ((p .0, q .0), every-both P Q ls (p .1) (q .1))
 
+-- what follows from a thing that holds of every load
 every-map : (P Q : Load → Type 0) (ls : List Load) → ((l : Load) → P l → Q l) → Every P ls → Every Q ls
 every-map P Q [] f p = tt
 every-map P Q (l ∷ ls) f p = (f l (p .0), every-map P Q ls f (p .1))
@@ -40,6 +42,7 @@ pub own-divides : (ls : List Load) (S H : ℕ) → S ∣ H → Every (λ (l : Lo
 unfolding ownHorizon
 own-divides ls S H s e = multiple-of-divides S (map (λ (l : Load). l .period) ls) H s (divides ls H e)
 
+-- the slot divides the horizon
 pub slot-divides : (ls : List Load) (S : ℕ) → S ∣ ownHorizon S ls
 unfolding ownHorizon
 slot-divides ls S = first-divides-of S (map (λ (l : Load). l .period) ls)
@@ -54,6 +57,7 @@ own-in-divides ls placement S q a =
 abbrev pub Fine : ℕ → Load → Type 0
 Fine H l = Sound l × (l .period ∣ H)
 
+-- the loads may be asked about
 pub asked : {costs deadlines periods : List ℕ} {n S : ℕ} → Bounded costs deadlines periods n S → Asked (loadsOf costs deadlines periods n) S
 asked b = record { sound = b .loaded .sound; slot = b .slot }
 
@@ -170,5 +174,6 @@ module _ {costs deadlines periods : List ℕ} {n S L : ℕ} (file : Sized costs 
         fine = every-snoc (Fine (H file)) ks (loadAt costs deadlines periods i) (w .fine) (every-at costs deadlines periods (Fine (H file)) n h (all-fine file));
       }
 
+-- the loads that such a struct holds are the part
 pub holds-loads : {costs deadlines periods : List ℕ} {n S : ℕ} {m : Members} {ks : List Load} → Holds costs deadlines periods n S m ks → held m ≡ ks
 holds-loads {ks = ks} h = ap held (h .is) ∙ held-members ks

@@ -14,6 +14,7 @@ servers-more [] a = omega arith
 servers-more (b ∷ placement) a = omega (arith, servers-more placement a)
 
 module _ (S L : ℕ) where
+  -- each task that comes adds one server to the list
   from-length : (done : List Load) (placement : List ℕ) (left : List Load) → length (placeFrom done S L placement left) ≡ length placement + length left
   unfolding placeFrom
   from-length done placement [] = omega arith
@@ -21,6 +22,7 @@ module _ (S L : ℕ) where
       from-length (done ++ (l ∷ [])) (placement ++ (fit done S L placement l ∷ [])) left ∙
       omega (arith, length-append placement (fit done S L placement l ∷ []))
 
+  -- one task more comes last
   from-more : (done : List Load) (placement : List ℕ) (left : List Load) (l : Load) →
       placeFrom done S L placement (left ++ (l ∷ [])) ≡
       placeFrom done S L placement left ++ (fit (done ++ left) S L (placeFrom done S L placement left) l ∷ [])

@@ -13,12 +13,14 @@ use Rattle.servers.specs.Placement.{loadsIn}
 use Rattle.servers.specs.Reserve.{reservesUpTo}
 
 module _ (ls : List Load) (S L : ℕ) (placement : List ℕ) where
+  -- as many reserves as servers
   pub reserves-length : (n : ℕ) → length (reservesUpTo ls S L placement n) ≡ n
   unfolding reservesUpTo
   reserves-length zero = refl
   reserves-length (suc n) =
       length-append (reservesUpTo ls S L placement n) (smallestReserve (loadsIn ls placement (suc n)) S L ∷ []) ∙ omega (arith, reserves-length n)
 
+  -- one server more
   pub reserves-more : (n : ℕ) → reservesUpTo ls S L placement (n + 1) ≡ reservesUpTo ls S L placement n ++ (smallestReserve (loadsIn ls placement (n + 1)) S L ∷ [])
   unfolding reservesUpTo
   reserves-more n = rw add-one

@@ -7,6 +7,7 @@ use lib.ListN.{length, set, take, replicate, length-append, length-replicate}
 use lib.Seq.{append-snoc, set-append-seam, take-at}
 use Rattle.servers.specs.Row.{row}
 
+-- a row has 64 places
 pub row-length : (ns : List ℕ) → length ns ≤ 64 → length (row ns) ≡ 64
 row-length ns h = length-append ns (replicate (64 - length ns) 0) ∙ omega (arith, length-replicate {A = ℕ} (64 - length ns) 0)
 

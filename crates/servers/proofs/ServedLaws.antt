@@ -25,6 +25,7 @@ pub reserves-count : (ls : List Load) (S L : ℕ) → length (reservesOf ls S L)
 unfolding reservesOf
 reserves-count ls S L = reserves-length ls S L (placementOf ls S L) (serversIn (placementOf ls S L))
 
+-- each reserve is from 1 to the slot
 pub reserves-range : (ls : List Load) (S L : ℕ) → Asked ls S → (i : ℕ) → i < length (reservesOf ls S L) →
     (1 ≤ getD (reservesOf ls S L) i 0) × (getD (reservesOf ls S L) i 0 ≤ S)
 reserves-range ls S L a i h =
@@ -34,10 +35,12 @@ reserves-range ls S L a i h =
     (smallest-reserves ls S L a .1 (suc i) (omega arith) (omega (arith, reserves-count ls S L)) .allowed))
 
 module _ (ls : List Load) (S L : ℕ) (few : length ls ≤ 64) where
+  -- there are at most 64 servers
   pub served-few : serversOf ls S L .count ≤ 64
   unfolding serversOf
   served-few = omega (arith, servers-few ls S L)
 
+  -- both rows have 64 places
   pub served-room : (length (serversOf ls S L .server) ≡ 64) × (length (serversOf ls S L .reserve) ≡ 64)
   unfolding serversOf
   served-room = (

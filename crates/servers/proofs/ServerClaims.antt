@@ -30,9 +30,11 @@ fit-takes-or-new ls S L placement l =
     ⊎-elim (λ w. inr (w .0)) (λ w. inl (w .1 .there, w .0, w .1 .has)) (fit-view ls S L placement l)
 
 module _ (S L : ℕ) where
+  -- so it picks a server that there is, or a new one
   fit-old-or-new : (ls : List Load) (l : Load) → OldOrNew (placementOf ls S L) (fit ls S L (placementOf ls S L) l)
   fit-old-or-new ls l = old-or-new ls S L (placementOf ls S L) l (fit ls S L (placementOf ls S L) l) (fit-takes-or-new ls S L (placementOf ls S L) l)
 
+  -- by the tasks in order: one server each and none empty, never more servers than tasks, and every server passes
   parted : (ls : List Load) → Parted ls (placementOf ls S L)
   unfolding placementOf placeFrom serversIn
   parted =
@@ -79,6 +81,7 @@ every-passes ls S L a q first there =
 
 -- what first fit means over all lengths
 module _ (ls : List Load) (S L : ℕ) (placement : List ℕ) (l : Load) (a : Asked (ls ++ (l ∷ [])) S) where
+  -- a server's loads with the new one are sound
   asked-with : (q : ℕ) → Asked (loadsIn ls placement q ++ (l ∷ [])) S
   asked-with q =
       record {
@@ -86,6 +89,7 @@ module _ (ls : List Load) (S L : ℕ) (placement : List ℕ) (l : Load) (a : Ask
         slot = a .slot;
       }
 
+  -- that the rule takes a server, or does not, says whether it passes with the load
   takes-passes : (q : ℕ) → takes ls S L placement l q ≡ true → PassesWith ls S L placement l q
   unfolding takes
   takes-passes q t = passing-means (loadsIn ls placement q ++ (l ∷ [])) S L S (asked-with q) .0 t
@@ -94,6 +98,7 @@ module _ (ls : List Load) (S L : ℕ) (placement : List ℕ) (l : Load) (a : Ask
   unfolding takes
   takes-not q t = passing-means (loadsIn ls placement q ++ (l ∷ [])) S L S (asked-with q) .1 t
 
+  -- the rule in those words
   pub fit-means : Lowest ls S L placement l (fit ls S L placement l) ⊎ Opened ls S L placement l (fit ls S L placement l)
   fit-means = ⊎-elim (λ w. inr (opened w)) (λ w. inl (lowest w)) (fit-view ls S L placement l)
     where
@@ -109,6 +114,7 @@ module _ (ls : List Load) (S L : ℕ) (placement : List ℕ) (l : Load) (a : Ask
             no-lower = λ x first below. takes-not x (w .1 .before x first below);
           }
 
+-- what holds of every load of two lists holds of the first
 every-part : (P : Load → Type 0) (ls ks : List Load) → Every P (ls ++ ks) → Every P ls
 every-part P [] ks e = tt
 every-part P (l ∷ ls) ks e = (e .0, every-part P ls ks (e .1))

@@ -25,6 +25,7 @@ unfolding placementOf placeFrom serversIn
 so-far-none S L = record { tasks = refl; few = omega arith; row-is = refl; count-is = refl }
 
 module _ {ls : List Load} {S L i : ℕ} {server : List ℕ} {count : ℕ} (w : SoFar ls S L i server count) where
+  -- one server for each task
   as-long : length (placementOf ls S L) ≡ i
   as-long = placement-length ls S L ∙ w .tasks
 

@@ -26,6 +26,7 @@ bounds : (placement : List ℕ) (q : ℕ) → OldOrNew placement q → (1 ≤ q)
 bounds placement q o = ⊎-elim (λ w. (w .0, omega (arith, w .1))) (λ (e : q ≡ suc (serversIn placement)). (omega arith, omega arith)) o
 
 module _ (placement : List ℕ) (q : ℕ) where
+  -- the places of a placement with one task more
   at-old : (i : ℕ) → i < length placement → getD (placement ++ (q ∷ [])) i 0 ≡ getD placement i 0
   at-old i h = List·getD-append placement (q ∷ []) 0 i h
 
@@ -36,6 +37,7 @@ module _ (placement : List ℕ) (q : ℕ) where
   longer = length-append placement (q ∷ [])
 
   module _ (ls : List Load) (l : Load) (p : Parted ls placement) (o : (1 ≤ q) × (q ≤ suc (serversIn placement))) where
+    -- what a placement keeps with one task more: every server named is there, and none is empty
     still-there : (i : ℕ) → i < length (placement ++ (q ∷ [])) →
         (1 ≤ getD (placement ++ (q ∷ [])) i 0) × (getD (placement ++ (q ∷ [])) i 0 ≤ serversIn (placement ++ (q ∷ [])))
     still-there i h = by (decLt i (length placement))
@@ -67,6 +69,7 @@ module _ (placement : List ℕ) (q : ℕ) where
           none-empty = still-none-empty;
         }
 
+-- the same by the two cases
 pub parted-more : (ls : List Load) (placement : List ℕ) (l : Load) (q : ℕ) → Parted ls placement → OldOrNew placement q →
     Parted (ls ++ (l ∷ [])) (placement ++ (q ∷ []))
 parted-more ls placement l q p o = parted-by placement q ls l p (bounds placement q o)
@@ -86,6 +89,7 @@ abbrev pub TakesOrNew : List Load → (S L : ℕ) → (placement : List ℕ) →
 TakesOrNew ls S L placement l q =
     ((1 ≤ q) × (q ≤ serversIn placement) × (takes ls S L placement l q ≡ true)) ⊎ (q ≡ suc (serversIn placement))
 
+-- a server that takes the task is there
 pub old-or-new : (ls : List Load) (S L : ℕ) (placement : List ℕ) (l : Load) (q : ℕ) → TakesOrNew ls S L placement l q → OldOrNew placement q
 old-or-new ls S L placement l q o = ⊎-elim (λ w. inl (w .0, w .1)) (λ e. inr e) o
 
@@ -100,6 +104,7 @@ module _ (ls : List Load) (S L : ℕ) (placement : List ℕ) (l : Load) (q : ℕ
           ap (λ (ks : List Load). passing (ks ++ (l ∷ [])) S L S) (in-none ls placement q (omega arith)) ∙
           passes-passing (l ∷ []) S L S (record { sound = (sound, tt); slot = some }) (alone-passes l S L sound)
 
+  -- every server still passes
   pub all-pass-more : TakesOrNew ls S L placement l q → AllPass ls S L placement → AllPass (ls ++ (l ∷ [])) S L (placement ++ (q ∷ []))
   all-pass-more o all x first h = by (ℕ-discrete q x)
     where

@@ -30,12 +30,12 @@ enum-told c = search needs
 returns : tie.Need-returns
 returns c =
     let s = c .before .before .before .before .before .before in
-    within-limit (s .pre) (past-value 10000000 _ (sym (c .before .before .least-multiple-of .ensures) ∙ c .enum-told .given .1))
+    within-limit (s .pre) (omega (arith, past-value _ _ (sym (c .before .before .least-multiple-of .ensures) ∙ c .enum-told .given .1)))
 
 returns-2 : tie.Need-returns-2
 returns-2 c =
     let s = c .before .before .before .before .before .before .before in
-    within-value 10000000 _ _ (sym (c .before .before .before .least-multiple-of .ensures) ∙ c .before .horizon .given .1) .0 ∙
+    within-value _ _ _ (sym (c .before .before .before .least-multiple-of .ensures) ∙ c .before .horizon .given .1) .0 ∙
     sym (own-taken (s .args .t1 .costs) (s .args .t1 .deadlines) (s .args .t1 .periods) (s .args .slot) (s .args .t1 .count) (s .pre .loaded .periods-there))
 
 pub own-horizon-spec : {M : Type 1} → statement M
