@@ -1,7 +1,8 @@
 -- Rows 7 to 9 of the refusals, each by its own test, and the first of rows 5 to 9 that holds of a set.
 -- Document 01, "Refusal numbers and their order".
-use Prim.Native.Nat.{ℕ}
+use Prim.Native.Nat.{ℕ, _≤_}
 use mathlib.Core.List.{List, map}
+use mathlib.Core.Path.{_≡_}
 use mathlib.Core.Bool.{Bool, true, false}
 use lib.Dec.{leb, ltb}
 use Rattle.frames.specs.Digit.{either}
@@ -11,8 +12,8 @@ use Rattle.wholes.specs.Multiple.{leastMultipleOf}
 use Rattle.tasks.specs.declared.set.Header.{Header}
 use Rattle.tasks.specs.declared.set.Task.{Task}
 use Rattle.tasks.specs.declared.set.TaskSet.{TaskSet}
-use Rattle.tasks.specs.Set.{members}
-use Rattle.tasks.specs.Rows.{firstOf, when, firstTask, atTask, figuresOutcome}
+use Rattle.tasks.specs.Set.{mostTasks, members}
+use Rattle.tasks.specs.Rows.{firstOf, when, firstTask, atTask, boardRow, rangeRow, figuresOutcome}
 use Rattle.plan.specs.Charge.{loadOf}
 
 -- 7 SLOT: a task has D < S
@@ -41,3 +42,18 @@ chargedOutcome set =
     firstOf (figuresOutcome set)
     (firstOf (atTask Slot (firstTask (slotRow (set .header)) (members set)))
     (firstOf (atTask Tight (firstTask (tightRow (set .header)) (members set))) (when (horizonRow set) Horizon)))
+
+-- what charging a set and its horizon ask: at most 64 tasks, and rows 5, 6 and 8 clear
+pub record Chargeable (set : TaskSet) : Type 0 where
+  pub few : set .count ≤ mostTasks
+  pub board : boardRow (set .header) ≡ false
+  pub range : firstTask rangeRow (members set) ≡ 0
+  pub tight : firstTask (tightRow (set .header)) (members set) ≡ 0
+
+-- rows 5 to 9 are clear
+pub record RowsClear (set : TaskSet) : Type 0 where
+  pub board : boardRow (set .header) ≡ false
+  pub range : firstTask rangeRow (members set) ≡ 0
+  pub slot : firstTask (slotRow (set .header)) (members set) ≡ 0
+  pub tight : firstTask (tightRow (set .header)) (members set) ≡ 0
+  pub horizon : horizonRow set ≡ false

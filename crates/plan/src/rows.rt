@@ -1,14 +1,17 @@
-// Rows 7 to 9 of the refusals over a set, each over all tasks.
+// Rows 7 to 9 of the refusals over a set, each over all tasks, and rows 5 to 9 in order.
 // What they mean stands in specs/Rows.antt.
 use crate::charge;
+use frames::refusal::Outcome;
+use frames::refusal::Refusal;
 use tasks::set::Header;
 use tasks::set::Task;
 use tasks::set::TaskSet;
+use wholes::Multiple;
 ghost use mathlib.Core.Path.{_≡_};
 ghost use Prim.Native.Nat.{_≤_};
 ghost use Rattle.tasks.specs.Set.{members, mostTasks};
 ghost use Rattle.tasks.specs.Rows.{firstTask};
-ghost use Rattle.plan.specs.Rows.{slotRow, tightRow};
+ghost use Rattle.plan.specs.Rows.{slotRow, tightRow, horizonRow, chargedOutcome, Chargeable};
 
 // 7 SLOT.
 pub fn breaks_slot(header: Header, task: Task) -> bool
@@ -62,4 +65,42 @@ pub fn first_tight(set: TaskSet) -> usize
         i += 1;
     }
     0
+}
+
+// 9 HORIZON.
+pub fn breaks_horizon(set: TaskSet) -> bool
+    requires { ⌜ Chargeable set ⌝ }
+    ensures { λ r. ⌜ r ≡ horizonRow set ⌝ }
+{
+    let slot = set.header.slot as u64;
+    let loads = charge::loads(set);
+    let n = loads.count;
+    let horizon = wholes::least_multiple_of(slot, &loads.periods, n, TaskSet::LONGEST_HORIZON);
+    match horizon {
+        Multiple::Within(_) => false,
+        Multiple::Past => true,
+    }
+}
+
+// Rows 5 to 9, the first that holds.
+pub fn charged(set: TaskSet) -> Outcome
+    requires { ⌜ set .count ≤ mostTasks ⌝ }
+    ensures { λ r. ⌜ r ≡ chargedOutcome set ⌝ }
+{
+    let figures = tasks::rows::figures(set);
+    let Outcome::Done = figures else {
+        return figures;
+    };
+    let early = first_slot(set);
+    if early != 0 {
+        return Outcome::Refused(Refusal::Slot(early as u8));
+    }
+    let tight = first_tight(set);
+    if tight != 0 {
+        return Outcome::Refused(Refusal::Tight(tight as u8));
+    }
+    if breaks_horizon(set) {
+        return Outcome::Refused(Refusal::Horizon);
+    }
+    Outcome::Done
 }

@@ -1,0 +1,32 @@
+-- The first of several outcomes: when it is done, and when it is one of them.
+-- Assumes nothing.
+use Prim.Native.Nat.{ℕ, zero, suc}
+use mathlib.Core.Path.{_≡_, refl, sym}
+use mathlib.Core.Bool.{Bool, true, false}
+use Rattle.frames.specs.Digit.{both}
+use Rattle.frames.specs.declared.refusal.Refusal.{Refusal}
+use Rattle.frames.specs.declared.refusal.Outcome.{Outcome}
+use Rattle.frames.specs.declared.refusal.Outcome.the-variants.{Done, Refused}
+use Rattle.tasks.specs.Rows.{firstOf, when, atTask}
+use Rattle.tasks.proofs.Bools.{done-refused, true-false}
+
+pub first-done : (a b : Outcome) → firstOf a b ≡ Done → (a ≡ Done) × (b ≡ Done)
+first-done Done b e = (refl, e)
+first-done (Refused r) b e = done-refused (sym e)
+
+pub when-done : (b : Bool) (r : Refusal) → when b r ≡ Done → b ≡ false
+when-done true r e = done-refused (sym e)
+when-done false r e = refl
+
+pub at-done : (r : ℕ → Refusal) (n : ℕ) → atTask r n ≡ Done → n ≡ 0
+at-done r zero e = refl
+at-done r (suc n) e = done-refused (sym e)
+
+-- both of two tests hold
+pub both-left : (a b : Bool) → both a b ≡ true → a ≡ true
+both-left true b e = refl
+both-left false b e = e
+
+pub both-right : (a b : Bool) → both a b ≡ true → b ≡ true
+both-right true b e = e
+both-right false b e = true-false (sym e)

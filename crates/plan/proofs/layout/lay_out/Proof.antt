@@ -1,0 +1,78 @@
+-- `layout::lay_out` meets its contract: the ring holds its reserves, there are no more processors than servers, and the parts
+-- are the layout. Assumes nothing.
+use borrow.Author.Needs.{needs}
+use native.Mathlib.Omega.{arith}
+use Rattle.plan.proofs.Layouts.{ring-fits, ring-covers, sum-few, laid-made}
+use Rattle.plan.proofs.layout.lay_out.Statement.{statement}
+use Rattle.plan.proofs.layout.lay_out.Tie as tie
+
+slice-aggregate-whole-count : tie.Need-slice-aggregate-whole-count
+slice-aggregate-whole-count c = search needs
+
+whole-count-requires : tie.Need-whole-count-requires
+whole-count-requires c κs = search needs
+
+slice-aggregate-ring-processors : tie.Need-slice-aggregate-ring-processors
+slice-aggregate-ring-processors c = search needs
+
+ring-processors-requires : tie.Need-ring-processors-requires
+ring-processors-requires c κs = search needs
+
+mul-idle : tie.Need-mul-idle
+mul-idle c = omega (arith, ring-fits (c .before .before .before .before .before .before .pre .laid) (c .ring-processors .ensures))
+
+slice-aggregate-ring-ticks : tie.Need-slice-aggregate-ring-ticks
+slice-aggregate-ring-ticks c = search needs
+
+ring-ticks-requires : tie.Need-ring-ticks-requires
+ring-ticks-requires c κs = search needs
+
+sub-idle : tie.Need-sub-idle
+sub-idle c = ring-covers (c .before .before .before .before .before .before .before .before .pre .laid) (c .before .before .ring-processors .ensures) (c .ring-ticks .ensures)
+
+slice-aggregate-starts : tie.Need-slice-aggregate-starts
+slice-aggregate-starts c = search needs
+
+starts-requires : tie.Need-starts-requires
+starts-requires c κs = search needs
+
+task-counts-requires : tie.Need-task-counts-requires
+task-counts-requires c κs = search needs
+
+slice-aggregate-first-reserves : tie.Need-slice-aggregate-first-reserves
+slice-aggregate-first-reserves c = search needs
+
+add-first-reserves : tie.Need-add-first-reserves
+add-first-reserves c = omega (arith, sum-few (c .before .before .before .before .before .before .before .before .before .before .before .before .pre .laid) (c .before .before .before .before .before .before .ring-processors .ensures) (c .before .before .before .before .before .before .before .before .whole-count .ensures), c .before .before .before .before .before .before .before .before .before .before .before .before .pre .servers-few)
+
+first-reserves-requires : tie.Need-first-reserves-requires
+first-reserves-requires c κs = (
+  c .before .before .before .before .before .before .before .before .before .before .before .before .pre .laid,
+  omega (arith, c .before .before .before .before .before .before .ring-processors .ensures, c .before .before .before .before .before .before .before .before .whole-count .ensures),
+  omega (arith, sum-few (c .before .before .before .before .before .before .before .before .before .before .before .before .pre .laid) (c .before .before .before .before .before .before .ring-processors .ensures) (c .before .before .before .before .before .before .before .before .whole-count .ensures), c .before .before .before .before .before .before .before .before .before .before .before .before .pre .servers-few),
+)
+
+returns : tie.Need-returns
+returns c =
+    laid-made (c .before .before .before .before .before .before .before .before .before .before .before .before .before .before .before .pre) (c .before .before .before .before .before .before .before .before .before .before .before .whole-count .ensures) (c .before .before .before .before .before .before .before .before .before .ring-processors .ensures) (c .before .before .before .before .before .before .before .ring-ticks .ensures) (c .before .before .before .before .before .starts .ensures) (c .before .before .before .before .task-counts .ensures)
+    (c .before .before .first-reserves .ensures .0) (c .before .before .first-reserves .ensures .1)
+
+pub lay-out-spec : {M : Type 1} → statement M
+lay-out-spec =
+    tie.close
+    (tie.spec
+    slice-aggregate-whole-count
+    whole-count-requires
+    slice-aggregate-ring-processors
+    ring-processors-requires
+    mul-idle
+    slice-aggregate-ring-ticks
+    ring-ticks-requires
+    sub-idle
+    slice-aggregate-starts
+    starts-requires
+    task-counts-requires
+    slice-aggregate-first-reserves
+    add-first-reserves
+    first-reserves-requires
+    returns)

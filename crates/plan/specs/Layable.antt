@@ -1,0 +1,16 @@
+-- What laying out a plan asks of the loads and of their servers: few of each, reserves from 1 to the slot, unused room at zero.
+-- What placing and sizing answers for a set whose rows are clear has all of it.
+use Prim.Native.Nat.{ℕ, _≤_}
+use mathlib.Core.Path.{_≡_}
+use lib.ListN.{take}
+use Rattle.servers.specs.Row.{row}
+use Rattle.servers.specs.declared.Servers.{Servers}
+use Rattle.servers.specs.declared.members.Members.{Members}
+use Rattle.ring.specs.Laid.{Laid}
+
+pub record Layable (m : Members) (served : Servers) (S : ℕ) : Type 0 where
+  pub tasks-few : m .count ≤ 64
+  pub servers-few : served .count ≤ 64
+  pub laid : Laid S (served .reserve) (served .count)
+  pub reserve-room : row (take (served .count) (served .reserve)) ≡ served .reserve
+  pub server-room : row (take (m .count) (served .server)) ≡ served .server

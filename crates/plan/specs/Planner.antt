@@ -1,0 +1,52 @@
+-- What planning a set answers: the first refusal of row 11 and rows 5 to 10, or the plan.
+-- Document 01, "Refusal numbers and their order".
+use Prim.Native.Nat.{ℕ}
+use mathlib.Core.Bool.{Bool, true, false}
+use mathlib.Core.Path.{_≡_}
+use lib.Dec.{ltb}
+use Rattle.frames.specs.Digit.{both}
+use Rattle.frames.specs.declared.refusal.Refusal.the-variants.{Full, Ask}
+use Rattle.frames.specs.declared.refusal.Outcome.{Outcome}
+use Rattle.frames.specs.declared.refusal.Outcome.the-variants.{Done, Refused}
+use Rattle.tasks.specs.declared.set.TaskSet.{TaskSet}
+use Rattle.tasks.specs.Rows.{firstOf, when, askRow}
+use Rattle.ring.specs.Reserves.{processorsOf}
+use Rattle.plan.specs.declared.plan.Plan.{Plan}
+use Rattle.plan.specs.declared.planner.PlanAnswer.{PlanAnswer}
+use Rattle.plan.specs.Rows.{chargedOutcome}
+use Rattle.plan.specs.Plan.{planMade, setReserves, zeroPlan}
+use Rattle.plan.specs.Agrees.{agrees}
+
+-- the processors that a set's plan needs: r + whole processors
+unfoldable pub needed : TaskSet → ℕ
+needed set = processorsOf (set .header .slot) (setReserves set)
+
+-- 10 BOARDS FULL: r + whole processors > m
+unfoldable pub fullRow : TaskSet → Bool
+fullRow set = ltb (set .header .processors) (needed set)
+
+-- row 11 and rows 5 to 9 are clear: a plan can be laid
+pub record Clear (set : TaskSet) : Type 0 where
+  pub carried : askRow set ≡ false
+  pub charged : chargedOutcome set ≡ Done
+
+-- 11 first; then rows 5 to 10
+unfoldable pub planOutcome : TaskSet → Outcome
+planOutcome set =
+    firstOf (when (askRow set) Ask) (firstOf (chargedOutcome set) (when (fullRow set) (Full (needed set))))
+
+-- a refused plan is the all-zero plan
+abbrev pub answer : Outcome → Plan → PlanAnswer
+answer Done plan = record { outcome = Done; plan = plan }
+answer (Refused r) plan = record { outcome = Refused r; plan = zeroPlan }
+
+unfoldable pub planOf : TaskSet → PlanAnswer
+planOf set = answer (planOutcome set) (planMade set)
+
+abbrev pub isDone : Outcome → Bool
+isDone Done = true
+isDone (Refused r) = false
+
+-- the planner makes this plan of this set; unused room is not compared
+unfoldable pub makes : TaskSet → Plan → Bool
+makes set plan = both (isDone (planOutcome set)) (agrees (set .count) plan (planMade set))
