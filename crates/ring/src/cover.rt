@@ -33,8 +33,7 @@ pub fn stand_at(reserves: &[u64], n: usize, slot: u64, at: Position) -> Stand
         }
         i += 1;
     }
-    Stand {
-        server: 0,
-        left: wholes::ceiling(end, slot) * slot - place,
-    }
+    let length = wholes::ceiling(end, slot) * slot;
+    let left = length - place;
+    Stand { server: 0, left }
 }

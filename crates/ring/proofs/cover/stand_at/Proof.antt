@@ -102,11 +102,11 @@ loop-again c =
 ceiling-requires : tie.Need-ceiling-requires Inv-loop μ-loop
 ceiling-requires c κs = c .before .before .before .pre .0 .slot-some
 
-mul-t18 : tie.Need-mul-t18 Inv-loop μ-loop
-mul-t18 c = omega (arith, whole c, length-room (c .before .before .before .before .pre .0))
+mul-length : tie.Need-mul-length Inv-loop μ-loop
+mul-length c = omega (arith, whole c, length-room (c .before .before .before .before .pre .0))
 
-sub-t19 : tie.Need-sub-t19 Inv-loop μ-loop
-sub-t19 c = omega (arith, whole c, c .before .before .before .before .pre .1)
+sub-left-2 : tie.Need-sub-left-2 Inv-loop μ-loop
+sub-left-2 c = omega (arith, whole c, c .before .before .before .before .pre .1)
 
 returns-2 : tie.Need-returns-2 Inv-loop μ-loop
 returns-2 c =
@@ -130,6 +130,6 @@ stand-at-spec =
     loop-less
     loop-again
     ceiling-requires
-    mul-t18
-    sub-t19
+    mul-length
+    sub-left-2
     returns-2)
