@@ -1,6 +1,8 @@
 // Reads every task file of data/, good and damaged, writes it again where it was read, and prints each answer.
 // The gate holds what it prints to the file stdout, which was made by the independent program of tests/.
-use frames::refusal::{Outcome, Refusal, Written};
+use frames::refusal::Outcome;
+use frames::refusal::Refusal;
+use frames::refusal::Written;
 use libc::STDOUT_FILENO;
 use tasks::set::TaskSet;
 
