@@ -1,0 +1,129 @@
+-- What a plan that the planner makes has: it is made of its set, and its rows have room for what they count.
+-- Assumes nothing.
+use Prim.Native.Nat.{ℕ, _≤_}
+use mathlib.Core.Path.{_≡_, refl, sym, _∙_, ap}
+use mathlib.Core.Bool.{true}
+use native.Mathlib.Nat.{min-le-left}
+use native.Mathlib.Omega.{arith}
+use lib.Dec.{leb, eqb}
+use lib.ListN.{length, length-take, length-map}
+use borrow.Author.Tests.{ltb-false, leb-true, eqb-true, eq-eqb, not-false}
+use Rattle.frames.specs.Digit.{both}
+use Rattle.frames.proofs.Cuts.{equal-same}
+use Rattle.frames.proofs.Tests.{both-left, both-right}
+use Rattle.frames.specs.declared.refusal.Outcome.{Outcome}
+use Rattle.frames.specs.declared.refusal.Outcome.the-variants.{Done, Refused}
+use Rattle.tasks.specs.declared.set.Header.{Header}
+use Rattle.tasks.specs.declared.set.TaskSet.{TaskSet}
+use Rattle.tasks.specs.Set.{members, mostTasks, mostProcessors}
+use Rattle.tasks.specs.Rows.{boardRow}
+use Rattle.tasks.proofs.Carried.{ask-count, count-within, either-left}
+use Rattle.tasks.proofs.Bools.{true-false}
+use Rattle.servers.specs.Placement.{placementOf, serversIn}
+use Rattle.servers.specs.Reserve.{reservesOf}
+use Rattle.servers.proofs.ReserveLaws.{reserves-length}
+use Rattle.servers.proofs.ServerClaims.{servers-few}
+use Rattle.plan.specs.declared.plan.Plan.{Plan}
+use Rattle.plan.specs.declared.planner.PlanAnswer.{PlanAnswer}
+use Rattle.plan.specs.Charge.{loadOf, loadsOfSet, lossOf}
+use Rattle.plan.specs.Rows.{RowsClear}
+use Rattle.plan.specs.Plan.{planMade, laidOut, setReserves}
+use Rattle.plan.specs.Agrees.{agrees, sameFigures, sameServers, sameProcessors}
+use Rattle.plan.specs.Planner.{Clear, makes, planOutcome, planOf, isDone, needed, fullRow}
+use Rattle.plan.proofs.Clears.{charged-clear}
+use Rattle.plan.proofs.Made.{plan-outcome, plan-is, outcome-clear, made-needs}
+use Rattle.planfile.specs.Fit.{Counted}
+
+module _ (set : TaskSet) (done : planOutcome set ≡ Done) where
+  clear : Clear set
+  clear = outcome-clear set done .0
+
+  tasks-few : set .count ≤ mostTasks
+  tasks-few = count-within set (ask-count set (clear .carried)) .1
+
+  boards-few : set .header .processors ≤ mostProcessors
+  unfolding boardRow
+  boards-few =
+      leb-true (set .header .processors) mostProcessors
+      (both-right (leb 1 (set .header .processors)) _ (not-false _ (either-left _ _ (charged-clear set (clear .charged) .board))))
+
+  pub needed-few : needed set ≤ 64
+  unfolding fullRow
+  needed-few = omega (arith, ltb-false (set .header .processors) (needed set) (outcome-clear set done .1), boards-few)
+
+  loads-few : length (loadsOfSet set) ≤ 64
+  unfolding loadsOfSet
+  loads-few = omega (arith, length-map (members set) (loadOf (set .header)), length-take (set .count) (set .tasks), min-le-left (set .count) (length (set .tasks)), tasks-few)
+
+  pub servers-few-made : planMade set .servers ≤ 64
+  unfolding planMade laidOut setReserves reservesOf
+  servers-few-made =
+      let S = set .header .slot in
+      let L = lossOf (set .header) in
+      let placement = placementOf (loadsOfSet set) S L in
+      omega (arith, reserves-length (loadsOfSet set) S L placement (serversIn placement), servers-few (loadsOfSet set) S L, loads-few)
+
+  -- the plan that the planner makes has room for what it counts
+  pub made-counted : Counted set (planMade set)
+  made-counted = record { servers = servers-few-made; tasks = tasks-few; processors = omega (arith, made-needs set, needed-few) }
+
+is-done : (o : Outcome) → isDone o ≡ true → o ≡ Done
+is-done Done p = refl
+is-done (Refused r) p = true-false (sym p)
+
+-- a plan that the planner makes of a set: no row holds, and the plans agree
+module _ (set : TaskSet) (plan : Plan) (m : makes set plan ≡ true) where
+  pub makes-done : planOutcome set ≡ Done
+  unfolding makes
+  makes-done = is-done (planOutcome set) (both-left _ _ m)
+
+  pub makes-agrees : agrees (set .count) plan (planMade set) ≡ true
+  unfolding makes
+  makes-agrees = both-right (isDone (planOutcome set)) _ m
+
+  figures : sameFigures plan (planMade set) ≡ true
+  unfolding agrees
+  figures = both-left _ _ makes-agrees
+
+  past-whole : both (eqb (plan .ring) (planMade set .ring)) (both (eqb (plan .servers) (planMade set .servers)) (both (eqb (plan .slot) (planMade set .slot)) (eqb (plan .idle) (planMade set .idle)))) ≡ true
+  unfolding sameFigures
+  past-whole = both-right (eqb (plan .whole) (planMade set .whole)) _ figures
+
+  pub makes-whole : plan .whole ≡ planMade set .whole
+  unfolding sameFigures
+  makes-whole = eqb-true _ _ (both-left _ _ figures)
+
+  pub makes-ring : plan .ring ≡ planMade set .ring
+  makes-ring = eqb-true _ _ (both-left _ _ past-whole)
+
+  pub makes-servers : plan .servers ≡ planMade set .servers
+  makes-servers = eqb-true _ _ (both-left _ _ (both-right (eqb (plan .ring) (planMade set .ring)) _ past-whole))
+
+  -- it has room for what it counts, as the one that the planner makes has
+  pub makes-counted : Counted set plan
+  makes-counted =
+      let made = made-counted set makes-done in
+      record {
+        servers = omega (arith, makes-servers, made .servers);
+        tasks = made .tasks;
+        processors = omega (arith, makes-ring, makes-whole, made .processors);
+      }
+
+eqb-self : (n : ℕ) → eqb n n ≡ true
+eqb-self n = eq-eqb n n refl
+
+-- a plan agrees with itself
+agrees-self : (n : ℕ) (plan : Plan) → agrees n plan plan ≡ true
+unfolding agrees sameFigures sameServers sameProcessors
+agrees-self n plan = simp (eqb-self, equal-same)
+
+-- the planner makes the plan that it answers
+pub answer-makes : (set : TaskSet) (a : PlanAnswer) → a ≡ planOf set → a .outcome ≡ Done → makes set (a .plan) ≡ true
+unfolding makes
+answer-makes set a made done = rw (outcome, plan) (agrees-self (set .count) (planMade set))
+  where
+    outcome : planOutcome set ≡ Done
+    outcome = sym (plan-outcome set) ∙ sym (ap (λ (b : PlanAnswer). b .outcome) made) ∙ done
+
+    plan : a .plan ≡ planMade set
+    plan = ap (λ (b : PlanAnswer). b .plan) made ∙ plan-is set outcome

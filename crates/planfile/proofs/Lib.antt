@@ -1,0 +1,6 @@
+pub mod LineLaws
+pub mod TextLaws
+pub mod FitLaws
+pub mod AcceptLaws
+pub mod ToolLaws
+pub mod FileClaims

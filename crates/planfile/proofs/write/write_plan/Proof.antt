@@ -1,0 +1,34 @@
+-- Row 11 unless the planner makes the plan, then the text as it fits.
+-- Assumes nothing.
+use mathlib.Core.Path.{sym, _∙_}
+use Rattle.planfile.proofs.FitLaws.{write-fits, write-asks}
+use Rattle.planfile.proofs.AcceptLaws.{makes-counted}
+use borrow.Author.Tests.{not-true, not-false}
+use borrow.Author.Needs.{needs}
+use Rattle.planfile.proofs.write.write_plan.Statement.{statement}
+use Rattle.planfile.proofs.write.write_plan.Tie as tie
+
+makes-plan-requires : tie.Need-makes-plan-requires
+makes-plan-requires c κs = search needs
+
+returns : tie.Need-returns
+returns c =
+    let a = c .before .before .before .args in
+    write-asks (a .set) (a .plan) (a .out .now) (sym (c .before .makes-plan .ensures) ∙ not-true _ (c .if1 .taken))
+
+fit-plan-requires : tie.Need-fit-plan-requires
+fit-plan-requires c κs =
+    let s = c .before .before .before .before in
+    makes-counted (s .args .set) (s .args .plan) (sym (c .before .before .makes-plan .ensures) ∙ not-false _ (c .before .if1 .left))
+
+same-length : tie.Need-same-length
+same-length c = search needs
+
+returns-2 : tie.Need-returns-2
+returns-2 c =
+    let a = c .before .before .before .before .before .before .before .args in
+    write-fits (a .set) (a .plan) (a .out .now) (sym (c .before .before .before .before .before .makes-plan .ensures) ∙ not-false _ (c .before .before .before .before .if1 .left)) (c .before .before .fit-plan .ensures)
+
+pub write-plan-spec : {M : Type 1} → statement M
+write-plan-spec =
+    tie.close (tie.spec makes-plan-requires returns fit-plan-requires same-length returns-2)

@@ -1,0 +1,131 @@
+// The two questions asked of a task file. A file that is refused, or whose plan is, refuses the question as it was refused.
+// What is answered stands in specs/Asked.antt. A set is planned once.
+use frames::refusal::Outcome;
+use frames::refusal::Refusal;
+use plan::charge::loss;
+use plan::plan::Plan;
+use plan::planner::make;
+use plan::question::PassAnswer;
+use plan::question::WhoAnswer;
+use plan::question::is_allowed;
+use plan::question::is_processor;
+use plan::question::is_server;
+use plan::question::pass_judged;
+use plan::question::who_stands;
+use ring::clock::Tick;
+use tasks::read::read;
+use tasks::set::TaskSet;
+use verdict::answer::Reading;
+use verdict::answer::Verdict;
+ghost use mathlib.Core.Path.{_≡_};
+ghost use mathlib.Core.Bool.{true};
+ghost use Rattle.plan.specs.Planner.{makes};
+ghost use Rattle.plan.specs.Question.{whoRuns, doesPass};
+ghost use Rattle.planfile.specs.Asked.{refusedWho, refusedPass, whoOfSet, passOfSet, whoIn, passIn};
+
+pub fn refused_who(refusal: Refusal) -> WhoAnswer
+    ensures { λ r. ⌜ r ≡ refusedWho refusal ⌝ }
+{
+    WhoAnswer {
+        outcome: Outcome::Refused(refusal),
+        server: 0,
+        left: 0,
+    }
+}
+
+// Who runs, by a plan that the planner made.
+pub fn who_made(set: TaskSet, plan: Plan, processor: u64, tick: Tick) -> WhoAnswer
+    requires { ⌜ makes set plan ≡ true ⌝ }
+    ensures { λ r. ⌜ r ≡ whoRuns set plan processor tick ⌝ }
+{
+    if !is_processor(plan, processor) {
+        return refused_who(Refusal::Ask);
+    }
+    let stand = who_stands(plan, processor, tick);
+    WhoAnswer {
+        outcome: Outcome::Done,
+        server: stand.server,
+        left: stand.left,
+    }
+}
+
+// Who runs, of a set.
+pub fn who_of(set: TaskSet, processor: u64, tick: Tick) -> WhoAnswer
+    ensures { λ r. ⌜ r ≡ whoOfSet set processor tick ⌝ }
+{
+    let made = make(set);
+    let outcome = made.outcome;
+    let plan = made.plan;
+    match outcome {
+        Outcome::Done => who_made(set, plan, processor, tick),
+        Outcome::Refused(refusal) => refused_who(refusal),
+    }
+}
+
+pub fn who_in(text: &[u8], processor: u64, tick: Tick) -> WhoAnswer
+    ensures { λ r. ⌜ r ≡ whoIn (now (text .entry)) processor tick ⌝ }
+{
+    let file = read(text);
+    let outcome = file.outcome;
+    let set = file.set;
+    match outcome {
+        Outcome::Done => who_of(set, processor, tick),
+        Outcome::Refused(refusal) => refused_who(refusal),
+    }
+}
+
+pub fn refused_pass(refusal: Refusal) -> PassAnswer
+    ensures { λ r. ⌜ r ≡ refusedPass refusal ⌝ }
+{
+    PassAnswer {
+        outcome: Outcome::Refused(refusal),
+        verdict: Verdict::Yes(Reading {
+            length: 0,
+            demand: 0,
+            supply: 0,
+        }),
+    }
+}
+
+// Does a server pass, by a plan that the planner made.
+pub fn pass_made(set: TaskSet, plan: Plan, server: u64, reserve: u64) -> PassAnswer
+    requires { ⌜ makes set plan ≡ true ⌝ }
+    ensures { λ r. ⌜ r ≡ doesPass set plan server reserve ⌝ }
+{
+    if !is_server(plan, server) {
+        return refused_pass(Refusal::Ask);
+    }
+    let header = set.header;
+    if !is_allowed(header.slot as u64, loss(header), reserve) {
+        return refused_pass(Refusal::Ask);
+    }
+    PassAnswer {
+        outcome: Outcome::Done,
+        verdict: pass_judged(set, plan, server, reserve),
+    }
+}
+
+// Does a server pass, of a set.
+pub fn pass_of(set: TaskSet, server: u64, reserve: u64) -> PassAnswer
+    ensures { λ r. ⌜ r ≡ passOfSet set server reserve ⌝ }
+{
+    let made = make(set);
+    let outcome = made.outcome;
+    let plan = made.plan;
+    match outcome {
+        Outcome::Done => pass_made(set, plan, server, reserve),
+        Outcome::Refused(refusal) => refused_pass(refusal),
+    }
+}
+
+pub fn pass_in(text: &[u8], server: u64, reserve: u64) -> PassAnswer
+    ensures { λ r. ⌜ r ≡ passIn (now (text .entry)) server reserve ⌝ }
+{
+    let file = read(text);
+    let outcome = file.outcome;
+    let set = file.set;
+    match outcome {
+        Outcome::Done => pass_of(set, server, reserve),
+        Outcome::Refused(refusal) => refused_pass(refusal),
+    }
+}

@@ -1,0 +1,21 @@
+// Writing a plan that is handed in with its set: row 11 unless the planner makes it, then row 12, else the exact text.
+// What is answered stands in specs/Write.antt.
+use crate::fit::fit_plan;
+use frames::refusal::Refusal;
+use frames::refusal::Written;
+use plan::check::makes_plan;
+use plan::plan::Plan;
+use tasks::set::TaskSet;
+ghost use mathlib.Core.Path.{_≡_};
+ghost use Rattle.tasks.specs.Write.{leaves};
+ghost use Rattle.planfile.specs.Text.{planText};
+ghost use Rattle.planfile.specs.Write.{writePlan};
+
+pub fn write_plan(set: TaskSet, plan: Plan, out: &mut [u8]) -> Written
+    ensures { λ r. ⌜ (r ≡ writePlan set plan (now (out .entry))) × (now (out .exit) ≡ leaves (writePlan set plan (now (out .entry))) (now (out .entry)) (planText set plan)) ⌝ }
+{
+    if !makes_plan(set, plan) {
+        return Written::Refused(Refusal::Ask);
+    }
+    fit_plan(set, plan, out)
+}
