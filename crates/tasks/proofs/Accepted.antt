@@ -1,20 +1,18 @@
 -- An accepted file is a header and 1 to 64 tasks and nothing after them.
-use Prim.Native.Nat.{ℕ, zero, suc, _+_, _-_, _≤_, _<_}
+use Prim.Native.Nat.{ℕ, zero, suc, _≤_}
 use native.Mathlib.Omega.{arith}
-use native.Mathlib.Decide.{ℕ-discrete}
 use mathlib.Core.List.{List, [], _∷_}
-use mathlib.Core.Bool.{Bool, true, false}
+use mathlib.Core.Bool.{false}
 use mathlib.Core.Path.{_≡_, refl, sym, _∙_, ap, subst}
 use lib.ListN.{length, drop, length-drop}
 use Rattle.frames.specs.Line.{after}
 use Rattle.frames.specs.Table.{widthsOf, sum}
 use Rattle.frames.specs.declared.refusal.Outcome.{Outcome}
-use Rattle.frames.specs.declared.refusal.Outcome.the-variants.{Done, Refused}
+use Rattle.frames.specs.declared.refusal.Outcome.the-variants.{Done}
 use Rattle.tasks.specs.declared.set.TaskSet.{TaskSet}
-use Rattle.tasks.specs.declared.read.ReadAnswer.{ReadAnswer}
 use Rattle.tasks.specs.Set.{setOf, members}
-use Rattle.tasks.specs.File.{past, empty, tasksIn, tasksFrom, headerAt, lineOutcome, linesOutcome}
-use Rattle.tasks.specs.Read.{readOf, readOutcome, fileSet, answer}
+use Rattle.tasks.specs.File.{past, empty, tasksIn, tasksFrom, headerAt, lineOutcome}
+use Rattle.tasks.specs.Read.{readOf, fileSet, answer}
 use Rattle.tasks.specs.Shape.{Shaped, placeAfter}
 use Rattle.tasks.specs.Claims.{AllClear, Accepted, ReadAccepted}
 use Rattle.tasks.proofs.Bools.{done-refused}

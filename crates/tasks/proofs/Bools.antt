@@ -1,26 +1,22 @@
--- Laws of tests: Done is no refusal, true is not false, and a test turned round.
-use Prim.Native.Nat.{ℕ, _≤_, _<_}
+-- Laws of tests: Done is no refusal, and a test turned round.
+use Prim.Native.Nat.{ℕ, _≤_}
 use native.Mathlib.Omega.{arith}
 use native.Mathlib.Decide.{decLt}
 use mathlib.Core.Bool.{Bool, true, false, not}
 use mathlib.Core.Path.{_≡_, refl, sym, _∙_, ap}
 use lib.Dec.{leb, ltb}
 use borrow.Author.Tests.{lt-ltb, le-ltb, le-leb, lt-leb}
-use Rattle.frames.specs.Digit.{both, either}
+use Rattle.frames.specs.Digit.{both}
 use Rattle.frames.specs.declared.refusal.Refusal.{Refusal}
-use Rattle.frames.specs.declared.refusal.Outcome.{Outcome}
 use Rattle.frames.specs.declared.refusal.Outcome.the-variants.{Done, Refused}
 
 -- what tells two constructors apart proves anything
 pub clash : {A : Type 0} → _≡_ {A = ℕ} 0 1 → A
 clash z = absurd (omega arith)
 
--- from Done as a refusal, or true as false, all follows
+-- from Done as a refusal all follows
 pub done-refused : {A : Type 0} {r : Refusal} → Done ≡ Refused r → A
 done-refused {A} {r} e = let z : _≡_ {A = ℕ} 0 1 = cc in absurd (omega arith)
-
-pub true-false : {A : Type 0} → true ≡ false → A
-true-false e = let z : _≡_ {A = ℕ} 0 1 = cc in absurd (omega arith)
 
 pub both-false : (b : Bool) → both b false ≡ false
 both-false true = refl

@@ -1,28 +1,27 @@
 -- Each refusal of reading exactly when its row says: the claims of specs/Claims, proved.
-use Prim.Native.Nat.{ℕ, zero, suc, _+_, _-_, _≤_, _<_}
+use Prim.Native.Nat.{ℕ, zero, suc, _+_, _≤_, _<_}
 use native.Mathlib.Omega.{arith}
 use native.Mathlib.Decide.{decLt, ℕ-discrete}
-use mathlib.Core.List.{List, [], _∷_, _++_}
+use mathlib.Core.List.{List, [], _∷_}
 use mathlib.Core.Bool.{Bool, true, false}
 use mathlib.Core.Path.{_≡_, refl, sym, _∙_, ap, subst, subst₂}
 use mathlib.Core.Logic.{_↔_}
-use lib.ListN.{length, getD, length-append, List·getD-append}
+use lib.ListN.{length, getD, List·getD-append}
 use lib.Seq.{getD-at}
 use Rattle.frames.specs.Refused.{numberOf, placeOf}
 use Rattle.frames.specs.declared.refusal.Refusal.{Refusal}
 use Rattle.frames.specs.declared.refusal.Refusal.the-variants.{Line, Order, Count, Twice, Board, Range}
 use Rattle.frames.specs.declared.refusal.Outcome.{Outcome}
 use Rattle.frames.specs.declared.refusal.Outcome.the-variants.{Done, Refused}
-use Rattle.tasks.specs.declared.set.Header.{Header}
 use Rattle.tasks.specs.declared.set.Task.{Task}
 use Rattle.tasks.specs.declared.set.TaskSet.{TaskSet}
 use Rattle.tasks.specs.declared.read.ReadAnswer.{ReadAnswer}
-use Rattle.tasks.specs.Set.{members, setOf, zeroSet, zeroTask}
+use Rattle.tasks.specs.Set.{members, setOf, zeroTask}
 use Rattle.tasks.specs.Rows.{firstOf, when, atTask, firstTask, boardRow, rangeRow, figuresOutcome}
 use Rattle.tasks.specs.File.{past, tasksIn, tasksFrom, taskAt, headerAt, lineRow, orderRow, countLineRow, twiceLineRow, lineOutcome, linesOutcome}
 use Rattle.tasks.specs.Read.{readOf, readOutcome, fileSet, answer}
 use Rattle.tasks.specs.Claims.{LineRow, LINE, ORDER, COUNT, TWICE, refusalAt, holdsAt, Clear, AllClear, FirstAt, FirstRange, NoRow, ReadExactlyLine, ReadExactlyBoard, ReadExactlyRange, ReadExactlyDone, ReadRefuses, ReadDetermined}
-use Rattle.tasks.proofs.Bools.{clash, done-refused, true-false}
+use Rattle.tasks.proofs.Bools.{clash, done-refused}
 use Rattle.tasks.proofs.Past.{absent-past}
 use Rattle.tasks.proofs.Lines.{first-done, clear-line, clear-lines, reads-refused, reads-clear, absent-done, tasks-length, tasks-suc}
 use Rattle.tasks.proofs.Standing.{members-set}
@@ -192,6 +191,18 @@ read-exactly-line row text k = (λ e. said (came text (refusalAt row k) e), at-f
         subst₂ (λ (r : LineRow) (n : ℕ). FirstAt r text n) one (sym place) (first-at other text j clear low)
     said (at-figures clear e) =
         absurd (omega (arith, row-below row k, figures-number (fileSet text) (refusalAt row k) e .0))
+
+pub exactly-line : (text : List ℕ) (k : ℕ) → (readOf text .outcome ≡ Refused (Line k)) ↔ FirstAt LINE text k
+exactly-line = read-exactly-line LINE
+
+pub exactly-order : (text : List ℕ) (k : ℕ) → (readOf text .outcome ≡ Refused (Order k)) ↔ FirstAt ORDER text k
+exactly-order = read-exactly-line ORDER
+
+pub exactly-count : (text : List ℕ) (k : ℕ) → (readOf text .outcome ≡ Refused (Count k)) ↔ FirstAt COUNT text k
+exactly-count = read-exactly-line COUNT
+
+pub exactly-twice : (text : List ℕ) (k : ℕ) → (readOf text .outcome ≡ Refused (Twice k)) ↔ FirstAt TWICE text k
+exactly-twice = read-exactly-line TWICE
 
 -- what rows 5 and 6 answer, and the outcome of a read whose lines are clear
 figures-said : (set : TaskSet) (o : Outcome) → figuresOutcome set ≡ o → firstOf (when (boardRow (set .header)) Board) (atTask Range (firstTask rangeRow (members set))) ≡ o

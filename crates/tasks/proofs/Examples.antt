@@ -1,6 +1,6 @@
 -- Task files and what reading answers for each, computed from the definitions of specs/.
 -- Document 01, example A and the rows of the refusals.
-use Prim.Native.Nat.{ℕ, suc, _+_}
+use Prim.Native.Nat.{ℕ}
 use Prim.Native.Char.{code}
 use Prim.Native.String.{String}
 use mathlib.Core.List.{List, [], _∷_, map}

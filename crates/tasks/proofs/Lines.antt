@@ -1,31 +1,30 @@
 -- Laws of the lines' outcomes: a refusal stays, lines past the end are clear, and what each kind of line gives.
-use Prim.Native.Nat.{ℕ, zero, suc, pred, _+_, _-_, _*_, _≤_, _<_}
+use Prim.Native.Nat.{ℕ, zero, suc, _+_, _-_, _≤_, _<_}
 use native.Mathlib.Omega.{arith}
 use native.Mathlib.Decide.{ℕ-discrete, decLt}
 use native.Mathlib.Nat.{add-zero, add-suc, le-refl, le-trans}
 use mathlib.Core.List.{List, [], _∷_, _++_}
 use mathlib.Core.Bool.{Bool, true, false, not}
-use mathlib.Core.Path.{_≡_, refl, ap, sym, _∙_, subst}
-use lib.ListN.{length, take, drop, length-drop, length-append}
+use mathlib.Core.Path.{_≡_, refl, sym, _∙_, subst}
+use lib.ListN.{length, length-append}
 use lib.Dec.{eqb}
 use borrow.Author.Tests.{eq-eqb, ne-eqb, not-false}
-use Rattle.frames.specs.Digit.{both, either, pick}
-use Rattle.frames.specs.Line.{after, formed, fieldOf, closed}
-use Rattle.frames.specs.Table.{lengthOf, widthsOf, sum}
+use Rattle.frames.specs.Digit.{both, either}
+use Rattle.frames.specs.Line.{formed, fieldOf, closed}
+use Rattle.frames.specs.Table.{widthsOf, sum}
 use Rattle.frames.specs.declared.table.Frame.{Frame}
 use Rattle.frames.specs.declared.refusal.Refusal.{Refusal}
 use Rattle.frames.specs.declared.refusal.Refusal.the-variants.{Line, Order, Count, Twice}
 use Rattle.frames.specs.declared.refusal.Outcome.{Outcome}
 use Rattle.frames.specs.declared.refusal.Outcome.the-variants.{Done, Refused}
 use Rattle.tasks.specs.declared.set.Task.{Task}
-use Rattle.tasks.specs.declared.read.ReadAnswer.{ReadAnswer}
 use Rattle.tasks.specs.Set.{zeroSet}
 use Rattle.tasks.specs.Rows.{firstOf, when, some, figuresOutcome}
 use Rattle.tasks.specs.File.{past, empty, tasksUpTo, tasksIn, seenUpTo, lineRow, orderRow, countLineRow, twiceLineRow, lineOutcome, linesOutcome, tasksFrom, taskAt}
 use Rattle.tasks.specs.Read.{readOf, readOutcome, fileSet, answer}
 use Rattle.tasks.specs.Shape.{Shaped, placeAfter}
 use Rattle.frames.proofs.Formed.{header-not-task, task-not-header}
-use Rattle.tasks.proofs.Bools.{done-refused, true-false, both-false}
+use Rattle.tasks.proofs.Bools.{done-refused, both-false}
 use Rattle.tasks.proofs.Past.{absent-later, absent-past, past-shaped, shaped-less, shaped-more}
 
 -- the first of two outcomes is Done where both are
@@ -133,20 +132,13 @@ row-other text there header = rw (there, header)
 -- line 1 that is an 01 line is clear
 pub first-header : (text : List ℕ) → formed Frame.Header text ≡ true → lineOutcome text 1 ≡ Done
 unfolding lineOutcome lineRow orderRow countLineRow twiceLineRow past
-first-header text header = rw (header, header-not-task text header) (off (empty text))
-  where
-    off : (t : Bool) → firstOf (when (both (not t) false) (Line 1)) Done ≡ Done
-    off true = refl
-    off false = refl
+first-header text header = rw (header, header-not-task text header, both-false (not (empty text)))
 
 -- a later line that is an 01 line is refused as ORDER
 pub later-header : (text : List ℕ) (n : ℕ) → formed Frame.Header (past (suc n) text) ≡ true → lineOutcome text (suc (suc n)) ≡ Refused (Order (suc (suc n)))
 unfolding lineOutcome lineRow orderRow
-later-header text n header = rw (header, ne-eqb (suc (suc n)) 1 (λ h. omega arith)) (off (empty (past (suc n) text)))
-  where
-    off : (t : Bool) → firstOf (when (both (not t) false) (Line (suc (suc n)))) (Refused (Order (suc (suc n)))) ≡ Refused (Order (suc (suc n)))
-    off true = refl
-    off false = refl
+later-header text n header =
+    rw (header, ne-eqb (suc (suc n)) 1 (λ h. omega arith), both-false (not (empty (past (suc n) text))))
 
 -- whether a task has this id
 abbrev pub hasId : ℕ → Task → Bool

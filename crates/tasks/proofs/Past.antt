@@ -1,18 +1,18 @@
 -- Laws of the text past so many lines: where it is empty it stays so, and it shrinks with each line.
-use Prim.Native.Nat.{ℕ, zero, suc, pred, _+_, _-_, _*_, _≤_, _<_}
+use Prim.Native.Nat.{ℕ, zero, suc, _+_, _-_, _≤_, _<_}
 use native.Mathlib.Omega.{arith}
 use native.Mathlib.Decide.{ℕ-discrete}
-use native.Mathlib.Nat.{add-zero, add-suc, le-refl, le-trans}
-use mathlib.Core.List.{List, [], _∷_, _++_}
-use mathlib.Core.Bool.{Bool, true, false, not}
+use native.Mathlib.Nat.{add-zero, add-suc, le-refl}
+use mathlib.Core.List.{List, [], _∷_}
+use mathlib.Core.Bool.{Bool, true, false}
 use mathlib.Core.Path.{_≡_, refl, ap, sym, _∙_, subst}
-use lib.ListN.{length, take, drop, length-drop}
+use lib.ListN.{length, drop, length-drop}
 use lib.Seq.{drop-drop}
 use lib.Dec.{eqb}
 use Rattle.frames.specs.Line.{after, formed, pickBytes, LF}
 use Rattle.frames.specs.Table.{lengthOf, widthsOf, sum}
 use Rattle.frames.specs.declared.table.Frame.{Frame}
-use Rattle.tasks.specs.File.{past, empty}
+use Rattle.tasks.specs.File.{past}
 use Rattle.tasks.specs.Shape.{Shaped, placeAfter}
 use Rattle.frames.proofs.Formed.{formed-length, formed-after}
 

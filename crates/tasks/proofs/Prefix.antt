@@ -4,8 +4,8 @@ use native.Mathlib.Omega.{arith}
 use native.Mathlib.Decide.{decLt}
 use mathlib.Core.List.{List, [], _∷_, _++_}
 use mathlib.Core.Bool.{Bool, true, false, not}
-use mathlib.Core.Path.{_≡_, refl, sym, _∙_, ap, ap₂, subst}
-use lib.ListN.{length, take, drop, length-take}
+use mathlib.Core.Path.{_≡_, refl, sym, _∙_, ap, ap₂}
+use lib.ListN.{length, take, drop}
 use lib.Seq.{take-all, take-take, take-add, drop-at, length-take-le}
 use lib.Dec.{eqb}
 use Rattle.frames.specs.Line.{formed, fieldOf, line}
@@ -15,16 +15,15 @@ use Rattle.frames.specs.declared.refusal.Refusal.{Refusal}
 use Rattle.frames.specs.declared.refusal.Refusal.the-variants.{Count, Twice}
 use Rattle.frames.specs.declared.refusal.Outcome.{Outcome}
 use Rattle.frames.specs.declared.refusal.Outcome.the-variants.{Done, Refused}
-use Rattle.frames.proofs.Formed.{formed-prefix, formed-line, task-not-header}
+use Rattle.frames.proofs.Formed.{formed-prefix, formed-line}
 use Rattle.tasks.specs.declared.set.Task.{Task}
 use Rattle.tasks.specs.Rows.{firstOf, when, some}
 use Rattle.tasks.specs.File.{past, empty, lineRow, lineOutcome, linesOutcome, taskAt, tasksFrom}
 use Rattle.tasks.specs.Read.{readOf}
 use Rattle.tasks.specs.Shape.{Shaped, placeAfter}
 use Rattle.tasks.specs.Claims.{furthest, ReadLooksAt}
-use Rattle.tasks.proofs.Bools.{done-refused}
 use Rattle.tasks.proofs.Past.{past-shaped, shaped-more, shaped-less}
-use Rattle.tasks.proofs.Lines.{hasId, lines-suc, reads-refused, line-refused, first-order, first-header, later-header, task-line, row-from, row-other, clear-task, clear-room, clear-header, tasks-suc}
+use Rattle.tasks.proofs.Lines.{hasId, lines-suc, reads-refused, line-refused, first-order, first-header, later-header, task-line, row-from, row-other, clear-task, clear-room, clear-header}
 use Rattle.tasks.proofs.Standing.{byte-there}
 
 -- a part of the front of a text is the front of a part

@@ -2,16 +2,12 @@
 use Prim.Native.Nat.{ℕ, zero, suc, _+_, _-_, _≤_, _<_}
 use native.Mathlib.Omega.{arith}
 use native.Mathlib.Numerals.{add-one, add-two}
-use native.Mathlib.Nat.{le-refl}
-use mathlib.Core.List.{List, [], _∷_, _++_, append-assoc}
-use mathlib.Core.Bool.{Bool, true, false}
+use mathlib.Core.List.{List, [], _∷_, _++_}
 use mathlib.Core.Path.{_≡_, refl, sym, _∙_, ap, subst}
 use lib.ListN.{length, drop, replicate, set as put, length-append, drop-of-length-le}
 use lib.Seq.{set-at, append-snoc}
-use borrow.Author.Tests.{eq-eqb, ne-eqb}
 use Rattle.frames.specs.Line.{formed, closed}
 use Rattle.frames.specs.Table.{widthsOf, sum}
-use Rattle.frames.specs.declared.table.Frame.{Frame}
 use Rattle.frames.specs.declared.refusal.Refusal.{Refusal}
 use Rattle.frames.specs.declared.refusal.Refusal.the-variants.{Count}
 use Rattle.frames.specs.declared.refusal.Outcome.{Outcome}
@@ -23,7 +19,7 @@ use Rattle.tasks.specs.declared.line.HeaderLine.{HeaderLine}
 use Rattle.tasks.specs.declared.line.TaskLine.{TaskLine}
 use Rattle.tasks.specs.Set.{mostTasks, setOf, zeroSet, zeroTask, withTask}
 use Rattle.tasks.specs.Rows.{figuresOutcome}
-use Rattle.tasks.specs.File.{past, empty, tasksIn, lineRow, orderRow, countLineRow, lineOutcome, linesOutcome, headerAt, taskAt, tasksFrom}
+use Rattle.tasks.specs.File.{past, empty, lineRow, orderRow, countLineRow, lineOutcome, linesOutcome, headerAt, taskAt, tasksFrom}
 use Rattle.tasks.specs.Shape.{Shaped, Taken, placeAfter, headerOr, taskOr, ofHeader, ofTask}
 use Rattle.tasks.specs.Read.{readOf, fileSet, answer}
 use Rattle.tasks.proofs.Bools.{done-refused, clash}

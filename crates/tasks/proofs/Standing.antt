@@ -1,35 +1,38 @@
 -- What the reader learns at a line, after a header and the tasks that its set holds.
-use Prim.Native.Nat.{ℕ, zero, suc, _+_, _≤_, _<_}
+use Prim.Native.Nat.{ℕ, zero, suc, _+_, _<_, _^_}
 use native.Mathlib.Omega.{arith}
 use native.Mathlib.Numerals.{add-two}
-use mathlib.Core.List.{List, [], _∷_, _++_}
+use mathlib.Core.List.{List, [], _∷_}
 use mathlib.Core.Bool.{Bool, true, false}
 use mathlib.Core.Path.{_≡_, refl, sym, _∙_, ap, subst}
-use lib.ListN.{length, drop, take}
+use lib.ListN.{length, drop}
 use lib.Seq.{take-append-seam}
 use lib.Dec.{eqb}
 use borrow.Author.Tests.{eq-eqb, ne-eqb}
 use Rattle.frames.specs.Line.{formed, fieldOf}
+use Rattle.frames.specs.Table.{widthOf}
 use Rattle.frames.specs.declared.table.Frame.{Frame}
-use Rattle.frames.specs.declared.refusal.Refusal.{Refusal}
 use Rattle.frames.specs.declared.refusal.Refusal.the-variants.{Line, Order, Count, Twice}
-use Rattle.frames.specs.declared.refusal.Outcome.{Outcome}
-use Rattle.frames.specs.declared.refusal.Outcome.the-variants.{Done, Refused}
-use Rattle.frames.proofs.Formed.{task-not-header}
+use Rattle.frames.specs.declared.refusal.Outcome.the-variants.{Refused}
+use Rattle.frames.proofs.Formed.{field-below, task-not-header}
 use Rattle.tasks.specs.declared.set.Header.{Header}
 use Rattle.tasks.specs.declared.set.Task.{Task}
 use Rattle.tasks.specs.declared.set.TaskSet.{TaskSet}
 use Rattle.tasks.specs.Set.{members, setOf}
 use Rattle.tasks.specs.Rows.{firstOf, when, some}
 use Rattle.tasks.specs.File.{past, empty, lineRow, lineOutcome, tasksFrom, headerAt}
-use Rattle.tasks.specs.Shape.{Shaped, Taken, placeAfter}
+use Rattle.tasks.specs.Shape.{Taken, placeAfter}
 use Rattle.tasks.proofs.Past.{past-shaped}
-use Rattle.tasks.proofs.Lines.{hasId, line-refused, row-from, row-task, later-header, task-line}
+use Rattle.tasks.proofs.Lines.{hasId, line-refused, row-from, later-header, task-line}
 
 -- the members of a set of these tasks are these tasks
 pub members-set : (header : Header) (ts : List Task) → members (setOf header ts) ≡ ts
 unfolding setOf
 members-set header ts = take-append-seam ts _
+
+-- a number that is a field of a formed line is below its width's power of 16
+pub field-within : (frame : Frame) (k x : ℕ) (text : List ℕ) → formed frame text ≡ true → x ≡ fieldOf frame k text → x < 16 ^ widthOf frame k
+field-within frame k x text f e = subst (λ (n : ℕ). n < 16 ^ widthOf frame k) (sym e) (field-below frame text f k)
 
 -- a place within a text is followed by a byte
 pub byte-there : (at : ℕ) (text : List ℕ) → at < length text → empty (drop at text) ≡ false

@@ -14,7 +14,7 @@ use Rattle.tasks.specs.declared.set.Task.{Task}
 use Rattle.tasks.specs.declared.set.TaskSet.{TaskSet}
 use Rattle.tasks.specs.declared.line.HeaderLine.{HeaderLine}
 use Rattle.tasks.specs.declared.line.TaskLine.{TaskLine}
-use Rattle.tasks.specs.Set.{setOf}
+use Rattle.tasks.specs.Set.{mostTasks, setOf}
 use Rattle.tasks.specs.File.{past, linesOutcome, headerAt, tasksFrom}
 
 -- line 1 is an 01 line, and the n lines after it are 02 lines
@@ -31,7 +31,7 @@ pub record Taken (text : List ℕ) (n : ℕ) (set : TaskSet) : Type 0 where
   pub shaped : Shaped text n
   pub clear : linesOutcome text (suc n) ≡ Done
   pub held : set ≡ setOf (headerAt text) (tasksFrom text n)
-  pub room : n ≤ 64
+  pub room : n ≤ mostTasks
 
 -- a line that is clear gives its figures, another hands its refusal up
 abbrev pub headerOr : Outcome → Header → HeaderLine

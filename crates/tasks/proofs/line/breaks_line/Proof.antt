@@ -1,6 +1,6 @@
 -- `line::breaks_line` meets its contract: row 1 where no line is left, at an 01 line, and at another.
 use mathlib.Core.Path.{_≡_, sym, ap, _∙_}
-use mathlib.Core.Bool.{not, true, false}
+use mathlib.Core.Bool.{not, false}
 use mathlib.Core.List.{List}
 use Prim.Native.Nat.{ℕ}
 use denote.Ref.{now}

@@ -1,69 +1,76 @@
 -- `line::header_at` meets its contract: each field of a formed line fits its type.
-use Prim.Native.Nat.{ℕ, _<_, _^_}
 use native.Mathlib.Omega.{arith}
-use mathlib.Core.Path.{_≡_, sym, subst}
 use denote.Ref.{now}
-use Rattle.frames.specs.Line.{fieldOf}
-use Rattle.frames.specs.Table.{widthsOf, widthOf}
+use Rattle.frames.specs.Table.{widthsOf}
 use Rattle.frames.specs.declared.table.Frame.{Frame}
-use Rattle.frames.proofs.Formed.{field-below}
+use Rattle.tasks.proofs.Standing.{field-within}
 use Rattle.tasks.specs.File.{headerAt}
 use borrow.Author.Needs.{needs}
 use Rattle.tasks.proofs.line.header_at.Statement.{statement}
 use Rattle.tasks.proofs.line.header_at.Tie as tie
-
--- a field of a formed line is below its width's power of 16
-below : (c : tie.Start) (k x : ℕ) → x ≡ fieldOf Frame.Header k (now (c .args .text)) → x < 16 ^ widthOf Frame.Header k
-below c k x e = subst (λ (n : ℕ). n < 16 ^ widthOf Frame.Header k) (sym e) (field-below Frame.Header (now (c .args .text)) (c .pre) k)
 
 field-requires : tie.Need-field-requires
 field-requires c κs = search needs
 
 cast-t4 : tie.Need-cast-t4
 unfolding widthsOf
-cast-t4 c = omega (arith, below (c .before .before) 0 (c .field .result) (c .field .ensures))
+cast-t4 c =
+    let s = c .before .before in
+    omega (arith, field-within Frame.Header 0 (c .field .result) (now (s .args .text)) (s .pre) (c .field .ensures))
 
 field-requires-2 : tie.Need-field-requires-2
 field-requires-2 c κs = search needs
 
 cast-t7 : tie.Need-cast-t7
 unfolding widthsOf
-cast-t7 c = omega (arith, below (c .before .before .before) 1 (c .field2 .result) (c .field2 .ensures))
+cast-t7 c =
+    let s = c .before .before .before in
+    omega (arith, field-within Frame.Header 1 (c .field2 .result) (now (s .args .text)) (s .pre) (c .field2 .ensures))
 
 field-requires-3 : tie.Need-field-requires-3
 field-requires-3 c κs = search needs
 
 cast-t10 : tie.Need-cast-t10
 unfolding widthsOf
-cast-t10 c = omega (arith, below (c .before .before .before .before) 2 (c .field3 .result) (c .field3 .ensures))
+cast-t10 c =
+    let s = c .before .before .before .before in
+    omega (arith, field-within Frame.Header 2 (c .field3 .result) (now (s .args .text)) (s .pre) (c .field3 .ensures))
 
 field-requires-4 : tie.Need-field-requires-4
 field-requires-4 c κs = search needs
 
 cast-t13 : tie.Need-cast-t13
 unfolding widthsOf
-cast-t13 c = omega (arith, below (c .before .before .before .before .before) 3 (c .field4 .result) (c .field4 .ensures))
+cast-t13 c =
+    let s = c .before .before .before .before .before in
+    omega (arith, field-within Frame.Header 3 (c .field4 .result) (now (s .args .text)) (s .pre) (c .field4 .ensures))
 
 field-requires-5 : tie.Need-field-requires-5
 field-requires-5 c κs = search needs
 
 cast-t16 : tie.Need-cast-t16
 unfolding widthsOf
-cast-t16 c = omega (arith, below (c .before .before .before .before .before .before) 4 (c .field5 .result) (c .field5 .ensures))
+cast-t16 c =
+    let s = c .before .before .before .before .before .before in
+    omega (arith, field-within Frame.Header 4 (c .field5 .result) (now (s .args .text)) (s .pre) (c .field5 .ensures))
 
 field-requires-6 : tie.Need-field-requires-6
 field-requires-6 c κs = search needs
 
 cast-t19 : tie.Need-cast-t19
 unfolding widthsOf
-cast-t19 c = omega (arith, below (c .before .before .before .before .before .before .before) 5 (c .field6 .result) (c .field6 .ensures))
+cast-t19 c =
+    let s = c .before .before .before .before .before .before .before in
+    omega (arith, field-within Frame.Header 5 (c .field6 .result) (now (s .args .text)) (s .pre) (c .field6 .ensures))
 
 field-requires-7 : tie.Need-field-requires-7
 field-requires-7 c κs = search needs
 
 cast-t22 : tie.Need-cast-t22
 unfolding widthsOf
-cast-t22 c = omega (arith, below (c .before .before .before .before .before .before .before .before) 6 (c .field7 .result) (c .field7 .ensures))
+cast-t22 c =
+    let s = c .before .before .before .before .before .before .before .before in
+    omega (arith, field-within Frame.Header 6 (c .field7 .result) (now (s .args .text)) (s .pre) (c .field7 .ensures))
 
 returns : tie.Need-returns
 unfolding headerAt

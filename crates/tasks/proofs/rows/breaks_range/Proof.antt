@@ -1,5 +1,5 @@
 -- `rows::breaks_range` meets its contract: each way out is told by the tests that led there.
-use borrow.Author.Tests.{lt-leb, le-leb, lt-ltb, le-ltb, eq-eqb, ne-eqb}
+use borrow.Author.Tests.{lt-leb, le-leb}
 use Rattle.tasks.specs.Rows.{rangeRow}
 use Rattle.tasks.proofs.Bools.{below-not-most}
 use Rattle.tasks.proofs.rows.breaks_range.Statement.{statement}

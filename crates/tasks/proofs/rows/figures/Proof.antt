@@ -1,7 +1,6 @@
 -- `rows::figures` meets its contract: row 5, then row 6 at the first task out of range.
 use native.Mathlib.Omega.{arith}
 use mathlib.Core.Path.{_≡_, sym, _∙_, ap}
-use mathlib.Core.Bool.{true, false}
 use lib.ListN.{length-take}
 use Rattle.frames.specs.declared.refusal.Refusal.the-variants.{Range}
 use Rattle.tasks.specs.declared.set.TaskSet.{TaskSet}
