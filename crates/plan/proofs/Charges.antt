@@ -22,27 +22,10 @@ use Rattle.tasks.specs.declared.set.TaskSet.{TaskSet}
 use Rattle.tasks.specs.Set.{members, zeroTask}
 use Rattle.tasks.specs.Rows.{firstFrom, firstTask}
 use Rattle.tasks.proofs.Carried.{either-left, either-right}
+use Rattle.tasks.proofs.FirstLaws.{first-none}
 use Rattle.tasks.proofs.Firsts.{members-length, member-at}
 use Rattle.plan.specs.Charge.{loadOf}
 use Rattle.plan.specs.Rows.{tightRow, Chargeable}
-
--- ---- a row that no task breaks
-
-none-here : (b : Bool) (k n : ℕ) → 1 ≤ k → pick b k n ≡ 0 → (b ≡ false) × (n ≡ 0)
-none-here true k n h e = absurd (omega arith)
-none-here false k n h e = (refl, e)
-
-module _ (p : Task → Bool) where
-  clear-from : (k : ℕ) (ts : List Task) → 1 ≤ k → firstFrom p k ts ≡ 0 → (i : ℕ) → i < length ts → p (getD ts i zeroTask) ≡ false
-  unfolding firstFrom
-  clear-from k [] h e i l = absurd (omega arith)
-  clear-from k (t ∷ ts) h e zero l = none-here (p t) k (firstFrom p (suc k) ts) h e .0
-  clear-from k (t ∷ ts) h e (suc i) l =
-      clear-from (suc k) ts (omega arith) (none-here (p t) k (firstFrom p (suc k) ts) h e .1) i (le-of-suc-le-suc l)
-
-  -- where no task is the first to break a row, none breaks it
-  pub clear-at : (ts : List Task) → firstTask p ts ≡ 0 → (i : ℕ) → i < length ts → p (getD ts i zeroTask) ≡ false
-  clear-at ts e i l = clear-from 1 ts (omega arith) e i l
 
 -- ---- row 8 clear
 
@@ -60,7 +43,7 @@ pub set-early : (set : TaskSet) → set .count ≤ length (set .tasks) → Charg
     set .header .relj ≤ getD (set .tasks) i zeroTask .deadline
 set-early set fits ok i l =
     let e : tightRow (set .header) (getD (set .tasks) i zeroTask) ≡ false =
-    rw (member-at set i zeroTask l) at (clear-at (tightRow (set .header)) (members set) (ok .tight) i (omega (arith, members-length set fits)))
+    rw (member-at set i zeroTask l) at (first-none (tightRow (set .header)) zeroTask 0 (members set) (ok .tight) i (omega (arith, members-length set fits)))
     in
     omega (arith, tight-early (set .header) (getD (set .tasks) i zeroTask) e)
 

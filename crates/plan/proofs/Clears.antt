@@ -30,11 +30,12 @@ use Rattle.tasks.specs.declared.set.TaskSet.{TaskSet}
 use Rattle.tasks.specs.Set.{mostTasks, mostProcessors, longestPeriod, members, zeroTask}
 use Rattle.tasks.specs.Rows.{firstOf, when, firstTask, atTask, some, boardRow, rangeRow, twiceRow, headerOverflows, overflows, taskOverflows, askRow, countRow, figuresOutcome}
 use Rattle.tasks.proofs.Carried.{either-left, either-right, count-within, ask-count}
+use Rattle.tasks.proofs.FirstLaws.{first-none}
 use Rattle.tasks.proofs.Firsts.{members-length, at-some}
 use Rattle.plan.specs.Charge.{loadOf, loadsOfSet, lossOf}
 use Rattle.plan.specs.Rows.{slotRow, tightRow, horizonOf, horizonRow, chargedOutcome, Chargeable, RowsClear}
 use Rattle.plan.proofs.Outcomes.{first-done, when-done, at-done, both-left, both-right}
-use Rattle.plan.proofs.Charges.{clear-at, tight-early, tight-meets}
+use Rattle.plan.proofs.Charges.{tight-meets}
 
 -- ---- a header and a task
 
@@ -162,7 +163,7 @@ module _ (set : TaskSet) where
   unfolding loadsOfSet
   loads-sound ok =
       every-by Sound (loadOf (set .header)) (members set)
-      (λ i l. load-sound (set .header) (getD (members set) i zeroTask) (clear-at rangeRow (members set) (ok .range) i l) (clear-at (tightRow (set .header)) (members set) (ok .tight) i l))
+      (λ i l. load-sound (set .header) (getD (members set) i zeroTask) (first-none rangeRow zeroTask 0 (members set) (ok .range) i l) (first-none (tightRow (set .header)) zeroTask 0 (members set) (ok .tight) i l))
 
   pub loads-length : set .count ≤ length (set .tasks) → length (loadsOfSet set) ≡ set .count
   unfolding loadsOfSet

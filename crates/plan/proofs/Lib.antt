@@ -8,5 +8,9 @@ pub mod Layouts
 pub mod Served
 pub mod Made
 pub mod Fronts
+pub mod AgreeLaws
 pub mod Checked
 pub mod Judging
+pub mod Exactly
+pub mod RoomLaws
+pub mod Promises

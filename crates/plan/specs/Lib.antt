@@ -5,3 +5,4 @@ pub mod Layable
 pub mod Agrees
 pub mod Planner
 pub mod Question
+pub mod Claims

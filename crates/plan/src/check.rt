@@ -10,7 +10,7 @@ ghost use lib.ListN.{length};
 ghost use Rattle.plan.specs.Agrees.{sameFront, sameFigures, sameServers, sameProcessors, agrees};
 ghost use Rattle.plan.specs.Planner.{makes};
 
-pub fn same_front<'a>(a: &'a [u64], b: &'a [u64], n: usize) -> bool
+fn same_front<'a>(a: &'a [u64], b: &'a [u64], n: usize) -> bool
     requires { ⌜ (n ≤ length (now a)) × (n ≤ length (now b)) ⌝ }
     ensures { λ r. ⌜ r ≡ sameFront n (now (a .entry)) (now (b .entry)) ⌝ }
 {
@@ -24,7 +24,7 @@ pub fn same_front<'a>(a: &'a [u64], b: &'a [u64], n: usize) -> bool
     true
 }
 
-pub fn same_figures(a: Plan, b: Plan) -> bool
+fn same_figures(a: Plan, b: Plan) -> bool
     ensures { λ r. ⌜ r ≡ sameFigures a b ⌝ }
 {
     if a.whole != b.whole {
@@ -42,7 +42,7 @@ pub fn same_figures(a: Plan, b: Plan) -> bool
     a.idle == b.idle
 }
 
-pub fn same_servers(a: Plan, b: Plan) -> bool
+fn same_servers(a: Plan, b: Plan) -> bool
     requires { ⌜ b .servers ≤ 64 ⌝ }
     ensures { λ r. ⌜ r ≡ sameServers a b ⌝ }
 {
@@ -56,7 +56,7 @@ pub fn same_servers(a: Plan, b: Plan) -> bool
     same_front(&a.tasks, &b.tasks, n)
 }
 
-pub fn same_processors(a: Plan, b: Plan) -> bool
+fn same_processors(a: Plan, b: Plan) -> bool
     requires { ⌜ b .ring + b .whole ≤ 64 ⌝ }
     ensures { λ r. ⌜ r ≡ sameProcessors a b ⌝ }
 {
@@ -68,7 +68,7 @@ pub fn same_processors(a: Plan, b: Plan) -> bool
 }
 
 // The plans of so many tasks agree.
-pub fn agree(tasks: usize, a: Plan, b: Plan) -> bool
+fn agree(tasks: usize, a: Plan, b: Plan) -> bool
     requires { ⌜ (tasks ≤ 64) × (b .servers ≤ 64) × (b .ring + b .whole ≤ 64) ⌝ }
     ensures { λ r. ⌜ r ≡ agrees tasks a b ⌝ }
 {

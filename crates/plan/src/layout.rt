@@ -21,7 +21,7 @@ ghost use Rattle.plan.specs.Plan.{upTo, ringStart, laidOut};
 ghost use Rattle.plan.specs.Layable.{Layable};
 
 // Where server q stands on the ring; 0 for a server that has a whole processor.
-pub fn start_of(reserves: &[u64], n: usize, slot: u64, q: usize) -> u64
+fn start_of(reserves: &[u64], n: usize, slot: u64, q: usize) -> u64
     requires { ⌜ Laid slot (now reserves) n × (1 ≤ q) × (q ≤ n) ⌝ }
     ensures { λ r. ⌜ r ≡ ringStart slot (take n (now (reserves .entry))) q ⌝ }
 {
@@ -34,7 +34,7 @@ pub fn start_of(reserves: &[u64], n: usize, slot: u64, q: usize) -> u64
 }
 
 // The ring starts of all servers.
-pub fn starts(reserves: &[u64], n: usize, slot: u64) -> [u64; 64]
+fn starts(reserves: &[u64], n: usize, slot: u64) -> [u64; 64]
     requires { ⌜ Laid slot (now reserves) n × (n ≤ 64) ⌝ }
     ensures { λ r. ⌜ r ≡ row (upTo (ringStart slot (take n (now (reserves .entry)))) n) ⌝ }
 {
@@ -48,7 +48,7 @@ pub fn starts(reserves: &[u64], n: usize, slot: u64) -> [u64; 64]
 }
 
 // How many tasks server q has.
-pub fn tasks_of(loads: Members, server: [u64; 64], q: u64) -> u64
+fn tasks_of(loads: Members, server: [u64; 64], q: u64) -> u64
     requires { ⌜ loads .count ≤ 64 ⌝ }
     ensures { λ r. ⌜ r ≡ length (loadsIn (held loads) (take (loads .count) server) q) ⌝ }
 {
@@ -65,7 +65,7 @@ pub fn tasks_of(loads: Members, server: [u64; 64], q: u64) -> u64
 }
 
 // How many tasks each of the first n servers has.
-pub fn task_counts(loads: Members, server: [u64; 64], n: usize) -> [u64; 64]
+fn task_counts(loads: Members, server: [u64; 64], n: usize) -> [u64; 64]
     requires { ⌜ (loads .count ≤ 64) × (n ≤ 64) ⌝ }
     ensures { λ r. ⌜ r ≡ row (upTo (λ (q : ℕ). length (loadsIn (held loads) (take (loads .count) server) q)) n) ⌝ }
 {
@@ -84,7 +84,7 @@ pub struct Firsts {
     pub duration: [u64; 64],
 }
 
-pub fn first_reserves(reserves: &[u64], n: usize, slot: u64, processors: usize) -> Firsts
+fn first_reserves(reserves: &[u64], n: usize, slot: u64, processors: usize) -> Firsts
     requires { ⌜ Laid slot (now reserves) n × (processors ≤ processorsOf slot (take n (now reserves))) × (processors ≤ 64) ⌝ }
     ensures { λ r. ⌜ r .server ≡ row (upTo (λ (p : ℕ). firstOf slot (take n (now (reserves .entry))) p .server) processors) ⌝ }
     ensures { λ r. ⌜ r .duration ≡ row (upTo (λ (p : ℕ). firstOf slot (take n (now (reserves .entry))) p .left) processors) ⌝ }

@@ -17,7 +17,7 @@ pub struct PlanAnswer {
 }
 
 // The plan of a set for which row 11 and rows 5 to 9 are clear.
-pub fn lay(set: TaskSet) -> Plan
+fn lay(set: TaskSet) -> Plan
     requires { ⌜ Clear set ⌝ }
     ensures { λ r. ⌜ r ≡ planMade set ⌝ }
 {

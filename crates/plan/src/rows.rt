@@ -14,14 +14,14 @@ ghost use Rattle.tasks.specs.Rows.{firstTask};
 ghost use Rattle.plan.specs.Rows.{slotRow, tightRow, horizonRow, chargedOutcome, Chargeable};
 
 // 7 SLOT.
-pub fn breaks_slot(header: Header, task: Task) -> bool
+fn breaks_slot(header: Header, task: Task) -> bool
     ensures { λ r. ⌜ r ≡ slotRow header task ⌝ }
 {
     task.deadline < header.slot
 }
 
 // 8 TIGHT.
-pub fn breaks_tight(header: Header, task: Task) -> bool
+fn breaks_tight(header: Header, task: Task) -> bool
     ensures { λ r. ⌜ r ≡ tightRow header task ⌝ }
 {
     let jitter = header.relj as u32;
@@ -32,7 +32,7 @@ pub fn breaks_tight(header: Header, task: Task) -> bool
 }
 
 // The first task, from 1, that is due before a slot ends, or 0.
-pub fn first_slot(set: TaskSet) -> usize
+fn first_slot(set: TaskSet) -> usize
     requires { ⌜ set .count ≤ mostTasks ⌝ }
     ensures { λ r. ⌜ r ≡ firstTask (slotRow (set .header)) (members set) ⌝ }
 {
@@ -50,7 +50,7 @@ pub fn first_slot(set: TaskSet) -> usize
 }
 
 // The first task, from 1, that the charging makes too tight, or 0.
-pub fn first_tight(set: TaskSet) -> usize
+fn first_tight(set: TaskSet) -> usize
     requires { ⌜ set .count ≤ mostTasks ⌝ }
     ensures { λ r. ⌜ r ≡ firstTask (tightRow (set .header)) (members set) ⌝ }
 {
@@ -68,7 +68,7 @@ pub fn first_tight(set: TaskSet) -> usize
 }
 
 // 9 HORIZON.
-pub fn breaks_horizon(set: TaskSet) -> bool
+fn breaks_horizon(set: TaskSet) -> bool
     requires { ⌜ Chargeable set ⌝ }
     ensures { λ r. ⌜ r ≡ horizonRow set ⌝ }
 {

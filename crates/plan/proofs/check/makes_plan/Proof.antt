@@ -42,7 +42,7 @@ agree-requires : tie.Need-agree-requires
 agree-requires c κs =
     let s = c .before .before .before in
     let clear = outcome-clear (s .args .set) (done c) .0 in (
-      count-most (s .args .set) (full s) clear,
+      omega (arith, count-most (s .args .set) (full s) clear),
       omega (arith, ap (λ (p : Plan). p .servers) (made c), made-servers (s .args .set) (full s) clear),
       omega (arith, made-sum (s .args .set) (made c), needed-few (s .args .set) (full s) clear),
     )

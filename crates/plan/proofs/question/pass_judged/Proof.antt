@@ -7,10 +7,12 @@ use mathlib.Core.List.{List}
 use native.Mathlib.Omega.{arith}
 use lib.ListN.{length, take, length-map}
 use Rattle.demand.specs.Load.{Load}
+use Rattle.verdict.specs.declared.answer.Verdict.{Verdict}
 use Rattle.verdict.specs.Verdict.{verdictOf}
 use Rattle.servers.specs.Members.{Sized}
 use Rattle.servers.specs.Placement.{loadsIn}
 use Rattle.servers.proofs.PartLaws.{testable}
+use Rattle.tasks.specs.declared.set.TaskSet.{TaskSet}
 use Rattle.plan.specs.Charge.{loadsOfSet, lossOf}
 use Rattle.plan.specs.Plan.{setPlacement}
 use Rattle.plan.proofs.Clears.{members-loaded, members-count}
@@ -23,6 +25,11 @@ use Rattle.plan.proofs.question.pass_judged.Tie as tie
 -- a set's tasks have 64 places
 full : (c : tie.Start) → length (c .args .set .tasks) ≡ 64
 full c = sym (length-map (c .args .set .tasks) _) ∙ c .good .0 .1 .1 .1 .1 .0 .1 .0 .1
+
+-- the verdict on the loads gathered, with the loss found, is the verdict asked for
+judged : (set : TaskSet) (R : ℕ) (ks : List Load) {ls : List Load} {L : ℕ} {v : Verdict} → ls ≡ ks → L ≡ lossOf (set .header) →
+    v ≡ verdictOf ls (set .header .slot) L R → v ≡ verdictOf ks (set .header .slot) (lossOf (set .header)) R
+judged set R ks e g h = rw (← e, ← g) h
 
 -- the server's loads may be tested
 sized-at : (c : tie.After-gather) →
@@ -73,10 +80,12 @@ verdict-requires c κs =
 
 returns : tie.Need-returns
 returns c =
-    let s = c .before .before .before .before .before .before .before .before .before .before .before .before .before .before .before .before .before .before .before .before .before .before .before .before in
-    c .verdict .ensures
-    ∙ ap (λ (ls : List Load). verdictOf ls (s .args .set .header .slot) (c .before .before .before .before .before .before .before .before .loss .result) (s .args .reserve)) (own-loads (s .args .set) (full s) (s .args .t2) (s .pre .0) (c .before .before .before .before .before .before .before .before .before .before .before .before .before .before .before .before .before .before .before .before .before .loads .ensures) (s .args .server) (c .before .before .before .before .before .before .before .before .before .before .gather .ensures))
-    ∙ ap (λ (L : ℕ). verdictOf (loadsIn (loadsOfSet (s .args .set)) (setPlacement (s .args .set)) (s .args .server)) (s .args .set .header .slot) L (s .args .reserve)) (c .before .before .before .before .before .before .before .before .loss .ensures)
+    let gathered = c .before .before .before .before .before .before .before .before .before .before in
+    let s = gathered .before .before .before .before .before .before .before .before .before .before .before .before .before .before in
+    judged (s .args .set) (s .args .reserve) _
+    (own-loads (s .args .set) (full s) (s .args .t2) (s .pre .0) (gathered .before .before .before .before .before .before .before .before .before .before .before .loads .ensures) (s .args .server) (gathered .gather .ensures))
+    (c .before .before .before .before .before .before .before .before .loss .ensures)
+    (c .verdict .ensures)
 
 pub pass-judged-spec : {M : Type 1} → statement M
 pass-judged-spec =
