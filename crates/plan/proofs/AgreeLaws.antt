@@ -9,11 +9,10 @@ use lib.Dec.{eqb}
 use lib.ListN.{take}
 use Rattle.frames.specs.Digit.{both}
 use Rattle.frames.specs.Line.{same}
-use Rattle.tasks.proofs.Bools.{true-false}
 use Rattle.plan.specs.declared.plan.Plan.{Plan}
 use Rattle.plan.specs.Agrees.{sameFront, sameFigures, sameServers, sameProcessors, agrees}
 use Rattle.plan.specs.Claims.{SamePlan}
-use Rattle.plan.proofs.Outcomes.{both-left, both-right}
+use Rattle.plan.proofs.Outcomes.{true-false, both-left, both-right}
 
 same-eq : (xs ys : List ℕ) → same xs ys ≡ true → xs ≡ ys
 unfolding same

@@ -1,18 +1,15 @@
 -- A set whose rows are clear: what that says of each task, and the loads of one task more.
 -- Assumes nothing.
-use Prim.Native.Nat.{ℕ, zero, suc, _+_, _≤_, _<_}
-use mathlib.Core.Path.{_≡_, refl, sym, ap, _∙_}
-use mathlib.Core.Bool.{Bool, true, false}
-use mathlib.Core.List.{List, [], _∷_, _++_, map, map-append}
-use native.Mathlib.Nat.{le-of-suc-le-suc}
+use Prim.Native.Nat.{ℕ, _+_, _≤_, _<_}
+use mathlib.Core.Path.{_≡_, sym, ap, _∙_}
+use mathlib.Core.Bool.{false}
+use mathlib.Core.List.{List, [], _∷_, map, map-append}
 use native.Mathlib.Numerals.{add-one}
 use native.Mathlib.Omega.{arith}
 use borrow.Author.Tests.{leb-false, ltb-false}
 use lib.Dec.{leb, ltb}
 use lib.ListN.{length, take, getD, length-map}
 use lib.Seq.{take-suc, length-take-le}
-use Rattle.frames.specs.Digit.{either, pick}
-use Rattle.demand.specs.Load.{Load}
 use Rattle.servers.specs.declared.members.Members.{Members}
 use Rattle.servers.specs.Members.{membersOf, withLoad}
 use Rattle.servers.proofs.MemberLaws.{members-more}
@@ -20,7 +17,6 @@ use Rattle.tasks.specs.declared.set.Header.{Header}
 use Rattle.tasks.specs.declared.set.Task.{Task}
 use Rattle.tasks.specs.declared.set.TaskSet.{TaskSet}
 use Rattle.tasks.specs.Set.{members, zeroTask}
-use Rattle.tasks.specs.Rows.{firstFrom, firstTask}
 use Rattle.tasks.proofs.Carried.{either-left, either-right}
 use Rattle.tasks.proofs.FirstLaws.{first-none}
 use Rattle.tasks.proofs.Firsts.{members-length, member-at}

@@ -1,6 +1,6 @@
 -- A plan that the planner makes of a set: what agrees in both.
 -- Assumes nothing.
-use Prim.Native.Nat.{ℕ, _+_, _^_, _≤_, _<_}
+use Prim.Native.Nat.{ℕ, _+_}
 use mathlib.Core.Path.{_≡_, refl, sym, ap, subst, _∙_}
 use mathlib.Core.Bool.{Bool, true, false}
 use mathlib.Core.List.{List}
@@ -16,11 +16,9 @@ use Rattle.servers.specs.Placement.{serversIn}
 use Rattle.servers.proofs.RowLaws.{row-take}
 use Rattle.servers.proofs.PlacementLaws.{placement-length}
 use Rattle.ring.specs.Laid.{Laid}
-use Rattle.ring.specs.Reserves.{processorsOf}
 use Rattle.ring.specs.declared.clock.Tick.{Tick}
 use Rattle.ring.specs.Who.{whoOf}
 use Rattle.tasks.specs.declared.set.TaskSet.{TaskSet}
-use Rattle.tasks.proofs.Bools.{true-false}
 use Rattle.plan.specs.declared.plan.Plan.{Plan}
 use Rattle.plan.specs.Charge.{loadsOfSet, lossOf}
 use Rattle.plan.specs.Plan.{laidOut, setPlacement, setReserves, planMade}
@@ -28,7 +26,7 @@ use Rattle.plan.specs.Agrees.{agrees}
 use Rattle.plan.specs.Claims.{SamePlan}
 use Rattle.plan.specs.Planner.{Clear, needed, planOutcome, planOf, isDone, makes}
 use Rattle.plan.specs.Question.{isProcessor, Standing}
-use Rattle.plan.proofs.Outcomes.{both-left, both-right}
+use Rattle.plan.proofs.Outcomes.{true-false, both-left, both-right}
 use Rattle.plan.proofs.AgreeLaws.{agree-same}
 use Rattle.plan.proofs.Clears.{loads-length}
 use Rattle.plan.proofs.Served.{laid-by}

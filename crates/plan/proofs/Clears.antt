@@ -1,13 +1,12 @@
 -- A set whose rows are clear: its loads are sound, its slot, entry loss and horizon are within bounds.
 -- Assumes nothing.
-use Prim.Native.Nat.{ℕ, zero, suc, _+_, _^_, _≤_, _<_}
+use Prim.Native.Nat.{ℕ, zero, suc, _^_, _≤_, _<_}
 use mathlib.Core.Path.{_≡_, refl, sym, ap, subst, _∙_}
 use mathlib.Core.Bool.{Bool, true, false, not}
 use mathlib.Core.List.{List, [], _∷_, map}
-use native.Mathlib.Nat.{le-of-suc-le-suc, le-trans}
 use native.Mathlib.Omega.{arith}
 use borrow.Author.Tests.{leb-true, leb-false, ltb-false, lt-ltb, le-ltb, eqb-false, not-false}
-use lib.Dec.{leb, ltb, eqb}
+use lib.Dec.{leb, eqb}
 use lib.ListN.{length, take, getD, length-map}
 use Rattle.frames.specs.Digit.{both, either}
 use Rattle.frames.specs.declared.refusal.Refusal.the-variants.{Board, Range, Slot, Tight, Horizon}
@@ -17,7 +16,7 @@ use Rattle.wholes.specs.Multiple.{leastMultipleOf, Positive, within}
 use Rattle.wholes.specs.declared.Multiple.the-variants.{Within, Past}
 use Rattle.wholes.proofs.WithinLaws.{within-value, past-value}
 use Rattle.demand.specs.Charging.{effectiveCost, effectiveDeadline, entryLoss}
-use Rattle.demand.specs.Load.{Load, Sound, Every, Loaded, loadAt, loadsOf}
+use Rattle.demand.specs.Load.{Load, Sound, Every, Loaded, loadAt}
 use Rattle.demand.proofs.Demand.{every-at}
 use Rattle.servers.specs.Row.{row}
 use Rattle.servers.specs.Members.{membersOf, held, Sized}
@@ -29,7 +28,7 @@ use Rattle.tasks.specs.declared.set.Task.{Task}
 use Rattle.tasks.specs.declared.set.TaskSet.{TaskSet}
 use Rattle.tasks.specs.Set.{mostTasks, mostProcessors, longestPeriod, members, zeroTask}
 use Rattle.tasks.specs.Rows.{firstOf, when, firstTask, atTask, some, boardRow, rangeRow, twiceRow, headerOverflows, overflows, taskOverflows, askRow, countRow, figuresOutcome}
-use Rattle.tasks.proofs.Carried.{either-left, either-right, count-within, ask-count}
+use Rattle.tasks.proofs.Carried.{either-left, either-right}
 use Rattle.tasks.proofs.FirstLaws.{first-none}
 use Rattle.tasks.proofs.Firsts.{members-length, at-some}
 use Rattle.plan.specs.Charge.{loadOf, loadsOfSet, lossOf}

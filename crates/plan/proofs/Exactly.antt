@@ -2,11 +2,11 @@
 -- Assumes nothing.
 use Prim.Native.Nat.{ℕ, zero, suc, _+_, _-_, _≤_, _<_}
 use mathlib.Core.Path.{_≡_, refl, sym, ap, subst, _∙_}
-use mathlib.Core.Logic.{_⊎_, ⊎-elim}
+use mathlib.Core.Logic.{⊎-elim}
 use mathlib.Core.Bool.{Bool, true, false}
 use mathlib.Core.List.{List}
 use native.Mathlib.Omega.{arith}
-use lib.ListN.{length, getD}
+use lib.ListN.{getD}
 use Rattle.frames.specs.declared.refusal.Refusal.{Refusal}
 use Rattle.frames.specs.declared.refusal.Refusal.the-variants.{Line, Order, Count, Twice, Board, Range, Slot, Tight, Horizon, Full, Ask, Room}
 use Rattle.frames.specs.declared.refusal.Outcome.{Outcome}

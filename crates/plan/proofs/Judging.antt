@@ -1,24 +1,24 @@
 -- The loads of one server of a checked plan: they may be tested, and are those of the set's own placement.
 -- Assumes nothing.
-use Prim.Native.Nat.{ℕ, _+_, _≤_}
-use mathlib.Core.Path.{_≡_, refl, sym, ap, subst, _∙_}
+use Prim.Native.Nat.{ℕ, _+_}
+use mathlib.Core.Path.{_≡_, refl, ap, _∙_}
 use mathlib.Core.Bool.{Bool, true, false}
-use mathlib.Core.Logic.{_⊎_, inl, inr}
+use mathlib.Core.Logic.{inl, inr}
 use mathlib.Core.List.{List}
 use native.Mathlib.Omega.{arith}
 use borrow.Author.Tests.{leb-true, eqb-true}
 use lib.Dec.{leb, eqb}
 use lib.ListN.{length, take}
 use Rattle.frames.specs.Digit.{both, either}
-use Rattle.demand.specs.Load.{Load, loadsOf}
-use Rattle.demand.specs.Supply.{Ring, Allowed}
+use Rattle.demand.specs.Load.{Load}
+use Rattle.demand.specs.Supply.{Allowed}
 use Rattle.verdict.specs.Verdict.{ownHorizon}
 use Rattle.servers.specs.Members.{membersOf, held, Sized}
 use Rattle.servers.specs.Placement.{loadsIn}
 use Rattle.servers.specs.declared.members.Members.{Members}
 use Rattle.servers.proofs.MemberLaws.{held-members}
 use Rattle.servers.proofs.LoadLaws.{every-in, in-few}
-use Rattle.servers.proofs.PartLaws.{Fine, all-fine, Holds, holds-sized}
+use Rattle.servers.proofs.PartLaws.{Fine, all-fine, holds-sized}
 use Rattle.tasks.specs.declared.set.TaskSet.{TaskSet}
 use Rattle.plan.specs.declared.plan.Plan.{Plan}
 use Rattle.plan.specs.Charge.{loadsOfSet, lossOf}

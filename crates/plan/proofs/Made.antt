@@ -1,9 +1,8 @@
 -- The plan of a set whose rows are clear, and the planner's answer by the first row that holds.
 -- Assumes nothing.
 use Prim.Native.Nat.{ℕ, _+_, _^_, _≤_, _<_}
-use mathlib.Core.Path.{_≡_, refl, sym, ap, _∙_}
-use mathlib.Core.Bool.{Bool, true, false}
-use mathlib.Core.List.{List, map}
+use mathlib.Core.Path.{_≡_, refl, ap, _∙_}
+use mathlib.Core.Bool.{true, false}
 use native.Mathlib.Omega.{arith}
 use borrow.Author.Tests.{lt-ltb, le-ltb}
 use lib.ListN.{length, take}
@@ -11,20 +10,18 @@ use Rattle.frames.specs.declared.refusal.Refusal.{Refusal}
 use Rattle.frames.specs.declared.refusal.Refusal.the-variants.{Full, Ask}
 use Rattle.frames.specs.declared.refusal.Outcome.{Outcome}
 use Rattle.frames.specs.declared.refusal.Outcome.the-variants.{Done, Refused}
-use Rattle.demand.specs.Load.{Load, Sound, Every}
+use Rattle.demand.specs.Load.{Sound, Every}
 use Rattle.servers.specs.Members.{membersOf, held, Sized}
-use Rattle.servers.specs.Placement.{serversIn, placementOf}
-use Rattle.servers.specs.Reserve.{reservesOf, serversOf}
+use Rattle.servers.specs.Placement.{serversIn}
+use Rattle.servers.specs.Reserve.{serversOf}
 use Rattle.servers.specs.declared.Servers.{Servers}
 use Rattle.servers.specs.declared.members.Members.{Members}
 use Rattle.servers.proofs.ServedLaws.{reserves-count}
-use Rattle.ring.specs.Reserves.{processorsOf}
 use Rattle.tasks.specs.declared.set.TaskSet.{TaskSet}
 use Rattle.tasks.specs.Set.{mostTasks}
 use Rattle.tasks.specs.Rows.{firstOf, when, askRow}
 use Rattle.tasks.proofs.Carried.{count-within, ask-count}
 use Rattle.plan.specs.declared.plan.Plan.{Plan}
-use Rattle.plan.specs.declared.planner.PlanAnswer.{PlanAnswer}
 use Rattle.plan.specs.Charge.{loadsOfSet, lossOf}
 use Rattle.plan.specs.Rows.{chargedOutcome, Chargeable, RowsClear}
 use Rattle.plan.specs.Plan.{laidOut, setPlacement, setReserves, planMade, zeroPlan}

@@ -2,13 +2,13 @@
 -- Assumes nothing.
 use Prim.Native.Nat.{ℕ, zero, suc}
 use mathlib.Core.Path.{_≡_, refl, sym}
-use mathlib.Core.Bool.{Bool, true, false}
+use mathlib.Core.Bool.{Bool, true, false, false≢true}
 use Rattle.frames.specs.Digit.{both}
 use Rattle.frames.specs.declared.refusal.Refusal.{Refusal}
 use Rattle.frames.specs.declared.refusal.Outcome.{Outcome}
 use Rattle.frames.specs.declared.refusal.Outcome.the-variants.{Done, Refused}
 use Rattle.tasks.specs.Rows.{firstOf, when, atTask}
-use Rattle.tasks.proofs.Bools.{done-refused, true-false}
+use Rattle.tasks.proofs.Bools.{done-refused}
 
 pub first-done : (a b : Outcome) → firstOf a b ≡ Done → (a ≡ Done) × (b ≡ Done)
 first-done Done b e = (refl, e)
@@ -21,6 +21,10 @@ when-done false r e = refl
 pub at-done : (r : ℕ → Refusal) (n : ℕ) → atTask r n ≡ Done → n ≡ 0
 at-done r zero e = refl
 at-done r (suc n) e = done-refused (sym e)
+
+-- from true as false all follows
+pub true-false : {A : Type 0} → true ≡ false → A
+true-false e = absurd (false≢true (sym e))
 
 -- both of two tests hold
 pub both-left : (a b : Bool) → both a b ≡ true → a ≡ true

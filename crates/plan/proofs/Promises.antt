@@ -2,22 +2,19 @@
 -- Assumes nothing.
 use Prim.Native.Nat.{ℕ, _+_, _-_, _≤_, _<_}
 use mathlib.Core.Path.{_≡_, refl, sym, ap, subst, _∙_}
-use mathlib.Core.Logic.{_⊎_, inl, inr, ⊎-elim, _↔_}
-use mathlib.Core.Bool.{Bool, true, false}
+use mathlib.Core.Logic.{_⊎_, ⊎-elim}
+use mathlib.Core.Bool.{true, false}
 use mathlib.Core.List.{List}
 use native.Mathlib.Omega.{arith}
 use borrow.Author.Tests.{leb-true, ltb-false}
 use lib.Dec.{leb}
 use lib.ListN.{length, getD, take}
 use lib.Seq.{getD-take}
-use Rattle.frames.specs.Digit.{both}
-use Rattle.frames.specs.declared.refusal.Outcome.the-variants.{Done, Refused}
-use Rattle.demand.specs.Load.{Load}
+use Rattle.frames.specs.declared.refusal.Outcome.the-variants.{Done}
 use Rattle.demand.specs.Passes.{Passes}
-use Rattle.verdict.specs.declared.answer.Verdict.{Verdict}
 use Rattle.verdict.specs.Verdict.{verdictOf}
 use Rattle.verdict.specs.Reserve.{Smallest}
-use Rattle.verdict.specs.Claims.{Asked, FailsFirst}
+use Rattle.verdict.specs.Claims.{Asked}
 use Rattle.verdict.proofs.Verdict.{verdict-means}
 use Rattle.servers.specs.Placement.{loadsIn, serversIn}
 use Rattle.servers.specs.Claims.{Parted}
@@ -26,20 +23,18 @@ use Rattle.servers.proofs.LoadLaws.{every-in}
 use Rattle.ring.specs.declared.clock.Tick.{Tick}
 use Rattle.ring.specs.Who.{whoOf}
 use Rattle.ring.specs.Reserves.{ringProcessors, wholes, processorsOf}
-use Rattle.ring.specs.Claims.{Answers, Stays}
 use Rattle.ring.proofs.Theorems.{whoServes, whoStays}
 use Rattle.tasks.specs.declared.set.TaskSet.{TaskSet}
 use Rattle.tasks.proofs.Bools.{both-false}
 use Rattle.plan.specs.declared.plan.Plan.{Plan}
-use Rattle.plan.specs.declared.question.WhoAnswer.{WhoAnswer}
 use Rattle.plan.specs.declared.question.PassAnswer.{PassAnswer}
 use Rattle.plan.specs.Charge.{loadsOfSet, lossOf}
 use Rattle.plan.specs.Plan.{laidOut, setPlacement, setReserves, planMade}
-use Rattle.plan.specs.Planner.{Clear, needed, fullRow, makes}
+use Rattle.plan.specs.Planner.{needed, fullRow, makes}
 use Rattle.plan.specs.Question.{allowed, isProcessor, isServer, whoAnswer, whoRuns, doesPass}
 use Rattle.plan.specs.Claims.{at, Placed, Reserved, Laid, AcceptedPlan, Accepted, WhoTells, WhoAnswers, PassTells, PassAnswers, AsksElse}
 use Rattle.plan.proofs.Outcomes.{both-left, both-right}
-use Rattle.plan.proofs.Made.{sound, slot-some, set-count, outcome-clear}
+use Rattle.plan.proofs.Made.{sound, slot-some, outcome-clear}
 use Rattle.plan.proofs.Checked.{OfSet, of-set, same-made, makes-done, placement-count}
 
 module _ (set : TaskSet) (plan : Plan) (full : length (set .tasks) ≡ 64) (e : makes set plan ≡ true) where

@@ -1,15 +1,11 @@
 -- Unused room of a set or of a plan does not change an answer; and the planner makes its own plan.
 -- Assumes nothing.
-use Prim.Native.Nat.{ℕ, _+_}
 use mathlib.Core.Path.{_≡_, refl, sym, ap, _∙_}
-use mathlib.Core.Bool.{Bool, true, false}
-use mathlib.Core.List.{List}
+use mathlib.Core.Bool.{Bool, true}
 use Rattle.frames.specs.Digit.{both}
 use Rattle.frames.specs.declared.refusal.Refusal.{Refusal}
 use Rattle.frames.specs.declared.refusal.Outcome.{Outcome}
 use Rattle.frames.specs.declared.refusal.Outcome.the-variants.{Done, Refused}
-use Rattle.demand.specs.Load.{Load}
-use Rattle.ring.specs.declared.clock.Tick.{Tick}
 use Rattle.tasks.specs.declared.set.TaskSet.{TaskSet}
 use Rattle.tasks.specs.Rows.{countRow, figuresOutcome, askRow}
 use Rattle.tasks.proofs.Bools.{done-refused}
@@ -17,7 +13,6 @@ use Rattle.plan.specs.declared.plan.Plan.{Plan}
 use Rattle.plan.specs.Charge.{loadsOfSet}
 use Rattle.plan.specs.Rows.{horizonOf, horizonRow, chargedOutcome}
 use Rattle.plan.specs.Plan.{setPlacement, setReserves, planMade, zeroPlan}
-use Rattle.plan.specs.Agrees.{agrees}
 use Rattle.plan.specs.Planner.{needed, fullRow, planOutcome, answer, planOf, isDone, makes}
 use Rattle.plan.specs.Question.{isProcessor, isServer, whoRuns, doesPass}
 use Rattle.plan.specs.Claims.{SameSet, SetRoomIgnored, SamePlan, PlanRoomIgnored, RoomIgnored, MakesOwn, PlanGiven, PlanDetermined}

@@ -2,7 +2,7 @@
 -- Document 01, "Refusal numbers and their order".
 use Prim.Native.Nat.{ℕ, _+_}
 use mathlib.Core.List.{List}
-use mathlib.Core.Bool.{Bool, true, false}
+use mathlib.Core.Bool.{Bool}
 use lib.ListN.{take}
 use lib.Dec.{eqb}
 use Rattle.frames.specs.Digit.{both}

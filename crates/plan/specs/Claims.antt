@@ -28,7 +28,7 @@ use Rattle.plan.specs.declared.question.WhoAnswer.{WhoAnswer}
 use Rattle.plan.specs.declared.question.PassAnswer.{PassAnswer}
 use Rattle.plan.specs.Charge.{loadsOfSet, lossOf}
 use Rattle.plan.specs.Rows.{slotRow, tightRow, horizonRow}
-use Rattle.plan.specs.Plan.{setPlacement, setReserves, planMade, zeroPlan}
+use Rattle.plan.specs.Plan.{planMade, zeroPlan}
 use Rattle.plan.specs.Planner.{needed, fullRow, planOf, makes}
 use Rattle.plan.specs.Question.{allowed, isProcessor, isServer, whoRuns, doesPass}
 

@@ -11,7 +11,6 @@ use Rattle.servers.specs.Placement.{loadsIn, placementOf}
 use Rattle.servers.specs.Row.{row}
 use Rattle.servers.specs.Reserve.{reservesOf}
 use Rattle.ring.specs.Reserves.{reserveOf, wholes, startOf, ringProcessors, idlePositions, processorsOf}
-use Rattle.ring.specs.declared.cover.Stand.{Stand}
 use Rattle.ring.specs.Who.{firstOf}
 use Rattle.plan.specs.declared.plan.Plan.{Plan}
 use Rattle.plan.specs.Charge.{loadsOfSet, lossOf}

@@ -6,9 +6,7 @@ use lib.Dec.{leb, eqb}
 use lib.ListN.{take}
 use Rattle.frames.specs.Digit.{both, either}
 use Rattle.frames.specs.declared.refusal.Refusal.the-variants.{Ask}
-use Rattle.frames.specs.declared.refusal.Outcome.{Outcome}
 use Rattle.frames.specs.declared.refusal.Outcome.the-variants.{Done, Refused}
-use Rattle.verdict.specs.declared.answer.Reading.{Reading}
 use Rattle.verdict.specs.declared.answer.Verdict.{Verdict}
 use Rattle.verdict.specs.declared.answer.Verdict.the-variants.{Yes}
 use Rattle.verdict.specs.Verdict.{verdictOf}

@@ -1,9 +1,9 @@
 -- Rows 7 to 9 of the refusals, each by its own test, and the first of rows 5 to 9 that holds of a set.
 -- Document 01, "Refusal numbers and their order".
 use Prim.Native.Nat.{ℕ, _≤_}
-use mathlib.Core.List.{List, map}
+use mathlib.Core.List.{map}
 use mathlib.Core.Path.{_≡_}
-use mathlib.Core.Bool.{Bool, true, false}
+use mathlib.Core.Bool.{Bool, false}
 use lib.Dec.{leb, ltb}
 use Rattle.frames.specs.Digit.{either}
 use Rattle.frames.specs.declared.refusal.Refusal.the-variants.{Slot, Tight, Horizon}

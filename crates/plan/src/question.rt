@@ -37,7 +37,7 @@ pub struct PassAnswer {
 }
 
 // The processors that are there are 1 to r + whole.
-fn is_processor(plan: Plan, processor: u64) -> bool
+pub fn is_processor(plan: Plan, processor: u64) -> bool
     requires { ⌜ plan .ring + plan .whole ≤ 64 ⌝ }
     ensures { λ r. ⌜ r ≡ isProcessor plan processor ⌝ }
 {
@@ -79,7 +79,7 @@ pub fn who(set: TaskSet, plan: Plan, processor: u64, tick: Tick) -> WhoAnswer
 }
 
 // L + 1 ≤ R ≤ S − 1, or R = S.
-fn is_allowed(slot: u64, loss: u64, reserve: u64) -> bool
+pub fn is_allowed(slot: u64, loss: u64, reserve: u64) -> bool
     ensures { λ r. ⌜ r ≡ allowed slot loss reserve ⌝ }
 {
     if reserve <= loss {
@@ -91,7 +91,7 @@ fn is_allowed(slot: u64, loss: u64, reserve: u64) -> bool
     reserve == slot
 }
 
-fn is_server(plan: Plan, server: u64) -> bool
+pub fn is_server(plan: Plan, server: u64) -> bool
     ensures { λ r. ⌜ r ≡ isServer plan server ⌝ }
 {
     if server < 1 {

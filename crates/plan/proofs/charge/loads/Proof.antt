@@ -7,7 +7,7 @@ use native.Mathlib.Omega.{arith}
 use lib.ListN.{length, take, length-map}
 use Rattle.servers.specs.Members.{membersOf}
 use Rattle.plan.specs.Charge.{loadOf, loadsOfSet}
-use Rattle.plan.proofs.Charges.{set-early, loads-next}
+use Rattle.plan.proofs.Charges.{set-early}
 use borrow.Author.Needs.{needs}
 use Prim.Native.Nat.{ℕ}
 use Rattle.plan.proofs.Charges.{loads-count, loads-step}

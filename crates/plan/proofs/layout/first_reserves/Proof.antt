@@ -1,7 +1,7 @@
 -- `layout::first_reserves` meets its contract. The loop's invariant: the places passed hold the first reserves of the processors so far.
 -- The measure is what is left of the processors. Assumes nothing.
 use Prim.Native.Nat.{ℕ, _-_, _≤_}
-use mathlib.Core.Path.{_≡_, refl}
+use mathlib.Core.Path.{_≡_}
 use native.Mathlib.Omega.{arith}
 use lib.ListN.{take}
 use Rattle.servers.specs.Row.{row}

@@ -1,7 +1,7 @@
 -- `layout::starts` meets its contract. The loop's invariant: the places passed hold the starts of the servers so far.
 -- The measure is what is left of n. Assumes nothing.
 use Prim.Native.Nat.{_-_, _≤_}
-use mathlib.Core.Path.{_≡_, refl}
+use mathlib.Core.Path.{_≡_}
 use native.Mathlib.Omega.{arith}
 use lib.ListN.{take}
 use Rattle.servers.specs.Row.{row}

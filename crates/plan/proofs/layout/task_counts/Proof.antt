@@ -1,7 +1,7 @@
 -- `layout::task_counts` meets its contract. The loop's invariant: the places passed hold the counts of the servers so far.
 -- The measure is what is left of n. Assumes nothing.
 use Prim.Native.Nat.{ℕ, _-_, _≤_}
-use mathlib.Core.Path.{_≡_, refl}
+use mathlib.Core.Path.{_≡_}
 use native.Mathlib.Omega.{arith}
 use lib.ListN.{length, take}
 use Rattle.servers.specs.Row.{row}

@@ -7,9 +7,6 @@ use Rattle.plan.proofs.Made.{may-charge, set-sized, set-layable, set-la
 use Prim.Native.Nat.{ℕ}
 use Rattle.servers.specs.Members.{held}
 use Rattle.servers.specs.Reserve.{serversOf}
-use Rattle.plan.specs.Charge.{lossOf}
-use Rattle.servers.specs.declared.members.Members.{Members}
-use Rattle.servers.specs.declared.Servers.{Servers}
 use Rattle.plan.proofs.planner.lay.Statement.{statement}
 use Rattle.plan.proofs.planner.lay.Tie as tie
 

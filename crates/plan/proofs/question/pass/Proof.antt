@@ -2,8 +2,7 @@
 -- Assumes nothing.
 use borrow.Author.Needs.{needs}
 use borrow.Author.Tests.{not-true, not-false}
-use mathlib.Core.Path.{_≡_, sym, ap, _∙_}
-use lib.ListN.{length, length-map}
+use mathlib.Core.Path.{sym, ap, _∙_}
 use Rattle.plan.specs.Question.{doesPass}
 use Prim.Native.Nat.{ℕ}
 use Rattle.plan.specs.Question.{allowed}

@@ -1,20 +1,18 @@
 -- `question::pass_judged` meets its contract: the server's loads are gathered by the plan's placement, which is the set's.
 -- Assumes nothing.
 use borrow.Author.Needs.{needs}
-use Prim.Native.Nat.{ℕ, _≤_}
-use mathlib.Core.Path.{_≡_, sym, ap, _∙_}
+use Prim.Native.Nat.{ℕ}
+use mathlib.Core.Path.{_≡_, sym, _∙_}
 use mathlib.Core.List.{List}
 use native.Mathlib.Omega.{arith}
-use lib.ListN.{length, take, length-map}
+use lib.ListN.{length, length-map}
 use Rattle.demand.specs.Load.{Load}
 use Rattle.verdict.specs.declared.answer.Verdict.{Verdict}
 use Rattle.verdict.specs.Verdict.{verdictOf}
 use Rattle.servers.specs.Members.{Sized}
-use Rattle.servers.specs.Placement.{loadsIn}
 use Rattle.servers.proofs.PartLaws.{testable}
 use Rattle.tasks.specs.declared.set.TaskSet.{TaskSet}
 use Rattle.plan.specs.Charge.{loadsOfSet, lossOf}
-use Rattle.plan.specs.Plan.{setPlacement}
 use Rattle.plan.proofs.Clears.{members-loaded, members-count}
 use Rattle.plan.proofs.Made.{may-charge, few-loads, sound}
 use Rattle.plan.proofs.Checked.{of-set}

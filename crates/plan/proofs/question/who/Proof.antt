@@ -8,7 +8,7 @@ use Rattle.plan.specs.Question.{whoRuns}
 use native.Mathlib.Omega.{arith}
 use Rattle.plan.specs.Question.{whoAnswer}
 use Rattle.plan.proofs.Made.{needed-few}
-use Rattle.plan.proofs.Checked.{OfSet, of-set, standing, who-same}
+use Rattle.plan.proofs.Checked.{of-set, standing, who-same}
 use Rattle.plan.proofs.question.who.Statement.{statement}
 use Rattle.plan.proofs.question.who.Tie as tie
 

@@ -1,11 +1,11 @@
 -- `rows::charged` meets its contract: each row is tried where those before it are clear.
 -- Assumes nothing.
 use borrow.Author.Needs.{needs}
-use Prim.Native.Nat.{ℕ, _≤_}
+use Prim.Native.Nat.{_≤_}
 use mathlib.Core.Path.{_≡_, sym, _∙_}
 use native.Mathlib.Omega.{arith}
 use lib.ListN.{length, length-map}
-use Rattle.frames.specs.declared.refusal.Outcome.the-variants.{Done, Refused}
+use Rattle.frames.specs.declared.refusal.Outcome.the-variants.{Done}
 use Rattle.tasks.specs.Set.{members}
 use Rattle.tasks.proofs.Bools.{done-refused}
 use Rattle.tasks.proofs.Firsts.{first-within, members-length}

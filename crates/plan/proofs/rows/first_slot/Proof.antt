@@ -1,6 +1,6 @@
 -- `rows::first_slot` meets its contract. The loop's invariant: no task passed breaks the row, so the first stands among the rest.
 -- The measure is what is left of the count. Assumes nothing.
-use Prim.Native.Nat.{ℕ, _+_, _-_, _≤_}
+use Prim.Native.Nat.{_+_, _-_, _≤_}
 use native.Mathlib.Omega.{arith}
 use Rattle.tasks.specs.Set.{members}
 use Rattle.tasks.specs.Rows.{firstTask, firstFrom}
