@@ -18,7 +18,6 @@ use Rattle.tasks.specs.declared.set.TaskSet.{TaskSet}
 use Rattle.tasks.specs.Set.{members, mostTasks, mostProcessors}
 use Rattle.tasks.specs.Rows.{boardRow}
 use Rattle.tasks.proofs.Carried.{ask-count, count-within, either-left}
-use Rattle.tasks.proofs.Bools.{true-false}
 use Rattle.servers.specs.Placement.{placementOf, serversIn}
 use Rattle.servers.specs.Reserve.{reservesOf}
 use Rattle.servers.proofs.ReserveLaws.{reserves-length}
@@ -69,7 +68,7 @@ module _ (set : TaskSet) (done : planOutcome set ≡ Done) where
 
 is-done : (o : Outcome) → isDone o ≡ true → o ≡ Done
 is-done Done p = refl
-is-done (Refused r) p = true-false (sym p)
+is-done (Refused r) p = let z : _≡_ {A = ℕ} 0 1 = cc in absurd (omega arith)
 
 -- a plan that the planner makes of a set: no row holds, and the plans agree
 module _ (set : TaskSet) (plan : Plan) (m : makes set plan ≡ true) where

@@ -4,3 +4,5 @@ pub mod FitLaws
 pub mod AcceptLaws
 pub mod ToolLaws
 pub mod FileClaims
+pub mod Examples
+pub mod Horizons

@@ -23,7 +23,7 @@ ghost use Rattle.plan.specs.Planner.{makes};
 ghost use Rattle.plan.specs.Question.{whoRuns, doesPass};
 ghost use Rattle.planfile.specs.Asked.{refusedWho, refusedPass, whoOfSet, passOfSet, whoIn, passIn};
 
-pub fn refused_who(refusal: Refusal) -> WhoAnswer
+fn refused_who(refusal: Refusal) -> WhoAnswer
     ensures { λ r. ⌜ r ≡ refusedWho refusal ⌝ }
 {
     WhoAnswer {
@@ -34,7 +34,7 @@ pub fn refused_who(refusal: Refusal) -> WhoAnswer
 }
 
 // Who runs, by a plan that the planner made.
-pub fn who_made(set: TaskSet, plan: Plan, processor: u64, tick: Tick) -> WhoAnswer
+fn who_made(set: TaskSet, plan: Plan, processor: u64, tick: Tick) -> WhoAnswer
     requires { ⌜ makes set plan ≡ true ⌝ }
     ensures { λ r. ⌜ r ≡ whoRuns set plan processor tick ⌝ }
 {
@@ -50,7 +50,7 @@ pub fn who_made(set: TaskSet, plan: Plan, processor: u64, tick: Tick) -> WhoAnsw
 }
 
 // Who runs, of a set.
-pub fn who_of(set: TaskSet, processor: u64, tick: Tick) -> WhoAnswer
+fn who_of(set: TaskSet, processor: u64, tick: Tick) -> WhoAnswer
     ensures { λ r. ⌜ r ≡ whoOfSet set processor tick ⌝ }
 {
     let made = make(set);
@@ -74,7 +74,7 @@ pub fn who_in(text: &[u8], processor: u64, tick: Tick) -> WhoAnswer
     }
 }
 
-pub fn refused_pass(refusal: Refusal) -> PassAnswer
+fn refused_pass(refusal: Refusal) -> PassAnswer
     ensures { λ r. ⌜ r ≡ refusedPass refusal ⌝ }
 {
     PassAnswer {
@@ -88,7 +88,7 @@ pub fn refused_pass(refusal: Refusal) -> PassAnswer
 }
 
 // Does a server pass, by a plan that the planner made.
-pub fn pass_made(set: TaskSet, plan: Plan, server: u64, reserve: u64) -> PassAnswer
+fn pass_made(set: TaskSet, plan: Plan, server: u64, reserve: u64) -> PassAnswer
     requires { ⌜ makes set plan ≡ true ⌝ }
     ensures { λ r. ⌜ r ≡ doesPass set plan server reserve ⌝ }
 {
@@ -106,7 +106,7 @@ pub fn pass_made(set: TaskSet, plan: Plan, server: u64, reserve: u64) -> PassAns
 }
 
 // Does a server pass, of a set.
-pub fn pass_of(set: TaskSet, server: u64, reserve: u64) -> PassAnswer
+fn pass_of(set: TaskSet, server: u64, reserve: u64) -> PassAnswer
     ensures { λ r. ⌜ r ≡ passOfSet set server reserve ⌝ }
 {
     let made = make(set);

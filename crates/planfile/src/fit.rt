@@ -29,10 +29,10 @@ pub fn fit_plan(set: TaskSet, plan: Plan, out: &mut [u8]) -> Written
 pub fn fit_refusal(refusal: Refusal, out: &mut [u8]) -> Written
     ensures { λ r. ⌜ Fits (now (out .entry)) (refusalText refusal) r (now (out .exit)) ⌝ }
 {
-    let needed = length(Frame::Refused) + 1;
-    if out.len() < needed {
+    let size = length(Frame::Refused) + 1;
+    if out.len() < size {
         return Written::Refused(Refusal::Room);
     }
     put_refusal(out, refusal);
-    Written::Bytes(needed)
+    Written::Bytes(size)
 }

@@ -18,7 +18,7 @@ ghost use Rattle.planfile.specs.Text.{lines, serverLine, placedLine, pro
 ghost use Rattle.planfile.specs.Fit.{Counted};
 
 // The bytes of so many lines of a frame.
-pub fn lines_length(frame: Frame, count: usize) -> usize
+fn lines_length(frame: Frame, count: usize) -> usize
     requires { ⌜ count ≤ 64 ⌝ }
     ensures { λ r. ⌜ r ≡ count * (lengthOf frame + 1) ⌝ }
 {
@@ -27,7 +27,7 @@ pub fn lines_length(frame: Frame, count: usize) -> usize
 }
 
 // The 12 lines by server.
-pub fn put_servers(out: &mut [u8], at: usize, plan: Plan)
+fn put_servers(out: &mut [u8], at: usize, plan: Plan)
     requires { ⌜ (plan .servers ≤ 64) × (at + plan .servers * (lengthOf Frame.Server + 1) ≤ bytes (now out)) ⌝ }
     ensures { λ r. ⌜ now (out .exit) ≡ stored (now (out .entry)) at (lines (serverLine plan) (plan .servers)) ⌝ }
 {
@@ -41,7 +41,7 @@ pub fn put_servers(out: &mut [u8], at: usize, plan: Plan)
 }
 
 // The 13 lines in file order.
-pub fn put_tasks(out: &mut [u8], at: usize, set: TaskSet, plan: Plan)
+fn put_tasks(out: &mut [u8], at: usize, set: TaskSet, plan: Plan)
     requires { ⌜ (set .count ≤ mostTasks) × (at + set .count * (lengthOf Frame.Placed + 1) ≤ bytes (now out)) ⌝ }
     ensures { λ r. ⌜ now (out .exit) ≡ stored (now (out .entry)) at (lines (placedLine set plan) (set .count)) ⌝ }
 {
@@ -55,7 +55,7 @@ pub fn put_tasks(out: &mut [u8], at: usize, set: TaskSet, plan: Plan)
 }
 
 // The 14 lines of the first processors.
-pub fn put_processors(out: &mut [u8], at: usize, plan: Plan, count: usize)
+fn put_processors(out: &mut [u8], at: usize, plan: Plan, count: usize)
     requires { ⌜ (count ≤ 64) × (at + count * (lengthOf Frame.Processor + 1) ≤ bytes (now out)) ⌝ }
     ensures { λ r. ⌜ now (out .exit) ≡ stored (now (out .entry)) at (lines (processorLine plan) count) ⌝ }
 {

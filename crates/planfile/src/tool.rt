@@ -11,7 +11,7 @@ ghost use Rattle.planfile.specs.Fit.{Fits};
 ghost use Rattle.planfile.specs.Tool.{planned, answered};
 
 // A set's plan, or the planner's refusal.
-pub fn answer_set(set: TaskSet, out: &mut [u8]) -> Written
+fn answer_set(set: TaskSet, out: &mut [u8]) -> Written
     ensures { λ r. ⌜ Fits (now (out .entry)) (planned set) r (now (out .exit)) ⌝ }
 {
     let made = make(set);
@@ -19,7 +19,7 @@ pub fn answer_set(set: TaskSet, out: &mut [u8]) -> Written
     let plan = made.plan;
     match outcome {
         Outcome::Done => fit_plan(set, plan, out),
-        Outcome::Refused(refusal) => fit_refusal(refusal, out),
+        Outcome::Refused(row) => fit_refusal(row, out),
     }
 }
 

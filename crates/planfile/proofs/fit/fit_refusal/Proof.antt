@@ -11,8 +11,8 @@ use Rattle.planfile.proofs.fit.fit_refusal.Tie as tie
 length-requires : tie.Need-length-requires
 length-requires c κs = search needs
 
-add-needed : tie.Need-add-needed
-add-needed c = omega (arith, c .length .ensures, refused-size)
+add-size : tie.Need-add-size
+add-size c = omega (arith, c .length .ensures, refused-size)
 
 returns : tie.Need-returns
 returns c =
@@ -28,10 +28,10 @@ same-length c = search needs
 returns-2 : tie.Need-returns-2
 returns-2 c =
     let a = c .before .before .before .before .before .before .before .args in
-    let size = c .before .before .before .before .before .length .ensures in
-    stored-whole (a .out .now) (refusalText (a .refusal)) _ (omega (arith, size, refused-size, refusal-bytes (a .refusal))) (omega (arith, c .before .before .before .before .if1 .left, size)) (c .before .before .put-refusal .ensures)
+    let whole = c .before .before .before .before .before .length .ensures in
+    stored-whole (a .out .now) (refusalText (a .refusal)) _ (omega (arith, whole, refused-size, refusal-bytes (a .refusal))) (omega (arith, c .before .before .before .before .if1 .left, whole)) (c .before .before .put-refusal .ensures)
 
 pub fit-refusal-spec : {M : Type 1} → statement M
 fit-refusal-spec =
     tie.close
-    (tie.spec length-requires add-needed returns put-refusal-requires same-length returns-2)
+    (tie.spec length-requires add-size returns put-refusal-requires same-length returns-2)

@@ -4,7 +4,7 @@ use Prim.Native.Nat.{ℕ, _+_}
 use mathlib.Core.Path.{_∙_, ap}
 use mathlib.Core.List.{List}
 use native.Mathlib.Omega.{arith}
-use Rattle.frames.specs.Table.{markOf}
+use Rattle.frames.specs.Table.{widthsOf, sum, markOf}
 use Rattle.frames.specs.Line.{stored}
 use Rattle.planfile.proofs.LineLaws.{server-size, start-place, server-ring, server-over}
 use borrow.Author.Needs.{needs}
@@ -47,10 +47,12 @@ place-requires : tie.Need-place-requires
 place-requires c κs = search needs
 
 add-field : tie.Need-add-field
-add-field c = omega (arith, c .place .ensures, start-place, server-size, c .before .before .before .before .before .before .before .before .before .before .pre)
+unfolding sum widthsOf
+add-field c = omega (arith, c .place .ensures, c .before .before .before .before .before .before .before .before .before .before .pre)
 
 put-mark-requires : tie.Need-put-mark-requires
-put-mark-requires c κs = omega (arith, c .before .place .ensures, start-place, server-size, c .before .before .before .before .before .put-line .kept .0, c .before .before .before .before .before .before .before .before .before .before .before .pre)
+unfolding sum widthsOf
+put-mark-requires c κs = omega (arith, c .before .place .ensures, c .before .before .before .before .before .put-line .kept .0, c .before .before .before .before .before .before .before .before .before .before .before .pre)
 
 same-length-2 : tie.Need-same-length-2
 same-length-2 c = search needs
