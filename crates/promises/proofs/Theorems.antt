@@ -1,0 +1,120 @@
+-- Each claim of specs/Promises.antt, proved.
+-- Assumes nothing.
+use Prim.Native.Nat.{ℕ, _+_, _-_, _≤_, _<_}
+use mathlib.Core.Path.{_≡_, sym, subst}
+use mathlib.Core.List.{List, [], _∷_}
+use mathlib.Core.Logic.{inl, inr, ⊎-elim}
+use native.Mathlib.Omega.{arith}
+use lib.ListN.{length}
+use Rattle.demand.specs.Load.{Load, Sound, Every}
+use Rattle.demand.specs.Demand.{demand}
+use Rattle.demand.specs.Supply.{Ring, Allowed}
+use Rattle.demand.specs.Passes.{Passes}
+use Rattle.verdict.proofs.Sizing.{one-less}
+use Rattle.tasks.specs.declared.set.TaskSet.{TaskSet}
+use Rattle.ring.specs.declared.clock.Tick.{Tick}
+use Rattle.ring.specs.Reserves.{reserveOf, startOf}
+use Rattle.ring.specs.Serves.{RingServer, WholeProcessor, OnBoard, Usable}
+use Rattle.ring.proofs.Theorems.{oneServer, oneProcessor, onBoardWhen}
+use Rattle.windows.specs.Window.{usableIn, FallsShort}
+use Rattle.windows.proofs.Worst.{in-any-slot}
+use Rattle.windows.proofs.Covers.{passing-covers, whole-covers, smaller-falls-short}
+use Rattle.plan.specs.Plan.{setReserves}
+use Rattle.promises.specs.Accepted.{Accepted, IsServer, slotOf, entryLossOf, serverLoads}
+use Rattle.promises.specs.Counted.{Counted, UsableWith}
+use Rattle.promises.specs.Promises.{OneServerAProcessor, OneProcessorAServer, ReserveInAnySlot, CoveredWindow, EveryWindowCovered, ShortWindow, CutFallsShort, SmallerFallsShort}
+use Rattle.promises.proofs.CountLaws.{counts-all, counts-usable}
+use Rattle.promises.proofs.StandLaws.{board-tested, usable-tested, cut-tested}
+use Rattle.promises.proofs.AcceptLaws.{slot-some, server-sound, server-some, server-smallest, ring-or-whole}
+
+pub one-server-a-processor : OneServerAProcessor
+one-server-a-processor set ok p q q′ x a b = oneServer (slotOf set) (setReserves set) p q q′ x a b
+
+pub one-processor-a-server : OneProcessorAServer
+one-processor-a-server set ok p p′ q x a b = oneProcessor (slotOf set) (setReserves set) p p′ q x (slot-some set ok) a b
+
+-- a server with loads falls short with any reserve below the slot that is not allowed or does not pass
+short-of : (ks : List Load) (S L R start : ℕ) → 1 ≤ length ks → Every Sound ks → 1 ≤ S → R < S →
+    (Allowed S L R → Passes ks S L R → ⊥) → FallsShort ks S L R start
+short-of [] S L R start some e h g refused = absurd (omega arith)
+short-of (l ∷ ls) S L R start some e h g refused = smaller-falls-short l ls S L R start e h g refused
+
+module _ (set : TaskSet) (ok : Accepted set) (q : ℕ) where
+  abbrev S : ℕ
+  S = slotOf set
+
+  abbrev L : ℕ
+  L = entryLossOf set
+
+  abbrev reserves : List ℕ
+  reserves = setReserves set
+
+  abbrev R : ℕ
+  R = reserveOf reserves q
+
+  abbrev start : ℕ
+  start = startOf S reserves q
+
+  any-slot : IsServer set q → (a : ℕ) → Counted (OnBoard S reserves q) a S R
+  any-slot s a = ⊎-elim ring whole (ring-or-whole set ok q s)
+    where
+      ring : RingServer S reserves q × Ring S L R → Counted (OnBoard S reserves q) a S R
+      ring r =
+          subst (Counted (OnBoard S reserves q) a S) (in-any-slot S R start a (slot-some set ok) (omega (arith, r .1 .parts)))
+          (counts-usable (OnBoard S reserves q) a S 0 R start (board-tested S reserves (slot-some set ok) q (r .0)) S)
+
+      whole : WholeProcessor S reserves q → Counted (OnBoard S reserves q) a S R
+      whole w =
+          subst (Counted (OnBoard S reserves q) a S) (sym (w .whole))
+          (counts-all (OnBoard S reserves q) a (λ x. onBoardWhen S reserves x (slot-some set ok) .whole q w) S)
+
+  window-covered : IsServer set q → (a t : ℕ) → S ≤ a → CoveredWindow set q a t
+  window-covered s a t later = ⊎-elim ring whole (ring-or-whole set ok q s)
+    where
+      ring : RingServer S reserves q × Ring S L R → CoveredWindow set q a t
+      ring r = record {
+        ticks = usableIn S L R start a t;
+        counted = counts-usable (Usable S L reserves q) a S L R start (usable-tested S reserves (slot-some set ok) q (r .0) L) t;
+        enough = passing-covers (serverLoads set q) S L R start (server-sound set ok q) (slot-some set ok) (r .1) (server-smallest set ok q s .passes) a t later;
+      }
+
+      whole : WholeProcessor S reserves q → CoveredWindow set q a t
+      whole w = record {
+        ticks = t;
+        counted = counts-all (Usable S L reserves q) a (λ x. inr w) t;
+        enough = whole-covers (serverLoads set q) S L (server-sound set ok q) (subst (Passes (serverLoads set q) S L) (w .whole) (server-smallest set ok q s .passes)) t;
+      }
+
+  cut-short : RingServer S reserves q → ShortWindow set q (R - 1)
+  cut-short r =
+      let s : IsServer set q = record { some = r .some; there = r .there } in
+      let f : FallsShort (serverLoads set q) S L (R - 1) start =
+      short-of (serverLoads set q) S L (R - 1) start (server-some set ok q s) (server-sound set ok q) (slot-some set ok) (omega (arith, r .ring))
+      (one-less (serverLoads set q) S L R (slot-some set ok) (server-smallest set ok q s))
+      in
+      record {
+        from = f .0;
+        length = f .1;
+        ticks = usableIn S L (R - 1) start (f .0) (f .1);
+        second-slot = f .2;
+        counted = counts-usable (UsableWith S L reserves q (R - 1)) (f .0) S L (R - 1) start (cut-tested S reserves (slot-some set ok) q r L (R - 1) (omega arith)) (f .1);
+        lacks = omega (arith, f .3);
+      }
+
+  smaller-short : WholeProcessor S reserves q → (R′ start′ : ℕ) → R′ < S → FallsShort (serverLoads set q) S L R′ start′
+  smaller-short w R′ start′ less =
+      let s : IsServer set q = record { some = w .some; there = w .there } in
+      short-of (serverLoads set q) S L R′ start′ (server-some set ok q s) (server-sound set ok q) (slot-some set ok) less
+      (λ (a : Allowed S L R′) (p : Passes (serverLoads set q) S L R′). absurd (omega (arith, w .whole, server-smallest set ok q s .least R′ a p)))
+
+pub reserve-in-any-slot : ReserveInAnySlot
+reserve-in-any-slot set ok q s a = any-slot set ok q s a
+
+pub every-window-covered : EveryWindowCovered
+every-window-covered set ok q s a t later = window-covered set ok q s a t later
+
+pub cut-falls-short : CutFallsShort
+cut-falls-short set ok q r = cut-short set ok q r
+
+pub smaller-reserve-falls-short : SmallerFallsShort
+smaller-reserve-falls-short set ok q w R start less = smaller-short set ok q w R start less
