@@ -6,3 +6,4 @@ pub mod ToolLaws
 pub mod FileClaims
 pub mod Examples
 pub mod Horizons
+pub mod Tells

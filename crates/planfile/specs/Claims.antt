@@ -1,9 +1,9 @@
 -- What is promised of the texts and of the whole tool, each claim as a type. The proofs stand under the same names in proofs/.
 -- Document 01, "Lines of hexadecimal", rows 11 and 12 of the refusals and "How tight each promise is".
-use Prim.Native.Nat.{ℕ, _≤_, _<_}
+use Prim.Native.Nat.{ℕ, _+_, _^_, _≤_, _<_}
 use mathlib.Core.List.{List, _++_}
 use mathlib.Core.Path.{_≡_}
-use lib.ListN.{length, take, drop}
+use lib.ListN.{length, take, drop, getD}
 use Rattle.frames.specs.declared.refusal.Refusal.{Refusal}
 use Rattle.frames.specs.declared.refusal.Refusal.the-variants.{Room}
 use Rattle.frames.specs.declared.refusal.Written.{Written}
@@ -55,3 +55,38 @@ pub record PrefixEnough : Type 0 where
 -- The longest answer has 2,647 bytes, so a caller who lends as many never meets row 12.
 abbrev pub AnsweredShort : Type 0
 AnsweredShort = (text : List ℕ) → length (answered text) ≤ 2647
+
+-- the figures of a plan fit their fields, and a server on a whole processor has no ring start
+pub record FitFields (set : TaskSet) (plan : Plan) : Type 0 where
+  pub whole : plan .whole < 16 ^ 2
+  pub ring : plan .ring < 16 ^ 2
+  pub servers : plan .servers < 16 ^ 2
+  pub slot : plan .slot < 16 ^ 6
+  pub idle : plan .idle < 16 ^ 8
+  pub reserve : (i : ℕ) → i < plan .servers → getD (plan .reserve) i 0 < 16 ^ 6
+  pub start : (i : ℕ) → i < plan .servers → getD (plan .start) i 0 < 16 ^ 8
+  pub no-start : (i : ℕ) → i < plan .servers → plan .slot ≤ getD (plan .reserve) i 0 → getD (plan .start) i 0 ≡ 0
+  pub tasks : (i : ℕ) → i < plan .servers → getD (plan .tasks) i 0 < 16 ^ 2
+  pub server : (i : ℕ) → i < set .count → getD (plan .server) i 0 < 16 ^ 2
+  pub first : (i : ℕ) → i < plan .ring + plan .whole → getD (plan .first) i 0 < 16 ^ 2
+  pub duration : (i : ℕ) → i < plan .ring + plan .whole → getD (plan .duration) i 0 < 16 ^ 6
+
+-- two plans of so many tasks have the same figures, wherever they are used
+pub record SameUsed (count : ℕ) (a b : Plan) : Type 0 where
+  pub whole : a .whole ≡ b .whole
+  pub ring : a .ring ≡ b .ring
+  pub servers : a .servers ≡ b .servers
+  pub slot : a .slot ≡ b .slot
+  pub idle : a .idle ≡ b .idle
+  pub reserve : (i : ℕ) → i < b .servers → getD (a .reserve) i 0 ≡ getD (b .reserve) i 0
+  pub start : (i : ℕ) → i < b .servers → getD (a .start) i 0 ≡ getD (b .start) i 0
+  pub tasks : (i : ℕ) → i < b .servers → getD (a .tasks) i 0 ≡ getD (b .tasks) i 0
+  pub server : (i : ℕ) → i < count → getD (a .server) i 0 ≡ getD (b .server) i 0
+  pub first : (i : ℕ) → i < b .ring + b .whole → getD (a .first) i 0 ≡ getD (b .first) i 0
+  pub duration : (i : ℕ) → i < b .ring + b .whole → getD (a .duration) i 0 ≡ getD (b .duration) i 0
+
+-- Two plans whose figures fit their fields have the same text only where they are the same plan, of as many tasks.
+abbrev pub TextTells : Type 0
+TextTells =
+    (set₁ set₂ : TaskSet) (plan₁ plan₂ : Plan) → FitFields set₁ plan₁ → FitFields set₂ plan₂
+    → planText set₁ plan₁ ≡ planText set₂ plan₂ → (set₁ .count ≡ set₂ .count) × SameUsed (set₂ .count) plan₁ plan₂
