@@ -1,0 +1,273 @@
+// The proved tool, through its C interface, held to the independent account on many files, good and damaged.
+// Each test prints its name; the last line counts them.
+mod oracle;
+
+use oracle::{Set, Task};
+
+extern "C" {
+    fn rack_plan(tasks: *const u8, tasks_len: usize, out: *mut u8, out_len: usize) -> usize;
+    fn rack_who(tasks: *const u8, tasks_len: usize, processor: u64, tick: u64, answer: *mut u64, answer_len: usize) -> u64;
+    fn rack_pass(tasks: *const u8, tasks_len: usize, server: u64, reserve: u64, answer: *mut u64, answer_len: usize) -> u64;
+}
+
+fn plan_text(file: &[u8]) -> Vec<u8> {
+    let mut out = vec![0xA5; 2647];
+    let n = unsafe { rack_plan(file.as_ptr(), file.len(), out.as_mut_ptr(), out.len()) };
+    assert!(out[n..].iter().all(|b| *b == 0xA5), "bytes past the text were changed");
+    out.truncate(n);
+    out
+}
+
+fn who(file: &[u8], processor: u64, tick: u64) -> (u64, [u64; 2]) {
+    let mut answer = [0xA5; 2];
+    let refusal = unsafe { rack_who(file.as_ptr(), file.len(), processor, tick, answer.as_mut_ptr(), 2) };
+    (refusal, answer)
+}
+
+fn pass(file: &[u8], server: u64, reserve: u64) -> (u64, [u64; 4]) {
+    let mut answer = [0xA5; 4];
+    let refusal = unsafe { rack_pass(file.as_ptr(), file.len(), server, reserve, answer.as_mut_ptr(), 4) };
+    (refusal, answer)
+}
+
+struct Random(u64);
+
+impl Random {
+    fn next(&mut self) -> u64 {
+        self.0 ^= self.0 << 13;
+        self.0 ^= self.0 >> 7;
+        self.0 ^= self.0 << 17;
+        self.0
+    }
+
+    fn within(&mut self, low: u64, high: u64) -> u64 {
+        low + self.next() % (high - low + 1)
+    }
+
+    fn one(&mut self, of: &[u64]) -> u64 {
+        of[self.within(0, of.len() as u64 - 1) as usize]
+    }
+}
+
+// A set that mostly has a plan: periods over a small horizon, a slot that divides it.
+fn good(random: &mut Random) -> Set {
+    let horizon = random.one(&[240, 360, 720, 2520]);
+    let divisors: Vec<u64> = (2..=horizon).filter(|d| horizon % d == 0).collect();
+    let periods: Vec<u64> = divisors.iter().copied().filter(|d| *d >= 10).collect();
+    let s = random.one(&divisors[..divisors.len().min(8)]);
+    let overhead = |random: &mut Random, most: u64| if random.next() % 3 == 0 { random.within(0, most) } else { 0 };
+    let mut set = Set {
+        m: random.within(1, 64),
+        s,
+        relj: overhead(random, 2),
+        relo: overhead(random, 1),
+        ctswo: overhead(random, 1),
+        resd: overhead(random, 2),
+        cpmdo: overhead(random, 1),
+        tasks: vec![],
+    };
+    let mut ids: Vec<u64> = (0..=255).collect();
+    for _ in 0..random.within(1, 24) {
+        let t = random.one(&periods);
+        let d = random.within(s.min(t).max(1), t);
+        let c = random.within(1, (d / random.within(1, 8)).max(1));
+        let id = ids.swap_remove(random.within(0, ids.len() as u64 - 1) as usize);
+        set.tasks.push(Task { id, c, d, t });
+    }
+    set
+}
+
+fn damaged(random: &mut Random, file: &mut Vec<u8>) {
+    for _ in 0..random.within(1, 3) {
+        if file.is_empty() {
+            return;
+        }
+        let at = random.within(0, file.len() as u64 - 1) as usize;
+        match random.next() % 6 {
+            0 => file[at] = random.next() as u8,
+            1 => file[at] = b"0123456789ABCDEFabcdef\n\r\0"[random.within(0, 24) as usize],
+            2 => drop(file.remove(at)),
+            3 => file.insert(at, b"0123456789ABCDEF\n"[random.within(0, 16) as usize]),
+            4 => file.truncate(at),
+            _ => {
+                let line = file[at..].iter().position(|b| *b == b'\n').map_or(file.len(), |n| at + n + 1);
+                let copy: Vec<u8> = file[at..line].to_vec();
+                file.extend(copy);
+            }
+        }
+    }
+}
+
+fn same_plan(file: &[u8]) {
+    let expected = oracle::rota(file);
+    let got = plan_text(file);
+    assert_eq!(String::from_utf8_lossy(&got), expected, "for the file\n{}", String::from_utf8_lossy(file));
+}
+
+fn examples() {
+    for name in ["a", "b", "c", "d", "e", "f", "g", "h1", "h2", "i", "j", "k"] {
+        let file = std::fs::read(format!("examples/{}.tasks", name)).unwrap();
+        let plan = std::fs::read(format!("examples/{}.plan", name)).unwrap();
+        assert_eq!(plan_text(&file), plan, "example {}", name);
+        same_plan(&file);
+    }
+}
+
+fn good_files() {
+    let mut random = Random(11);
+    let mut accepted = 0;
+    for _ in 0..400 {
+        let file = oracle::file(&good(&mut random)).into_bytes();
+        same_plan(&file);
+        accepted += (plan_text(&file)[..2] == *b"11") as u32;
+    }
+    assert!(accepted > 100, "only {} files had a plan", accepted);
+}
+
+fn damaged_files() {
+    let mut random = Random(12);
+    let mut seen = [0u32; 13];
+    for _ in 0..4000 {
+        let mut file = oracle::file(&good(&mut random)).into_bytes();
+        damaged(&mut random, &mut file);
+        same_plan(&file);
+        let text = plan_text(&file);
+        if text[..2] == *b"1F" {
+            seen[usize::from_str_radix(std::str::from_utf8(&text[2..4]).unwrap(), 16).unwrap()] += 1;
+        }
+    }
+    for number in [1, 2, 4, 6, 7] {
+        assert!(seen[number] > 0, "no file met refusal {}: {:?}", number, seen);
+    }
+}
+
+// Past the last task that fits, whatever follows, the answer is that of the file's first 1,534 bytes.
+fn long_files() {
+    let mut random = Random(13);
+    for count in [63, 64, 65, 66, 100] {
+        let mut set = good(&mut random);
+        set.m = 64;
+        set.tasks = (0..count).map(|i| Task { id: i % 256, c: 1, d: 100, t: 100 }).collect();
+        set.s = 10;
+        let file = oracle::file(&set).into_bytes();
+        same_plan(&file);
+        assert_eq!(plan_text(&file), plan_text(&file[..file.len().min(1534)]));
+    }
+}
+
+fn short_buffers() {
+    let file = std::fs::read("examples/a.tasks").unwrap();
+    let whole = plan_text(&file);
+    for room in 0..whole.len() {
+        let mut out = vec![0xA5; room];
+        let n = unsafe { rack_plan(file.as_ptr(), file.len(), out.as_mut_ptr(), room) };
+        assert!(n == 0 && out.iter().all(|b| *b == 0xA5));
+    }
+}
+
+fn who_runs() {
+    let mut random = Random(14);
+    let mut asked = 0;
+    while asked < 60 {
+        let set = good(&mut random);
+        let file = oracle::file(&set).into_bytes();
+        let plan = match oracle::plan(&set) {
+            Ok(plan) => plan,
+            Err((number, place)) => {
+                assert_eq!(who(&file, 1, 0), (number as u64 * 256 + place as u64, [0xA5; 2]));
+                continue;
+            }
+        };
+        asked += 1;
+        for p in 0..=(plan.r + plan.whole + 1) {
+            for tick in [0, 1, set.s, random.next() % 5000, random.next(), u64::MAX, u64::MAX - random.next() % 100] {
+                let expected = match oracle::who(&set, &plan, p, tick) {
+                    Some((server, left)) => (0, [server as u64, left]),
+                    None => (11 * 256, [0xA5; 2]),
+                };
+                assert_eq!(who(&file, p as u64, tick), expected, "processor {} tick {}\n{}", p, tick, oracle::file(&set));
+            }
+        }
+    }
+}
+
+fn does_pass() {
+    let mut random = Random(15);
+    let mut asked = 0;
+    while asked < 40 {
+        let set = good(&mut random);
+        let plan = match oracle::plan(&set) {
+            Ok(plan) => plan,
+            Err(_) => continue,
+        };
+        asked += 1;
+        let file = oracle::file(&set).into_bytes();
+        for q in 0..=plan.reserves.len() + 1 {
+            for r in 0..=set.s + 1 {
+                let allowed = r == set.s || (plan.loss < r && r < set.s);
+                let expected = if q == 0 || q > plan.reserves.len() || !allowed {
+                    (11 * 256, [0xA5; 4])
+                } else {
+                    let loads = plan.members_loads(q);
+                    match oracle::first_failing(&loads, set.s, plan.loss, r) {
+                        None => (0, [1, 0, 0, 0]),
+                        Some(t) => (0, [0, t, oracle::demand(&loads, t), oracle::supply(set.s, plan.loss, r, t)]),
+                    }
+                };
+                assert_eq!(pass(&file, q as u64, r), expected, "server {} reserve {}\n{}", q, r, oracle::file(&set));
+            }
+        }
+    }
+}
+
+// The note's promise, on the rota as the tool tells it tick by tick: no server on two processors, R ticks in any slot.
+fn one_processor_a_server() {
+    let mut random = Random(16);
+    let mut asked = 0;
+    while asked < 12 {
+        let set = good(&mut random);
+        let plan = match oracle::plan(&set) {
+            Ok(plan) if plan.r > 0 && set.s <= 40 => plan,
+            _ => continue,
+        };
+        asked += 1;
+        let file = oracle::file(&set).into_bytes();
+        let turn = plan.r as u64 * set.s;
+        let mut on: Vec<Vec<u64>> = Vec::new();
+        for x in 0..(turn + set.s).min(120) {
+            let mut servers: Vec<u64> = (1..=plan.r + plan.whole).map(|p| who(&file, p as u64, x).1[0]).filter(|q| *q > 0).collect();
+            let all = servers.len();
+            servers.sort();
+            servers.dedup();
+            assert_eq!(servers.len(), all, "a server on two processors at tick {}\n{}", x, oracle::file(&set));
+            on.push(servers);
+        }
+        for window in on.windows(set.s as usize) {
+            for (i, reserve) in plan.reserves.iter().enumerate() {
+                let held = window.iter().filter(|servers| servers.contains(&(i as u64 + 1))).count();
+                assert_eq!(held as u64, *reserve);
+            }
+        }
+    }
+}
+
+fn main() {
+    let tests: [(&str, fn()); 8] = [
+        ("examples", examples),
+        ("good files", good_files),
+        ("damaged files", damaged_files),
+        ("long files", long_files),
+        ("short buffers", short_buffers),
+        ("who runs", who_runs),
+        ("does it pass", does_pass),
+        ("one processor a server", one_processor_a_server),
+    ];
+    let mut failed = 0;
+    for (name, test) in tests.iter() {
+        let ok = std::panic::catch_unwind(test).is_ok();
+        failed += !ok as u32;
+        println!("{}: {}", name, if ok { "ok" } else { "FAILED" });
+    }
+    println!("{} passed, {} failed", tests.len() as u32 - failed, failed);
+    std::process::exit((failed > 0) as i32);
+}
