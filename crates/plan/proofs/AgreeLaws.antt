@@ -47,6 +47,7 @@ module _ (a b : Plan) where
     pub slot : a .slot ≡ b .slot
     pub idle : a .idle ≡ b .idle
 
+  -- the test of the numbers says that they are the same
   pub figures-same : sameFigures a b ≡ true → Figures
   unfolding sameFigures
   figures-same e =
@@ -129,5 +130,6 @@ module _ (n : ℕ) (a b m : Plan) (s : SamePlan n a b) where
   unfolding sameFigures
   same-figures = rw (s .whole, s .ring, s .servers, s .slot, s .idle)
 
+  -- so they agree with the same plan, or neither does
   pub agree-alike : agrees n a m ≡ agrees n b m
   agree-alike = by-figures (sameFigures b m) refl same-figures

@@ -30,6 +30,7 @@ pub tight-early : (h : Header) (t : Task) → tightRow h t ≡ false → h .relj
 unfolding tightRow
 tight-early h t e = leb-false (t .deadline) (h .relj) (either-left (leb (t .deadline) (h .relj)) (ltb (loadOf h t .deadline) (loadOf h t .cost)) e)
 
+-- the charged cost is at most the charged deadline
 pub tight-meets : (h : Header) (t : Task) → tightRow h t ≡ false → loadOf h t .cost ≤ loadOf h t .deadline
 unfolding tightRow
 tight-meets h t e = ltb-false (loadOf h t .deadline) (loadOf h t .cost) (either-right (leb (t .deadline) (h .relj)) (ltb (loadOf h t .deadline) (loadOf h t .cost)) e)
@@ -45,6 +46,7 @@ set-early set fits ok i l =
 
 -- ---- one task more
 
+-- the struct of the loads so far, with the next task's load
 pub loads-next : (h : Header) (ts : List Task) (i : ℕ) → i < length ts → i < 64 →
     withLoad (membersOf (map (loadOf h) (take i ts))) (loadOf h (getD ts i zeroTask)) ≡ membersOf (map (loadOf h) (take (i + 1) ts))
 loads-next h ts i l few =

@@ -42,14 +42,17 @@ module _ (set : TaskSet) (plan : Plan) where
   unfolding makes
   makes-refused e = rw (sym (plan-outcome set) ∙ e)
 
+  -- done: the comparison with the plan made decides
   pub makes-by : {b : Bool} {p : Plan} → planOutcome set ≡ Done → p ≡ planMade set → b ≡ agrees (set .count) plan p → b ≡ makes set plan
   unfolding makes
   makes-by e q h = rw (e, ← q) h
 
+  -- a plan that is made is made of a set that is not refused
   pub makes-done : makes set plan ≡ true → planOutcome set ≡ Done
   unfolding makes
   makes-done e = is-done (planOutcome set) (both-left (isDone (planOutcome set)) (agrees (set .count) plan (planMade set)) e)
 
+  -- and agrees with the set's own plan
   pub makes-agrees : makes set plan ≡ true → agrees (set .count) plan (planMade set) ≡ true
   unfolding makes
   makes-agrees e = both-right (isDone (planOutcome set)) (agrees (set .count) plan (planMade set)) e
@@ -80,6 +83,7 @@ module _ (set : TaskSet) (full : length (set .tasks) ≡ 64) (plan : Plan) where
   unfolding planMade laidOut
   made-server = refl
 
+  -- the placement has a server for each task
   pub placement-count : Clear set → length (setPlacement set) ≡ set .count
   unfolding setPlacement
   placement-count clear = placement-length (loadsOfSet set) (set .header .slot) (lossOf (set .header)) ∙ loads-length set (fits set full clear)
@@ -88,9 +92,11 @@ module _ (set : TaskSet) (full : length (set .tasks) ≡ 64) (plan : Plan) where
     clear-set : Clear set
     clear-set = outcome-clear set (makes-done set plan e) .0
 
+    -- a checked plan is the set's own in all that is used
     pub same-made : SamePlan (set .count) plan (planMade set)
     same-made = agree-same plan (planMade set) (set .count) (makes-agrees set plan e)
 
+    -- what it has of its set
     pub of-set : OfSet set plan
     of-set = record {
       clear = clear-set;
@@ -108,6 +114,7 @@ module _ (set : TaskSet) (full : length (set .tasks) ≡ 64) (plan : Plan) where
         laid-by (loadsOfSet set) (set .header .slot) (lossOf (set .header)) (few-loads set full clear-set) (sound set full clear-set)
         (slot-some set full clear-set) (slot-below set full clear-set) (plan .reserve) (plan .servers) room (of-set .servers) (of-set .reserves)
 
+    -- a processor that is there may be asked
     pub standing : length (plan .reserve) ≡ 64 → (p : ℕ) → isProcessor plan p ≡ true → Standing plan p
     unfolding isProcessor needed
     standing room p t = record {

@@ -38,6 +38,7 @@ use Rattle.plan.proofs.Charges.{tight-meets}
 
 -- ---- a header and a task
 
+-- row 5 clear: the slot is at least 1
 pub board-slot : (h : Header) → boardRow h ≡ false → 1 ≤ h .slot
 unfolding boardRow
 board-slot h e =
@@ -136,6 +137,7 @@ module _ (set : TaskSet) where
         unfolding chargedOutcome
         charged-horizon h = rw (e, s, t, h)
 
+        -- none of them holds
         pub charged-none : horizonRow set ≡ false → Done ≡ chargedOutcome set
         unfolding chargedOutcome
         charged-none h = rw (e, s, t, h)
@@ -158,12 +160,14 @@ module _ (set : TaskSet) where
 
   -- ---- the loads of a set that may be charged
 
+  -- the loads are sound
   pub loads-sound : Chargeable set → Every Sound (loadsOfSet set)
   unfolding loadsOfSet
   loads-sound ok =
       every-by Sound (loadOf (set .header)) (members set)
       (λ i l. load-sound (set .header) (getD (members set) i zeroTask) (first-none rangeRow zeroTask 0 (members set) (ok .range) i l) (first-none (tightRow (set .header)) zeroTask 0 (members set) (ok .tight) i l))
 
+  -- there is one load for each task
   pub loads-length : set .count ≤ length (set .tasks) → length (loadsOfSet set) ≡ set .count
   unfolding loadsOfSet
   loads-length fits = length-map (members set) (loadOf (set .header)) ∙ members-length set fits
@@ -174,10 +178,12 @@ module _ (set : TaskSet) where
   same-periods [] = refl
   same-periods (t ∷ ts) = ap (λ (ns : List ℕ). t .period ∷ ns) (same-periods ts)
 
+  -- the horizon is the multiple of the slot and the loads' periods
   pub horizon-of-loads : leastMultipleOf (set .header .slot) (map (λ (l : Load). l .period) (loadsOfSet set)) ≡ horizonOf set
   unfolding horizonOf loadsOfSet
   horizon-of-loads = ap (leastMultipleOf (set .header .slot)) (same-periods (members set))
 
+  -- row 9 clear: it is within the limit
   pub horizon-within : horizonRow set ≡ false → leastMultipleOf (set .header .slot) (map (λ (l : Load). l .period) (loadsOfSet set)) ≤ 10000000
   unfolding horizonRow
   horizon-within e = rw (horizon-of-loads) (ltb-false 10000000 (horizonOf set) e)
@@ -187,6 +193,7 @@ module _ (set : TaskSet) where
   unfolding horizonRow
   horizon-found n e = sym (le-ltb 10000000 (horizonOf set) (within-value 10000000 (horizonOf set) n e .1))
 
+  -- no multiple within the limit: row 9 holds
   pub horizon-past : within 10000000 (horizonOf set) ≡ Past → true ≡ horizonRow set
   unfolding horizonRow
   horizon-past e = sym (lt-ltb 10000000 (horizonOf set) (past-value 10000000 (horizonOf set) e))
@@ -222,6 +229,7 @@ module _ (set : TaskSet) where
   unfolding headerOverflows
   slot-on e = either-right (overflows 2 (set .header .processors)) from-slot (header-carried e)
 
+  -- the slot has six digits at most
   pub slot-small : askRow set ≡ false → set .header .slot < 2 ^ 32
   slot-small e = omega (arith, leb-false (16 ^ 6) (set .header .slot) (either-left (overflows 6 (set .header .slot)) from-relj (slot-on e)))
 
@@ -231,6 +239,7 @@ module _ (set : TaskSet) where
       (either-right (overflows 4 (set .header .relo)) from-ctswo
       (either-right (overflows 4 (set .header .relj)) from-relo (either-right (overflows 6 (set .header .slot)) from-relj (slot-on e))))
 
+  -- the entry loss is at most twice four digits
   pub loss-small : askRow set ≡ false → lossOf (set .header) ≤ 131070
   unfolding lossOf entryLoss
   loss-small e =
@@ -256,10 +265,12 @@ module _ (ls : List Load) (few : length ls ≤ 64) (sound : Every Sound ls) wher
     pub members-loaded : Loaded (m .costs) (m .deadlines) (m .periods) (m .count)
     members-loaded = subst (λ (k : Members). Loaded (k .costs) (k .deadlines) (k .periods) (k .count)) (sym e) made-loaded
 
+    -- it holds as many loads as there are
     pub members-count : m .count ≡ length ls
     unfolding membersOf
     members-count = ap (λ (k : Members). k .count) e
 
+    -- and those loads
     pub members-held : held m ≡ ls
     members-held = ap held e ∙ held-members ls
 

@@ -255,6 +255,7 @@ chain set =
 outcome-is : (set : TaskSet) → planOf set .outcome ≡ till (outs set) 7
 outcome-is set = plan-outcome set ∙ chain set
 
+-- each refusal exactly when its row holds first
 pub plan-exactly : PlanExactly
 plan-exactly row set k = (there, back)
   where
@@ -276,6 +277,7 @@ plan-exactly row set k = (there, back)
         (subst (λ (q : PlannerRow). outcomeOf q set ≡ Refused (refusalOf row k)) (sym (at-turn row)) (by-holds row set k (w .holds)))
         (λ j l. by-not (rowAt j) set (w .earlier (rowAt j) (omega (arith, turn-at j (omega (arith, turn-below row))))))
 
+-- a plan exactly when no row holds
 pub plan-done : PlanDone
 plan-done set = (there, back)
   where
@@ -286,6 +288,7 @@ plan-done set = (there, back)
     back : ((row : PlannerRow) → NotHeld row set) → planOf set .outcome ≡ Done
     back f = outcome-is set ∙ done-till (outs set) 7 (λ j l. by-not (rowAt j) set (f (rowAt j)))
 
+-- no other refusal
 pub plan-only : PlanOnly
 plan-only set r e =
     let f = found (outs set) 7 r (sym (outcome-is set) ∙ e) in

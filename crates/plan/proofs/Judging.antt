@@ -42,6 +42,7 @@ module _ (S L R : ℕ) where
   by-ring true g e = inl (record { enters = leb-true (L + 1) R (both-left enters parts g); parts = leb-true (R + 1) S (both-right enters parts g) })
   by-ring false g e = inr (eqb-true R S e)
 
+  -- both tests of a ring reserve hold, or it is the slot
   pub allowed-is : allowed S L R ≡ true → Allowed S L R
   unfolding allowed
   allowed-is e = by-ring (both enters parts) refl e

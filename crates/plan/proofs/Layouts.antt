@@ -49,6 +49,7 @@ module _ {S n : ℕ} {rs : List ℕ} (laid : Laid S rs n) {r : ℕ} (e : r ≡ r
   pub ring-covers : {t : ℕ} → t ≡ ringTicks S (take n rs) → t ≤ r * S
   ring-covers p = rw (e, p) (ring-holds S (take n rs) (laid .slot-some))
 
+  -- the processors are no more than the servers
   pub sum-few : {w : ℕ} → w ≡ wholes S (take n rs) → r + w ≤ n
   sum-few p = omega (arith, e, p, processors-few S (take n rs) (laid .slot-some), taken-length laid)
 
@@ -83,6 +84,7 @@ module _ {m : Members} {sv : Servers} {S : ℕ} (ok : Layable m sv S) where
   counted : sv .count ≡ length reserves
   counted = sym (taken-length (ok .laid))
 
+  -- put together they are the layout of the definitions
   pub laid-made : {w r t : ℕ} {st ta fi du : List ℕ} →
       w ≡ wholes S (take (sv .count) (sv .reserve)) →
       r ≡ ringProcessors S (take (sv .count) (sv .reserve)) →

@@ -36,24 +36,31 @@ module _ (set : TaskSet) (full : length (set .tasks) ≡ 64) (clear : Clear set)
   pub rows-clear : RowsClear set
   rows-clear = charged-clear set (clear .charged)
 
+  -- at most 64 tasks
   pub count-most : set .count ≤ mostTasks
   count-most = count-within set (ask-count set (clear .carried)) .1
 
+  -- the set has room for them
   pub fits : set .count ≤ length (set .tasks)
   fits = omega (arith, count-most, full)
 
+  -- its tasks may be charged
   pub may-charge : Chargeable set
   may-charge = record { few = count-most; board = rows-clear .board; range = rows-clear .range; tight = rows-clear .tight }
 
+  -- there are at most 64 loads
   pub few-loads : length (loadsOfSet set) ≤ 64
   few-loads = omega (arith, loads-length set fits, count-most)
 
+  -- they are sound
   pub sound : Every Sound (loadsOfSet set)
   sound = loads-sound set may-charge
 
+  -- the slot is at least 1
   pub slot-some : 1 ≤ set .header .slot
   slot-some = board-slot (set .header) (rows-clear .board)
 
+  -- and small
   pub slot-below : set .header .slot < 2 ^ 32
   slot-below = slot-small set (clear .carried)
 
@@ -62,6 +69,7 @@ module _ (set : TaskSet) (full : length (set .tasks) ≡ 64) (clear : Clear set)
   unfolding setReserves setPlacement
   set-count = reserves-count (loadsOfSet set) (set .header .slot) (lossOf (set .header))
 
+  -- there are at most 64 servers
   pub set-few : serversIn (setPlacement set) ≤ 64
   unfolding setPlacement
   set-few = count-few (loadsOfSet set) (set .header .slot) (lossOf (set .header)) few-loads sound slot-some slot-below
@@ -71,6 +79,7 @@ module _ (set : TaskSet) (full : length (set .tasks) ≡ 64) (clear : Clear set)
   unfolding needed
   needed-few = omega (arith, processors-few (set .header .slot) (setReserves set) slot-some, set-count, set-few)
 
+  -- the same of the plan's figure
   pub made-servers : planMade set .servers ≤ 64
   unfolding planMade laidOut
   made-servers = omega (arith, set-count, set-few)
@@ -86,6 +95,7 @@ module _ (set : TaskSet) (full : length (set .tasks) ≡ 64) (clear : Clear set)
       pub set-layable : Layable m sv (set .header .slot)
       set-layable = layable (loadsOfSet set) (set .header .slot) (lossOf (set .header)) few-loads sound slot-some slot-below e g
 
+      -- its layout is the set's plan
       pub set-laid : laidOut (set .header .slot) (held m) (take (m .count) (sv .server)) (take (sv .count) (sv .reserve)) ≡ planMade set
       unfolding planMade setPlacement setReserves
       set-laid = laid-is (loadsOfSet set) (set .header .slot) (lossOf (set .header)) few-loads sound slot-some slot-below e g
@@ -95,6 +105,7 @@ pub made-needs : (set : TaskSet) → planMade set .ring + planMade set .whole �
 unfolding planMade laidOut needed
 made-needs set = refl
 
+-- the same of any plan that is the set's
 pub made-sum : (set : TaskSet) {p : Plan} → p ≡ planMade set → p .ring + p .whole ≡ needed set
 made-sum set e = ap (λ (q : Plan). q .ring + q .whole) e ∙ made-needs set
 
@@ -103,6 +114,7 @@ pub full-holds : (set : TaskSet) {n : ℕ} → n ≡ needed set → set .header 
 unfolding fullRow
 full-holds set e h = lt-ltb (set .header .processors) (needed set) (omega (arith, e))
 
+-- the board has enough
 pub full-clear : (set : TaskSet) {n : ℕ} → n ≡ needed set → n ≤ set .header .processors → fullRow set ≡ false
 unfolding fullRow
 full-clear set e h = le-ltb (set .header .processors) (needed set) (omega (arith, e))
@@ -118,6 +130,7 @@ module _ (set : TaskSet) where
   unfolding planOf
   plan-outcome = answer-outcome (planOutcome set) (planMade set)
 
+  -- done: the plan is the set's
   pub plan-is : planOutcome set ≡ Done → planOf set .plan ≡ planMade set
   unfolding planOf
   plan-is e = rw e
@@ -130,18 +143,22 @@ module _ (set : TaskSet) where
       let q = first-done (chargedOutcome set) (when (fullRow set) (Full (needed set))) (p .1) in
       (record { carried = when-done (askRow set) Ask (p .0); charged = q .0 }, when-done (fullRow set) (Full (needed set)) (q .1))
 
+  -- row 11 holds
   pub plan-ask : askRow set ≡ true → answer (Refused Ask) zeroPlan ≡ planOf set
   unfolding planOf planOutcome
   plan-ask a = rw a
 
+  -- row 11 is clear and one of rows 5 to 9 holds
   pub plan-charged : {r : Refusal} → askRow set ≡ false → chargedOutcome set ≡ Refused r → answer (Refused r) zeroPlan ≡ planOf set
   unfolding planOf planOutcome
   plan-charged a e = rw (a, e)
 
+  -- row 10 alone holds
   pub plan-full : {n : ℕ} → Clear set → fullRow set ≡ true → n ≡ needed set → answer (Refused (Full n)) zeroPlan ≡ planOf set
   unfolding planOf planOutcome
   plan-full clear f e = rw (clear .carried, clear .charged, f, e)
 
+  -- no row holds
   pub plan-done : {p : Plan} → Clear set → fullRow set ≡ false → p ≡ planMade set → record { outcome = Done; plan = p } ≡ planOf set
   unfolding planOf planOutcome
   plan-done clear f e = rw (clear .carried, clear .charged, f, e)

@@ -10,14 +10,17 @@ use Rattle.frames.specs.declared.refusal.Outcome.the-variants.{Done, Refused}
 use Rattle.tasks.specs.Rows.{firstOf, when, atTask}
 use Rattle.tasks.proofs.Bools.{done-refused}
 
+-- the first of two is done where both are
 pub first-done : (a b : Outcome) → firstOf a b ≡ Done → (a ≡ Done) × (b ≡ Done)
 first-done Done b e = (refl, e)
 first-done (Refused r) b e = done-refused (sym e)
 
+-- a row that gives nothing does not hold
 pub when-done : (b : Bool) (r : Refusal) → when b r ≡ Done → b ≡ false
 when-done true r e = done-refused (sym e)
 when-done false r e = refl
 
+-- no task is named where nothing is given
 pub at-done : (r : ℕ → Refusal) (n : ℕ) → atTask r n ≡ Done → n ≡ 0
 at-done r zero e = refl
 at-done r (suc n) e = done-refused (sym e)
@@ -31,6 +34,7 @@ pub both-left : (a b : Bool) → both a b ≡ true → a ≡ true
 both-left true b e = refl
 both-left false b e = e
 
+-- the second of two tests that hold
 pub both-right : (a b : Bool) → both a b ≡ true → b ≡ true
 both-right true b e = e
 both-right false b e = true-false (sym e)

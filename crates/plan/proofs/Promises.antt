@@ -158,17 +158,21 @@ module _ (set : TaskSet) (plan : Plan) (full : length (set .tasks) ≡ 64) (e : 
           no-means = rw (known .placement, pass-is) (v .1);
         }
 
+-- what a checked plan is
 pub accepted : Accepted
 accepted set plan full e = accepted-plan set plan full e
 
+-- who runs
 pub who-answers : WhoAnswers
 who-answers set plan p x full e t = who-tells set plan full e p t x
 
+-- does it pass
 pub pass-answers : PassAnswers
 pass-answers set plan q R full e s a = pass-tells set plan full e q R s a
 
 -- ---- otherwise
 
+-- both questions refuse where something is not there
 pub asks-else : AsksElse
 unfolding whoRuns doesPass
 asks-else = record {

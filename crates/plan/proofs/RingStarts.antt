@@ -24,6 +24,7 @@ module _ (S : ℕ) (rs : List ℕ) (n q : ℕ) (h : 1 ≤ q) (l : q ≤ n) where
   start-ring d =
       sym (ap (λ (b : Bool). pick b (startOf S (take n rs) q) 0) (ap (λ (R : ℕ). ltb R S) (reserve-place rs n q h l) ∙ lt-ltb (getD rs (q - 1) 0) S d))
 
+  -- a server with a whole processor stands nowhere
   pub start-whole : S ≤ getD rs (q - 1) 0 → 0 ≡ ringStart S (take n rs) q
   start-whole d =
       sym (ap (λ (b : Bool). pick b (startOf S (take n rs) q) 0) (ap (λ (R : ℕ). ltb R S) (reserve-place rs n q h l) ∙ le-ltb (getD rs (q - 1) 0) S d))

@@ -87,6 +87,7 @@ module _ (set : TaskSet) (a b : Plan) (s : SamePlan (set .count) a b) where
     pass = λ q R. rw (check-plans, s .servers);
   }
 
+-- unused room changes no answer
 pub room-ignored : RoomIgnored
 room-ignored = record { of-sets = set-room; of-plans = plan-room }
 
@@ -100,6 +101,7 @@ module _ (set : TaskSet) where
   done-outcome : planOf set .outcome ≡ Done → planOutcome set ≡ Done
   done-outcome e = sym (plan-outcome set) ∙ e
 
+  -- the plan of each outcome
   pub plan-given : PlanGiven set
   unfolding planOf
   plan-given = record {
@@ -111,6 +113,7 @@ module _ (set : TaskSet) where
   unfolding makes
   own-made e = rw (plan-is set (done-outcome e), done-outcome e) (agree-self (set .count) (planMade set))
 
+  -- the planner makes its own plan and no other
   pub makes-own : MakesOwn set
   makes-own = record {
     own = own-made;
@@ -122,6 +125,7 @@ module _ (set : TaskSet) where
 
 -- ---- the contracts determine the answers
 
+-- each contract names its one answer
 pub plan-determined : PlanDetermined
 plan-determined = record {
   planner = λ set a b p q. p ∙ sym q;

@@ -27,6 +27,7 @@ module _ (ls : List Load) (S L : ℕ) (few : length ls ≤ 64) (sound : Every So
   asked : Asked ls S
   asked = record { sound = sound; slot = slot }
 
+  -- there are at most 64 servers
   pub count-few : serversIn (placementOf ls S L) ≤ 64
   count-few = omega (arith, servers-few ls S L)
 
@@ -76,6 +77,7 @@ module _ (ls : List Load) (S L : ℕ) (few : length ls ≤ 64) (sound : Every So
         ap (λ (n : ℕ). take n (sv .server)) tasks-is ∙ ap (take (length ls)) server-is
         ∙ row-take (placementOf ls S L) (length ls) (placement-length ls S L)
 
+    -- the answer can be laid out
     pub layable : Layable m sv S
     layable = record {
       tasks-few = omega (arith, tasks-is);
@@ -85,6 +87,7 @@ module _ (ls : List Load) (S L : ℕ) (few : length ls ≤ 64) (sound : Every So
       server-room = ap row front-servers ∙ sym server-is;
     }
 
+    -- its layout is that of the placement and the reserves
     pub laid-is : laidOut S (held m) (take (m .count) (sv .server)) (take (sv .count) (sv .reserve)) ≡ laidOut S ls (placementOf ls S L) (reservesOf ls S L)
     laid-is =
         ap (λ (k : List Load). laidOut S k (take (m .count) (sv .server)) (take (sv .count) (sv .reserve))) (members-held ls few sound e)
