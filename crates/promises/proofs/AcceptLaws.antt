@@ -1,13 +1,12 @@
 -- What a set has that the planner gives a plan: a slot, sound loads, no server without a load, and smallest reserves.
 -- Assumes nothing.
-use Prim.Native.Nat.{ℕ, _-_, _≤_, _<_}
+use Prim.Native.Nat.{ℕ, _≤_}
 use mathlib.Core.Path.{_≡_, sym, subst, _∙_}
-use mathlib.Core.List.{List}
 use mathlib.Core.Logic.{_⊎_, inl, inr, ⊎-elim}
 use native.Mathlib.Numerals.{sub-one}
 use native.Mathlib.Omega.{arith}
 use lib.ListN.{length, getD}
-use Rattle.demand.specs.Load.{Load, Sound, Every}
+use Rattle.demand.specs.Load.{Sound, Every}
 use Rattle.demand.specs.Supply.{Ring}
 use Rattle.verdict.specs.Claims.{Asked}
 use Rattle.verdict.specs.Reserve.{Smallest}
@@ -15,8 +14,9 @@ use Rattle.servers.specs.Placement.{serversIn, placementOf}
 use Rattle.servers.specs.Reserve.{reservesOf}
 use Rattle.servers.proofs.LoadLaws.{every-in, in-some}
 use Rattle.servers.proofs.PlacementLaws.{placement-length}
-use Rattle.servers.proofs.ServedLaws.{reserves-count}
+use Rattle.servers.proofs.ServedLaws.{reserves-count, reserves-range}
 use Rattle.servers.proofs.ServerClaims.{each-in-one, smallest-reserves}
+use Rattle.ring.specs.Laid.{Reserved}
 use Rattle.ring.specs.Reserves.{reserveOf}
 use Rattle.ring.specs.Serves.{RingServer, WholeProcessor}
 use Rattle.tasks.specs.declared.set.TaskSet.{TaskSet}
@@ -47,6 +47,15 @@ module _ (set : TaskSet) (ok : Accepted set) where
 
   pub server-sound : (q : ℕ) → Every Sound (serverLoads set q)
   server-sound q = every-in Sound (loadsOfSet set) (setPlacement set) q (asked .sound)
+
+  -- the reserves are as the rules of the ring ask
+  pub set-reserved : Reserved (slotOf set) (setReserves set)
+  unfolding setReserves
+  set-reserved = record {
+    slot-some = slot-some;
+    some = λ i h. reserves-range (loadsOfSet set) (slotOf set) (entryLossOf set) asked i h .0;
+    within = λ i h. reserves-range (loadsOfSet set) (slotOf set) (entryLossOf set) asked i h .1;
+  }
 
   module _ (q : ℕ) (s : IsServer set q) where
     -- the server is one of those of the placement

@@ -14,7 +14,7 @@ use Rattle.promises.specs.Promises.{CountedOnce}
 
 module _ (P : Tick → Type 0) (a : ℕ) where
   -- a window has one count
-  once : {t m n : ℕ} → Counted P a t m → Counted P a t n → m ≡ n
+  pub once : {t m n : ℕ} → Counted P a t m → Counted P a t n → m ≡ n
   once none none = refl
   once (counts c p) (counts d q) = ap suc (once c d)
   once (counts c p) (passes d q) = absurd (q p)

@@ -1,5 +1,6 @@
--- The claims of specs/Promises.antt, proved: counting, where a reserve stands on the ring, what an accepted set has, and each claim.
+-- The claims of specs/Promises.antt, proved: counting, where a reserve stands, what an accepted set has, what a plan prints.
 pub mod CountLaws
 pub mod StandLaws
 pub mod AcceptLaws
+pub mod PrintLaws
 pub mod Theorems

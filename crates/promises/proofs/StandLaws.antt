@@ -1,30 +1,52 @@
--- Where a ring server's reserve stands, tick by tick: the ticks on the board, the usable ticks, and those of a cut reserve.
+-- Where a reserve stands, tick by tick: a ring server's ticks on the board, its usable ticks, those of a cut reserve and of any other.
 -- Each is told by the test for a reserve that stands once a slot. Assumes nothing.
 use Prim.Native.Nat.{ℕ, _+_, _-_, _%_, _≤_, _<_, zero-le}
-use mathlib.Core.Path.{_≡_, sym, subst}
+use mathlib.Core.Path.{_≡_, sym, ap, subst, _∙_}
 use mathlib.Core.Bool.{true}
 use mathlib.Core.List.{List}
 use mathlib.Core.Logic.{⊎-elim, _↔_}
-use native.Mathlib.Nat.{le-trans}
+use native.Mathlib.Nat.{le-trans, add-comm}
 use native.Mathlib.Omega.{arith}
 use Rattle.ring.specs.declared.clock.Tick.{Tick}
 use Rattle.ring.specs.Reserves.{reserveOf, startOf, ringProcessors}
 use Rattle.ring.specs.Phase.{phase}
 use Rattle.ring.specs.Serves.{RingServer, WholeProcessor, OnBoard, UsableOnRing, Usable, sinceStart}
-use Rattle.ring.proofs.CoverLaws.{Covers}
-use Rattle.ring.proofs.PhaseLaws.{since-form, phase-agrees}
+use Rattle.ring.proofs.PhaseLaws.{since-form, since-is, phase-agrees}
 use Rattle.ring.proofs.ServeLaws.{serves-since}
 use Rattle.ring.proofs.Theorems.{onBoardWhen, usableWhen}
 use Rattle.windows.specs.Window.{since, usableAt}
-use Rattle.windows.proofs.Since.{usable-means}
-use Rattle.promises.specs.Counted.{StandsIn, UsableWith}
+use Rattle.windows.proofs.Since.{since-is-right, usable-means}
+use Rattle.promises.specs.Counted.{UsableWith, UsableOnce}
+
+-- the ring and the windows count alike from a start
+since-same : (S start x : ℕ) → 1 ≤ S → (x + S - start % S) % S ≡ since S start x
+unfolding since
+since-same S start x h = since-form S h start x
+
+-- a reserve that stands once a slot: the ticks since its start are the only ones that reach a tick
+module _ (S L R start : ℕ) (h : 1 ≤ S) (part : R ≤ S) (x : Tick) where
+  once-told : UsableOnce S L R start x → usableAt S L R start (x .0) ≡ true
+  once-told u =
+      let e : since S start (x .0) ≡ u .0 =
+      sym (since-same S start (x .0) h) ∙ since-is S h start (x .0) (u .0) (omega (arith, u .1 .before)) (u .1 .reached)
+      in
+      usable-means S L R start (x .0) .1 (omega (arith, e, u .1 .passed), omega (arith, e, u .1 .before))
+
+  once-made : usableAt S L R start (x .0) ≡ true → UsableOnce S L R start x
+  once-made e =
+      let w = usable-means S L R start (x .0) .0 e in (
+        since S start (x .0),
+        record {
+          reached = ap (λ (n : ℕ). n % S) (add-comm start (since S start (x .0))) ∙ since-is-right .reaches S start (x .0) h;
+          passed = w .0;
+          before = w .1;
+        },
+      )
+
+  pub once-tested : UsableOnce S L R start x ↔ (usableAt S L R start (x .0) ≡ true)
+  once-tested = (once-told, once-made)
 
 module _ (S : ℕ) (rs : List ℕ) (h : 1 ≤ S) (q : ℕ) where
-  -- the ring and the windows count alike from a start
-  since-same : (x : Tick) → sinceStart S rs q x ≡ since S (startOf S rs q) (x .0)
-  unfolding since
-  since-same x = since-form S h (startOf S rs q) (x .0)
-
   abbrev Between : (L R : ℕ) → Tick → Type 0
   Between L R x = (L ≤ sinceStart S rs q x) × (sinceStart S rs q x < R)
 
@@ -34,11 +56,11 @@ module _ (S : ℕ) (rs : List ℕ) (h : 1 ≤ S) (q : ℕ) where
   -- from L on and below R is what the test says
   tested : (L R : ℕ) (x : Tick) → Between L R x → Tested L R x
   tested L R x w =
-      usable-means S L R (startOf S rs q) (x .0) .1 (subst (λ (n : ℕ). (L ≤ n) × (n < R)) (since-same x) w)
+      usable-means S L R (startOf S rs q) (x .0) .1 (subst (λ (n : ℕ). (L ≤ n) × (n < R)) (since-same S (startOf S rs q) (x .0) h) w)
 
   told : (L R : ℕ) (x : Tick) → Tested L R x → Between L R x
   told L R x e =
-      subst (λ (n : ℕ). (L ≤ n) × (n < R)) (sym (since-same x)) (usable-means S L R (startOf S rs q) (x .0) .0 e)
+      subst (λ (n : ℕ). (L ≤ n) × (n < R)) (sym (since-same S (startOf S rs q) (x .0) h)) (usable-means S L R (startOf S rs q) (x .0) .0 e)
 
   module _ (s : RingServer S rs q) where
     pub board-tested : (x : Tick) → OnBoard S rs q x ↔ Tested 0 (reserveOf rs q) x

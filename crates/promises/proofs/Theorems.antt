@@ -1,31 +1,34 @@
 -- Each claim of specs/Promises.antt, proved.
 -- Assumes nothing.
-use Prim.Native.Nat.{ℕ, _+_, _-_, _≤_, _<_}
-use mathlib.Core.Path.{_≡_, sym, subst}
+use Prim.Native.Nat.{ℕ, _-_, _≤_, _<_}
+use mathlib.Core.Path.{_≡_, refl, sym, subst}
+use mathlib.Core.Bool.{true}
 use mathlib.Core.List.{List, [], _∷_}
-use mathlib.Core.Logic.{inl, inr, ⊎-elim}
+use mathlib.Core.Logic.{inr, ⊎-elim, _↔_}
+use native.Mathlib.Nat.{le-trans, le-of-eq}
 use native.Mathlib.Omega.{arith}
 use lib.ListN.{length}
 use Rattle.demand.specs.Load.{Load, Sound, Every}
 use Rattle.demand.specs.Demand.{demand}
 use Rattle.demand.specs.Supply.{Ring, Allowed}
 use Rattle.demand.specs.Passes.{Passes}
+use Rattle.demand.proofs.Supply.{supply-all}
 use Rattle.verdict.proofs.Sizing.{one-less}
 use Rattle.tasks.specs.declared.set.TaskSet.{TaskSet}
 use Rattle.ring.specs.declared.clock.Tick.{Tick}
 use Rattle.ring.specs.Reserves.{reserveOf, startOf}
-use Rattle.ring.specs.Serves.{RingServer, WholeProcessor, OnBoard, Usable}
-use Rattle.ring.proofs.Theorems.{oneServer, oneProcessor, onBoardWhen}
-use Rattle.windows.specs.Window.{usableIn, FallsShort}
+use Rattle.ring.specs.Serves.{RingServer, WholeProcessor, OnBoard, UsableOnRing, Usable}
+use Rattle.ring.proofs.Theorems.{oneServer, oneProcessor, onBoardWhen, usableWhen, inAnySlot}
+use Rattle.windows.specs.Window.{usableAt, usableIn, FallsShort}
 use Rattle.windows.proofs.Worst.{in-any-slot}
-use Rattle.windows.proofs.Covers.{passing-covers, whole-covers, smaller-falls-short}
+use Rattle.windows.proofs.Covers.{passes-is-covered, passing-covers, whole-covers, smaller-falls-short}
 use Rattle.plan.specs.Plan.{setReserves}
 use Rattle.promises.specs.Accepted.{Accepted, IsServer, slotOf, entryLossOf, serverLoads}
-use Rattle.promises.specs.Counted.{Counted, UsableWith}
-use Rattle.promises.specs.Promises.{OneServerAProcessor, OneProcessorAServer, ReserveInAnySlot, CoveredWindow, EveryWindowCovered, ShortWindow, CutFallsShort, SmallerFallsShort}
-use Rattle.promises.proofs.CountLaws.{counts-all, counts-usable}
-use Rattle.promises.proofs.StandLaws.{board-tested, usable-tested, cut-tested}
-use Rattle.promises.proofs.AcceptLaws.{slot-some, server-sound, server-some, server-smallest, ring-or-whole}
+use Rattle.promises.specs.Counted.{Counted, UsableWith, UsableOnce}
+use Rattle.promises.specs.Promises.{OneServerAProcessor, OneProcessorAServer, ReserveInAnySlot, HeldInAnySlot, UsableIsServed, CoveredWindow, EveryWindowCovered, ShortWindow, CutFallsShort, SmallerFallsShort, Covers, TestIsRota}
+use Rattle.promises.proofs.CountLaws.{once, counts-all, counts-usable}
+use Rattle.promises.proofs.StandLaws.{once-tested, board-tested, usable-tested, cut-tested}
+use Rattle.promises.proofs.AcceptLaws.{slot-some, server-sound, set-reserved, server-some, server-smallest, ring-or-whole}
 
 pub one-server-a-processor : OneServerAProcessor
 one-server-a-processor set ok p q q′ x a b = oneServer (slotOf set) (setReserves set) p q q′ x a b
@@ -85,30 +88,68 @@ module _ (set : TaskSet) (ok : Accepted set) (q : ℕ) where
         enough = whole-covers (serverLoads set q) S L (server-sound set ok q) (subst (Passes (serverLoads set q) S L) (w .whole) (server-smallest set ok q s .passes)) t;
       }
 
-  cut-short : RingServer S reserves q → ShortWindow set q (R - 1)
+  -- a window that falls short by the test, its ticks counted one by one
+  short-window : (P : Tick → Type 0) (R′ start′ : ℕ) → ((x : Tick) → P x ↔ (usableAt S L R′ start′ (x .0) ≡ true)) →
+      FallsShort (serverLoads set q) S L R′ start′ → ShortWindow set q P
+  short-window P R′ start′ w f = record {
+    from = f .0;
+    long = f .1;
+    ticks = usableIn S L R′ start′ (f .0) (f .1);
+    second-slot = f .2;
+    counted = counts-usable P (f .0) S L R′ start′ w (f .1);
+    lacks = omega (arith, f .3);
+  }
+
+  cut-short : RingServer S reserves q → ShortWindow set q (UsableWith S L reserves q (R - 1))
   cut-short r =
       let s : IsServer set q = record { some = r .some; there = r .there } in
-      let f : FallsShort (serverLoads set q) S L (R - 1) start =
-      short-of (serverLoads set q) S L (R - 1) start (server-some set ok q s) (server-sound set ok q) (slot-some set ok) (omega (arith, r .ring))
-      (one-less (serverLoads set q) S L R (slot-some set ok) (server-smallest set ok q s))
-      in
-      record {
-        from = f .0;
-        length = f .1;
-        ticks = usableIn S L (R - 1) start (f .0) (f .1);
-        second-slot = f .2;
-        counted = counts-usable (UsableWith S L reserves q (R - 1)) (f .0) S L (R - 1) start (cut-tested S reserves (slot-some set ok) q r L (R - 1) (omega arith)) (f .1);
-        lacks = omega (arith, f .3);
-      }
+      short-window (UsableWith S L reserves q (R - 1)) (R - 1) start (cut-tested S reserves (slot-some set ok) q r L (R - 1) (omega arith))
+      (short-of (serverLoads set q) S L (R - 1) start (server-some set ok q s) (server-sound set ok q) (slot-some set ok) (omega (arith, r .ring))
+      (one-less (serverLoads set q) S L R (slot-some set ok) (server-smallest set ok q s)))
 
-  smaller-short : WholeProcessor S reserves q → (R′ start′ : ℕ) → R′ < S → FallsShort (serverLoads set q) S L R′ start′
+  smaller-short : WholeProcessor S reserves q → (R′ start′ : ℕ) → R′ < S → ShortWindow set q (UsableOnce S L R′ start′)
   smaller-short w R′ start′ less =
       let s : IsServer set q = record { some = w .some; there = w .there } in
-      short-of (serverLoads set q) S L R′ start′ (server-some set ok q s) (server-sound set ok q) (slot-some set ok) less
-      (λ (a : Allowed S L R′) (p : Passes (serverLoads set q) S L R′). absurd (omega (arith, w .whole, server-smallest set ok q s .least R′ a p)))
+      short-window (UsableOnce S L R′ start′) R′ start′ (once-tested S L R′ start′ (slot-some set ok) (omega arith))
+      (short-of (serverLoads set q) S L R′ start′ (server-some set ok q s) (server-sound set ok q) (slot-some set ok) less
+      (λ (a : Allowed S L R′) (p : Passes (serverLoads set q) S L R′). absurd (omega (arith, w .whole, server-smallest set ok q s .least R′ a p))))
+
+  -- what covers by the test covers by the count, and the other way round
+  module _ (R′ start′ : ℕ) (less : R′ < S) where
+    abbrev P : Tick → Type 0
+    P = UsableOnce S L R′ start′
+
+    by-test : (a t : ℕ) → Counted P a t (usableIn S L R′ start′ a t)
+    by-test a t = counts-usable P a S L R′ start′ (once-tested S L R′ start′ (slot-some set ok) (omega arith)) t
+
+    part-same : Passes (serverLoads set q) S L R′ ↔ Covers set q P
+    part-same =
+        let w = passes-is-covered (serverLoads set q) S L R′ start′ (server-sound set ok q) (slot-some set ok) less in (
+          λ p a t n later c. subst (λ (k : ℕ). demand (serverLoads set q) t ≤ k) (once P a (by-test a t) c) (w .0 p a t later),
+          λ covers. w .1 (λ a t later. covers a t (usableIn S L R′ start′ a t) later (by-test a t)),
+        )
+
+  whole-same : Passes (serverLoads set q) S L S ↔ ((t : ℕ) → demand (serverLoads set q) t ≤ t)
+  whole-same = (
+    whole-covers (serverLoads set q) S L (server-sound set ok q),
+    λ enough t some. le-trans (enough t) (le-of-eq (sym (supply-all S L S t refl))),
+  )
 
 pub reserve-in-any-slot : ReserveInAnySlot
 reserve-in-any-slot set ok q s a = any-slot set ok q s a
+
+pub held-in-any-slot : HeldInAnySlot
+held-in-any-slot set ok q s x = inAnySlot (slotOf set) (setReserves set) q x (set-reserved set ok) (s .some) (s .there)
+
+pub usable-is-served : UsableIsServed
+usable-is-served set ok q x u =
+    let board = onBoardWhen (slotOf set) (setReserves set) x (slot-some set ok) in
+    ⊎-elim
+    (λ (f : (p : ℕ) × UsableOnRing (slotOf set) (entryLossOf set) (setReserves set) q x p).
+    let r = f .1 .server in
+    board .ring q r .1 (usableWhen (slotOf set) (entryLossOf set) (setReserves set) q x (slot-some set ok) r .0 u .1))
+    (λ (w : WholeProcessor (slotOf set) (setReserves set) q). board .whole q w)
+    u
 
 pub every-window-covered : EveryWindowCovered
 every-window-covered set ok q s a t later = window-covered set ok q s a t later
@@ -118,3 +159,6 @@ cut-falls-short set ok q r = cut-short set ok q r
 
 pub smaller-reserve-falls-short : SmallerFallsShort
 smaller-reserve-falls-short set ok q w R start less = smaller-short set ok q w R start less
+
+pub test-is-rota : TestIsRota
+test-is-rota set ok q s = record { part = part-same set ok q; whole = whole-same set ok q }

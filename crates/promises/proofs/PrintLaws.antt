@@ -1,0 +1,96 @@
+-- What a plan that the planner makes of a set prints: place by place the figures of the set's rota.
+-- Assumes nothing.
+use Prim.Native.Nat.{ℕ, zero, suc, _+_, _-_, _≤_, _<_}
+use mathlib.Core.Path.{_≡_, refl, sym, ap, _∙_}
+use mathlib.Core.Bool.{Bool, true}
+use mathlib.Core.List.{List, [], _∷_, _++_}
+use native.Mathlib.Decide.{decLt}
+use native.Mathlib.Omega.{arith}
+use borrow.Author.Tests.{lt-ltb}
+use lib.ListN.{length, getD, take, List·getD-append}
+use lib.Seq.{getD-at, getD-take}
+use Rattle.frames.specs.Digit.{pick}
+use Rattle.servers.specs.Row.{row}
+use Rattle.servers.proofs.RowLaws.{row-take}
+use Rattle.ring.specs.Reserves.{reserveOf, startOf, processorsOf}
+use Rattle.ring.specs.Who.{firstOf}
+use Rattle.ring.specs.Serves.{RingServer}
+use Rattle.tasks.specs.declared.set.TaskSet.{TaskSet}
+use Rattle.plan.specs.declared.plan.Plan.{Plan}
+use Rattle.plan.specs.Plan.{upTo, ringStart, laidOut, setReserves, planMade}
+use Rattle.plan.specs.Planner.{makes}
+use Rattle.plan.specs.Claims.{SamePlan}
+use Rattle.plan.proofs.Made.{plan-outcome}
+use Rattle.plan.proofs.UpTo.{up-length}
+use Rattle.plan.proofs.Checked.{OfSet, of-set, same-made, makes-done}
+use Rattle.promises.specs.Accepted.{PrintsRota, slotOf}
+use Rattle.promises.specs.Promises.{PlanIsRota}
+
+module _ (f : ℕ → ℕ) where
+  -- f 1, f 2, ..: f (i + 1) stands at place i
+  up-at : (n i : ℕ) → i < n → getD (upTo f n) i 0 ≡ f (suc i)
+  unfolding upTo
+  up-at zero i h = absurd (omega arith)
+  up-at (suc n) i h = by (decLt i n) (up-at n i)
+    where
+      by : Dec (i < n) → (i < n → getD (upTo f n) i 0 ≡ f (suc i)) → getD (upTo f n ++ (f (suc n) ∷ [])) i 0 ≡ f (suc i)
+      by (yes g) before = List·getD-append (upTo f n) (f (suc n) ∷ []) 0 i (rw (up-length f n) g) ∙ before g
+      by (no g) before =
+          let e : n ≡ i = omega arith in
+          getD-at (upTo f n) (f (suc n)) [] 0 i (up-length f n ∙ e) ∙ ap (λ (k : ℕ). f (suc k)) e
+
+  -- a row whose used part is that of another, filled so, has f q at place q − 1
+  pub printed : (a b : List ℕ) (n m : ℕ) → n ≡ m → b ≡ row (upTo f m) → take n a ≡ take m b → (q : ℕ) → 1 ≤ q → q ≤ m → getD a (q - 1) 0 ≡ f q
+  printed a b n m e g same zero h l = absurd (omega arith)
+  printed a b n m e g same (suc i) h l =
+      let p : suc i - 1 ≡ i = omega arith in
+      ap (λ (k : ℕ). getD a k 0) p
+      ∙ sym (getD-take n a i 0 (omega arith))
+      ∙ ap (λ (ns : List ℕ). getD ns i 0) (same ∙ ap (take m) g ∙ row-take (upTo f m) m (up-length f m))
+      ∙ up-at m i l
+
+module _ (set : TaskSet) (plan : Plan) (full : length (set .tasks) ≡ 64) (e : makes set plan ≡ true) where
+  known : OfSet set plan
+  known = of-set set full plan e
+
+  made : SamePlan (set .count) plan (planMade set)
+  made = same-made set full plan e
+
+  start-at : (q : ℕ) → RingServer (slotOf set) (setReserves set) q → getD (plan .start) (q - 1) 0 ≡ startOf (slotOf set) (setReserves set) q
+  unfolding planMade laidOut
+  start-at q r =
+      printed (ringStart (slotOf set) (setReserves set)) (plan .start) (planMade set .start) (plan .servers) (planMade set .servers) (made .servers) refl
+      (made .start) q (r .some) (r .there)
+      ∙ ap (λ (b : Bool). pick b (startOf (slotOf set) (setReserves set) q) 0) (lt-ltb (reserveOf (setReserves set) q) (slotOf set) (r .ring))
+
+  all-processors : plan .ring + plan .whole ≡ planMade set .ring + planMade set .whole
+  all-processors = ap (λ (n : ℕ). n + plan .whole) (made .ring) ∙ ap (λ (n : ℕ). planMade set .ring + n) (made .whole)
+
+  module _ (p : ℕ) (some : 1 ≤ p) (there : p ≤ processorsOf (slotOf set) (setReserves set)) where
+    first-at : getD (plan .first) (p - 1) 0 ≡ firstOf (slotOf set) (setReserves set) p .server
+    unfolding planMade laidOut
+    first-at =
+        printed (λ k. firstOf (slotOf set) (setReserves set) k .server) (plan .first) (planMade set .first) (plan .ring + plan .whole)
+        (planMade set .ring + planMade set .whole) all-processors refl (made .first) p some there
+
+    duration-at : getD (plan .duration) (p - 1) 0 ≡ firstOf (slotOf set) (setReserves set) p .left
+    unfolding planMade laidOut
+    duration-at =
+        printed (λ k. firstOf (slotOf set) (setReserves set) k .left) (plan .duration) (planMade set .duration) (plan .ring + plan .whole)
+        (planMade set .ring + planMade set .whole) all-processors refl (made .duration) p some there
+
+  prints : PrintsRota set plan
+  unfolding planMade laidOut
+  prints = record {
+    accepted = plan-outcome set ∙ makes-done set plan e;
+    slot = known .slot;
+    reserves = known .reserves;
+    starts = start-at;
+    placement = known .placement;
+    ring = made .ring;
+    whole = made .whole;
+    first = λ p some there. (first-at p some there, duration-at p some there);
+  }
+
+pub plan-is-rota : PlanIsRota
+plan-is-rota set plan full e = prints set plan full e
