@@ -7,3 +7,4 @@ pub mod FileClaims
 pub mod Examples
 pub mod Horizons
 pub mod Tells
+pub mod FieldLaws

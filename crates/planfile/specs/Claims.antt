@@ -2,6 +2,7 @@
 -- Document 01, "Lines of hexadecimal", rows 11 and 12 of the refusals and "How tight each promise is".
 use Prim.Native.Nat.{ℕ, _+_, _^_, _≤_, _<_}
 use mathlib.Core.List.{List, _++_}
+use mathlib.Core.Bool.{true}
 use mathlib.Core.Path.{_≡_}
 use lib.ListN.{length, take, drop, getD}
 use Rattle.frames.specs.declared.refusal.Refusal.{Refusal}
@@ -14,6 +15,7 @@ use Rattle.tasks.specs.Write.{leaves}
 use Rattle.plan.specs.declared.plan.Plan.{Plan}
 use Rattle.plan.specs.declared.question.WhoAnswer.{WhoAnswer}
 use Rattle.plan.specs.declared.question.PassAnswer.{PassAnswer}
+use Rattle.plan.specs.Planner.{makes}
 use Rattle.planfile.specs.Text.{planText}
 use Rattle.planfile.specs.Fit.{fitted, Fits}
 use Rattle.planfile.specs.Write.{writePlan}
@@ -89,4 +91,11 @@ pub record SameUsed (count : ℕ) (a b : Plan) : Type 0 where
 abbrev pub TextTells : Type 0
 TextTells =
     (set₁ set₂ : TaskSet) (plan₁ plan₂ : Plan) → FitFields set₁ plan₁ → FitFields set₂ plan₂
+    → planText set₁ plan₁ ≡ planText set₂ plan₂ → (set₁ .count ≡ set₂ .count) × SameUsed (set₂ .count) plan₁ plan₂
+
+-- Two accepted plans with the same text are the same plan. A set has room for 64 tasks, by its type.
+abbrev pub TextTellsPlan : Type 0
+TextTellsPlan =
+    (set₁ set₂ : TaskSet) (plan₁ plan₂ : Plan) → length (set₁ .tasks) ≡ 64 → length (set₂ .tasks) ≡ 64
+    → makes set₁ plan₁ ≡ true → makes set₂ plan₂ ≡ true
     → planText set₁ plan₁ ≡ planText set₂ plan₂ → (set₁ .count ≡ set₂ .count) × SameUsed (set₂ .count) plan₁ plan₂
