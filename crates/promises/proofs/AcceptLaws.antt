@@ -30,21 +30,26 @@ use Rattle.plan.proofs.Made.{plan-outcome, outcome-clear}
 use Rattle.promises.specs.Accepted.{Accepted, slotOf, entryLossOf, serverLoads, IsServer}
 
 module _ (set : TaskSet) (ok : Accepted set) where
+  -- no row holds
   clear : Clear set
   clear = outcome-clear set (sym (plan-outcome set) ∙ ok) .0
 
+  -- rows 5 to 9, each by its own name
   rows : RowsClear set
   rows = charged-clear set (clear .charged)
 
+  -- the slot is at least one tick
   pub slot-some : 1 ≤ slotOf set
   slot-some = board-slot (set .header) (rows .board)
 
+  -- all loads are sound
   asked : Asked (loadsOfSet set) (slotOf set)
   asked = record {
     sound = loads-sound set (record { few = count-within set (ask-count set (clear .carried)) .1; board = rows .board; range = rows .range; tight = rows .tight });
     slot = slot-some;
   }
 
+  -- so are those of each server
   pub server-sound : (q : ℕ) → Every Sound (serverLoads set q)
   server-sound q = every-in Sound (loadsOfSet set) (setPlacement set) q (asked .sound)
 

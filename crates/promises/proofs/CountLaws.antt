@@ -39,5 +39,6 @@ module _ (P : Tick → Type 0) (a : ℕ) where
   counts-usable S L R start w (suc t) =
       counts-next (usableAt S L R start (a + t)) (w (record { 0 = a + t })) (counts-usable S L R start w t)
 
+-- counting is exact
 pub counted-once : CountedOnce
 counted-once P a t m n c d = once P a c d

@@ -4,3 +4,4 @@ pub mod StandLaws
 pub mod AcceptLaws
 pub mod PrintLaws
 pub mod Theorems
+pub mod Worked

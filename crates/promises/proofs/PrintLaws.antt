@@ -50,12 +50,15 @@ module _ (f : ℕ → ℕ) where
       ∙ up-at m i l
 
 module _ (set : TaskSet) (plan : Plan) (full : length (set .tasks) ≡ 64) (e : makes set plan ≡ true) where
+  -- what agrees with the set
   known : OfSet set plan
   known = of-set set full plan e
 
+  -- what agrees with the planner's own plan
   made : SamePlan (set .count) plan (planMade set)
   made = same-made set full plan e
 
+  -- the start of a ring server
   start-at : (q : ℕ) → RingServer (slotOf set) (setReserves set) q → getD (plan .start) (q - 1) 0 ≡ startOf (slotOf set) (setReserves set) q
   unfolding planMade laidOut
   start-at q r =
@@ -63,22 +66,26 @@ module _ (set : TaskSet) (plan : Plan) (full : length (set .tasks) ≡ 64) (e : 
       (made .start) q (r .some) (r .there)
       ∙ ap (λ (b : Bool). pick b (startOf (slotOf set) (setReserves set) q) 0) (lt-ltb (reserveOf (setReserves set) q) (slotOf set) (r .ring))
 
+  -- as many processors
   all-processors : plan .ring + plan .whole ≡ planMade set .ring + planMade set .whole
   all-processors = ap (λ (n : ℕ). n + plan .whole) (made .ring) ∙ ap (λ (n : ℕ). planMade set .ring + n) (made .whole)
 
   module _ (p : ℕ) (some : 1 ≤ p) (there : p ≤ processorsOf (slotOf set) (setReserves set)) where
+    -- the first server of a processor
     first-at : getD (plan .first) (p - 1) 0 ≡ firstOf (slotOf set) (setReserves set) p .server
     unfolding planMade laidOut
     first-at =
         printed (λ k. firstOf (slotOf set) (setReserves set) k .server) (plan .first) (planMade set .first) (plan .ring + plan .whole)
         (planMade set .ring + planMade set .whole) all-processors refl (made .first) p some there
 
+    -- and its first duration
     duration-at : getD (plan .duration) (p - 1) 0 ≡ firstOf (slotOf set) (setReserves set) p .left
     unfolding planMade laidOut
     duration-at =
         printed (λ k. firstOf (slotOf set) (setReserves set) k .left) (plan .duration) (planMade set .duration) (plan .ring + plan .whole)
         (planMade set .ring + planMade set .whole) all-processors refl (made .duration) p some there
 
+  -- every figure that is used
   prints : PrintsRota set plan
   unfolding planMade laidOut
   prints = record {
@@ -92,5 +99,6 @@ module _ (set : TaskSet) (plan : Plan) (full : length (set .tasks) ≡ 64) (e : 
     first = λ p some there. (first-at p some there, duration-at p some there);
   }
 
+-- a plan that the planner makes prints the set's rota
 pub plan-is-rota : PlanIsRota
 plan-is-rota set plan full e = prints set plan full e

@@ -25,6 +25,7 @@ since-same S start x h = since-form S h start x
 
 -- a reserve that stands once a slot: the ticks since its start are the only ones that reach a tick
 module _ (S L R start : ℕ) (h : 1 ≤ S) (part : R ≤ S) (x : Tick) where
+  -- a tick that such a start reaches passes the test
   once-told : UsableOnce S L R start x → usableAt S L R start (x .0) ≡ true
   once-told u =
       let e : since S start (x .0) ≡ u .0 =
@@ -32,6 +33,7 @@ module _ (S L R start : ℕ) (h : 1 ≤ S) (part : R ≤ S) (x : Tick) where
       in
       usable-means S L R start (x .0) .1 (omega (arith, e, u .1 .passed), omega (arith, e, u .1 .before))
 
+  -- and a tick that passes it is reached by one
   once-made : usableAt S L R start (x .0) ≡ true → UsableOnce S L R start x
   once-made e =
       let w = usable-means S L R start (x .0) .0 e in (
@@ -43,6 +45,7 @@ module _ (S L R start : ℕ) (h : 1 ≤ S) (part : R ≤ S) (x : Tick) where
         },
       )
 
+  -- so a tick is usable exactly when it passes the test
   pub once-tested : UsableOnce S L R start x ↔ (usableAt S L R start (x .0) ≡ true)
   once-tested = (once-told, once-made)
 
@@ -58,16 +61,19 @@ module _ (S : ℕ) (rs : List ℕ) (h : 1 ≤ S) (q : ℕ) where
   tested L R x w =
       usable-means S L R (startOf S rs q) (x .0) .1 (subst (λ (n : ℕ). (L ≤ n) × (n < R)) (since-same S (startOf S rs q) (x .0) h) w)
 
+  -- and what it says is that
   told : (L R : ℕ) (x : Tick) → Tested L R x → Between L R x
   told L R x e =
       subst (λ (n : ℕ). (L ≤ n) × (n < R)) (sym (since-same S (startOf S rs q) (x .0) h)) (usable-means S L R (startOf S rs q) (x .0) .0 e)
 
   module _ (s : RingServer S rs q) where
+    -- a ring server is on the board where the test without loss says so
     pub board-tested : (x : Tick) → OnBoard S rs q x ↔ Tested 0 (reserveOf rs q) x
     board-tested x =
         let w = onBoardWhen S rs x h .ring q s in
         (λ b. tested 0 (reserveOf rs q) x (zero-le, w .0 b), λ e. w .1 (told 0 (reserveOf rs q) x e .1))
 
+    -- and a tick is usable to it where the test says so
     pub usable-tested : (L : ℕ) (x : Tick) → Usable S L rs q x ↔ Tested L (reserveOf rs q) x
     usable-tested L x =
         let w = usableWhen S L rs q x h s in
@@ -82,12 +88,14 @@ module _ (S : ℕ) (rs : List ℕ) (h : 1 ≤ S) (q : ℕ) where
         (phase-agrees S (ringProcessors S rs) h p x (le-trans some on))
 
     module _ (L R : ℕ) (less : R ≤ reserveOf rs q) (x : Tick) where
+      -- what stands in a reserve cut to R is below R ticks past the start
       stands-between : UsableWith S L rs q R x → Between L R x
       stands-between u =
           let a = u .1 in
           let e = stands x (u .0) (a .processor-some) (a .on-ring) (omega (arith, a .passed)) (omega (arith, a .before)) in
           (omega (arith, e, a .passed), omega (arith, e, a .before))
 
+      -- a processor that stands in the whole reserve, below R ticks past the start, stands in the cut one
       stands-there : Between L R x → (p : ℕ) × UsableOnRing S L rs q x p → UsableWith S L rs q R x
       stands-there w u =
           let a = u .1 in
@@ -96,6 +104,7 @@ module _ (S : ℕ) (rs : List ℕ) (h : 1 ≤ S) (q : ℕ) where
             record { processor-some = a .processor-some; on-ring = a .on-ring; passed = a .passed; before = omega (arith, e, w .1) },
           )
 
+      -- and there is one
       between-stands : Between L R x → UsableWith S L rs q R x
       between-stands w =
           ⊎-elim

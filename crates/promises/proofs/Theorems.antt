@@ -30,9 +30,11 @@ use Rattle.promises.proofs.CountLaws.{once, counts-all, counts-usable}
 use Rattle.promises.proofs.StandLaws.{once-tested, board-tested, usable-tested, cut-tested}
 use Rattle.promises.proofs.AcceptLaws.{slot-some, server-sound, set-reserved, server-some, server-smallest, ring-or-whole}
 
+-- at each tick a processor serves at most one server
 pub one-server-a-processor : OneServerAProcessor
 one-server-a-processor set ok p q q′ x a b = oneServer (slotOf set) (setReserves set) p q q′ x a b
 
+-- and a server has at most one processor
 pub one-processor-a-server : OneProcessorAServer
 one-processor-a-server set ok p p′ q x a b = oneProcessor (slotOf set) (setReserves set) p p′ q x (slot-some set ok) a b
 
@@ -58,6 +60,7 @@ module _ (set : TaskSet) (ok : Accepted set) (q : ℕ) where
   abbrev start : ℕ
   start = startOf S reserves q
 
+  -- on the ring by the test without loss, on a whole processor at every tick
   any-slot : IsServer set q → (a : ℕ) → Counted (OnBoard S reserves q) a S R
   any-slot s a = ⊎-elim ring whole (ring-or-whole set ok q s)
     where
@@ -71,6 +74,7 @@ module _ (set : TaskSet) (ok : Accepted set) (q : ℕ) where
           subst (Counted (OnBoard S reserves q) a S) (sym (w .whole))
           (counts-all (OnBoard S reserves q) a (λ x. onBoardWhen S reserves x (slot-some set ok) .whole q w) S)
 
+  -- on the ring a passing reserve covers; on a whole processor every tick is usable
   window-covered : IsServer set q → (a t : ℕ) → S ≤ a → CoveredWindow set q a t
   window-covered s a t later = ⊎-elim ring whole (ring-or-whole set ok q s)
     where
@@ -100,6 +104,7 @@ module _ (set : TaskSet) (ok : Accepted set) (q : ℕ) where
     lacks = omega (arith, f .3);
   }
 
+  -- one tick less than the smallest reserve does not pass
   cut-short : RingServer S reserves q → ShortWindow set q (UsableWith S L reserves q (R - 1))
   cut-short r =
       let s : IsServer set q = record { some = r .some; there = r .there } in
@@ -107,6 +112,7 @@ module _ (set : TaskSet) (ok : Accepted set) (q : ℕ) where
       (short-of (serverLoads set q) S L (R - 1) start (server-some set ok q s) (server-sound set ok q) (slot-some set ok) (omega (arith, r .ring))
       (one-less (serverLoads set q) S L R (slot-some set ok) (server-smallest set ok q s)))
 
+  -- where a whole processor is the smallest reserve nothing less passes
   smaller-short : WholeProcessor S reserves q → (R′ start′ : ℕ) → R′ < S → ShortWindow set q (UsableOnce S L R′ start′)
   smaller-short w R′ start′ less =
       let s : IsServer set q = record { some = w .some; there = w .there } in
@@ -119,9 +125,11 @@ module _ (set : TaskSet) (ok : Accepted set) (q : ℕ) where
     abbrev P : Tick → Type 0
     P = UsableOnce S L R′ start′
 
+    -- the count of a window is the test's
     by-test : (a t : ℕ) → Counted P a t (usableIn S L R′ start′ a t)
     by-test a t = counts-usable P a S L R′ start′ (once-tested S L R′ start′ (slot-some set ok) (omega arith)) t
 
+    -- so the finite test and the count say the same
     part-same : Passes (serverLoads set q) S L R′ ↔ Covers set q P
     part-same =
         let w = passes-is-covered (serverLoads set q) S L R′ start′ (server-sound set ok q) (slot-some set ok) less in (
@@ -129,18 +137,22 @@ module _ (set : TaskSet) (ok : Accepted set) (q : ℕ) where
           λ covers. w .1 (λ a t later. covers a t (usableIn S L R′ start′ a t) later (by-test a t)),
         )
 
+  -- a whole processor supplies every tick
   whole-same : Passes (serverLoads set q) S L S ↔ ((t : ℕ) → demand (serverLoads set q) t ≤ t)
   whole-same = (
     whole-covers (serverLoads set q) S L (server-sound set ok q),
     λ enough t some. le-trans (enough t) (le-of-eq (sym (supply-all S L S t refl))),
   )
 
+-- in any S consecutive ticks a server is on the board for R
 pub reserve-in-any-slot : ReserveInAnySlot
 reserve-in-any-slot set ok q s a = any-slot set ok q s a
 
+-- and holds R processor ticks
 pub held-in-any-slot : HeldInAnySlot
 held-in-any-slot set ok q s x = inAnySlot (slotOf set) (setReserves set) q x (set-reserved set ok) (s .some) (s .there)
 
+-- usable ticks are ticks on the board
 pub usable-is-served : UsableIsServed
 usable-is-served set ok q x u =
     let board = onBoardWhen (slotOf set) (setReserves set) x (slot-some set ok) in
@@ -151,14 +163,18 @@ usable-is-served set ok q x u =
     (λ (w : WholeProcessor (slotOf set) (setReserves set) q). board .whole q w)
     u
 
+-- in every window the usable ticks cover the demand
 pub every-window-covered : EveryWindowCovered
 every-window-covered set ok q s a t later = window-covered set ok q s a t later
 
+-- a ring reserve cut by one tick falls short
 pub cut-falls-short : CutFallsShort
 cut-falls-short set ok q r = cut-short set ok q r
 
+-- and so does any smaller reserve for a whole-processor server
 pub smaller-reserve-falls-short : SmallerFallsShort
 smaller-reserve-falls-short set ok q w R start less = smaller-short set ok q w R start less
 
+-- the finite test and the rota say the same
 pub test-is-rota : TestIsRota
 test-is-rota set ok q s = record { part = part-same set ok q; whole = whole-same set ok q }

@@ -1,0 +1,59 @@
+-- The promises have something to speak of: example D of document 01 is accepted, its server 1 has a whole processor, its server 2
+-- stands on the ring. Computed from the definitions; assumes nothing.
+use Prim.Native.Nat.{ℕ}
+use mathlib.Core.Path.{_≡_, refl, sym, subst}
+use mathlib.Core.List.{List, [], _∷_}
+use native.Mathlib.Omega.{arith}
+use Rattle.wholes.specs.Ceiling.{ceilingOf}
+use Rattle.wholes.specs.Measure.{measureIn, commonMeasure}
+use Rattle.wholes.specs.Multiple.{leastMultiple, leastMultipleOf}
+use Rattle.demand.specs.Charging.{effectiveDeadline, effectiveCost, entryLoss}
+use Rattle.demand.specs.Demand.{jobs, demand}
+use Rattle.demand.specs.Supply.{supplyPast, supply}
+use Rattle.verdict.specs.Search.{firstUpTo}
+use Rattle.verdict.specs.Verdict.{failing, ownHorizon, firstFailing, verdictAt, verdictOf, passing}
+use Rattle.verdict.specs.Reserve.{enough, smallestReserve}
+use Rattle.servers.specs.Placement.{loadsIn, serversIn, takes, fit, placeFrom, placementOf}
+use Rattle.servers.specs.Reserve.{reservesUpTo, reservesOf}
+use Rattle.ring.specs.Reserves.{ringTicks, wholes}
+use Rattle.ring.specs.Serves.{RingServer, WholeProcessor}
+use Rattle.tasks.specs.declared.set.Task.{Task}
+use Rattle.tasks.specs.declared.set.TaskSet.{TaskSet}
+use Rattle.tasks.specs.Set.{setOf}
+use Rattle.tasks.specs.Rows.{some, firstFrom, countRow, twiceRow, boardRow, rangeRow, figuresOutcome, headerOverflows, taskOverflows, askRow}
+use Rattle.plan.specs.Charge.{loadOf, loadsOfSet, lossOf}
+use Rattle.plan.specs.Rows.{slotRow, tightRow, horizonOf, horizonRow, chargedOutcome}
+use Rattle.plan.specs.Plan.{setReserves}
+use Rattle.plan.specs.Planner.{needed, fullRow, planOutcome, planOf}
+use Rattle.promises.specs.Accepted.{Accepted}
+
+abbrev task : (id C : ℕ) → Task
+task id C = record { id = id; cost = C; deadline = 10; period = 10 }
+
+-- D: S 10, tasks 5/10/10, 5/10/10, 1/10/10
+abbrev pub setD : TaskSet
+setD = setOf (record { processors = 64; slot = 10; relj = 0; relo = 0; ctswo = 0; resd = 0; cpmdo = 0 }) (task 1 5 ∷ task 2 5 ∷ task 3 1 ∷ [])
+
+-- what the promises ask, met by D
+pub record WorkedD : Type 0 where
+  pub accepted : Accepted setD
+  pub reserves : setReserves setD ≡ 10 ∷ 1 ∷ []
+  pub whole : WholeProcessor 10 (setReserves setD) 1
+  pub ring : RingServer 10 (setReserves setD) 2
+
+-- each by computing
+accepted-D : Accepted setD
+unfolding setOf planOf planOutcome askRow countRow twiceRow some firstFrom boardRow rangeRow figuresOutcome headerOverflows taskOverflows chargedOutcome slotRow tightRow horizonRow horizonOf loadOf loadsOfSet lossOf setReserves needed fullRow reservesOf reservesUpTo placementOf placeFrom fit takes serversIn loadsIn smallestReserve enough passing verdictOf verdictAt firstFailing firstUpTo failing ownHorizon leastMultipleOf leastMultiple commonMeasure measureIn demand jobs supply supplyPast effectiveDeadline effectiveCost entryLoss ceilingOf ringTicks wholes
+accepted-D = refl
+
+reserves-D : setReserves setD ≡ 10 ∷ 1 ∷ []
+unfolding setOf loadOf loadsOfSet lossOf setReserves reservesOf reservesUpTo placementOf placeFrom fit takes serversIn loadsIn smallestReserve enough passing verdictOf verdictAt firstFailing firstUpTo failing ownHorizon leastMultipleOf leastMultiple commonMeasure measureIn demand jobs supply supplyPast effectiveDeadline effectiveCost entryLoss
+reserves-D = refl
+
+pub worked-D : WorkedD
+worked-D = record {
+  accepted = accepted-D;
+  reserves = reserves-D;
+  whole = subst (λ (rs : List ℕ). WholeProcessor 10 rs 1) (sym reserves-D) (record { some = omega arith; there = omega arith; whole = refl });
+  ring = subst (λ (rs : List ℕ). RingServer 10 rs 2) (sym reserves-D) (record { some = omega arith; there = omega arith; ring = omega arith });
+}
