@@ -1,0 +1,23 @@
+-- `rack::questions::numbers_of` meets its contract, by the verdict. Assumes nothing.
+use borrow.Author.Needs.{needs}
+use mathlib.Core.Path.{sym, ap}
+use Rattle.rack.specs.Rack.{verdictNumbers}
+use Rattle.rack.proofs.questions.numbers_of.Statement.{statement}
+use Rattle.rack.proofs.questions.numbers_of.Tie as tie
+use Rattle.rack.proofs.questions.numbers_of.Reads as reads
+use Rattle.rack.proofs.questions.numbers_of.Lts as lts
+
+enum-told : tie.Need-enum-told
+enum-told c = search needs
+
+enum-known-verdict : tie.Need-enum-known-verdict
+enum-known-verdict c = search needs
+
+returns : tie.Need-returns
+returns c = search needs
+
+returns-2 : tie.Need-returns-2
+returns-2 c = sym (ap verdictNumbers (c .before .verdict .given .1))
+
+pub numbers-of-spec : {M : Type 1} → statement M
+numbers-of-spec = tie.close (tie.spec enum-told enum-known-verdict returns returns-2)
