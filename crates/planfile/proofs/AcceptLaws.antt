@@ -7,9 +7,8 @@ use native.Mathlib.Nat.{min-le-left}
 use native.Mathlib.Omega.{arith}
 use lib.Dec.{leb, eqb}
 use lib.ListN.{length, length-take, length-map}
-use borrow.Author.Tests.{ltb-false, leb-true, eqb-true, eq-eqb, not-false}
+use borrow.Author.Tests.{ltb-false, leb-true, eqb-true, not-false}
 use Rattle.frames.specs.Digit.{both}
-use Rattle.frames.proofs.Cuts.{equal-same}
 use Rattle.frames.proofs.Tests.{both-left, both-right}
 use Rattle.frames.specs.declared.refusal.Outcome.{Outcome}
 use Rattle.frames.specs.declared.refusal.Outcome.the-variants.{Done, Refused}
@@ -27,8 +26,9 @@ use Rattle.plan.specs.declared.planner.PlanAnswer.{PlanAnswer}
 use Rattle.plan.specs.Charge.{loadOf, loadsOfSet, lossOf}
 use Rattle.plan.specs.Rows.{RowsClear}
 use Rattle.plan.specs.Plan.{planMade, laidOut, setReserves}
-use Rattle.plan.specs.Agrees.{agrees, sameFigures, sameServers, sameProcessors}
+use Rattle.plan.specs.Agrees.{agrees, sameFigures}
 use Rattle.plan.specs.Planner.{Clear, makes, planOutcome, planOf, isDone, needed, fullRow}
+use Rattle.plan.proofs.AgreeLaws.{agree-self}
 use Rattle.plan.proofs.Clears.{charged-clear}
 use Rattle.plan.proofs.Made.{plan-outcome, plan-is, outcome-clear, made-needs}
 use Rattle.planfile.specs.Fit.{Counted}
@@ -108,18 +108,10 @@ module _ (set : TaskSet) (plan : Plan) (m : makes set plan ≡ true) where
         processors = omega (arith, makes-ring, makes-whole, made .processors);
       }
 
-eqb-self : (n : ℕ) → eqb n n ≡ true
-eqb-self n = eq-eqb n n refl
-
--- a plan agrees with itself
-agrees-self : (n : ℕ) (plan : Plan) → agrees n plan plan ≡ true
-unfolding agrees sameFigures sameServers sameProcessors
-agrees-self n plan = simp (eqb-self, equal-same)
-
 -- the planner makes the plan that it answers
 pub answer-makes : (set : TaskSet) (a : PlanAnswer) → a ≡ planOf set → a .outcome ≡ Done → makes set (a .plan) ≡ true
 unfolding makes
-answer-makes set a made done = rw (outcome, plan) (agrees-self (set .count) (planMade set))
+answer-makes set a made done = rw (outcome, plan) (agree-self (set .count) (planMade set))
   where
     outcome : planOutcome set ≡ Done
     outcome = sym (plan-outcome set) ∙ sym (ap (λ (b : PlanAnswer). b .outcome) made) ∙ done
