@@ -1,1 +1,2 @@
 pub mod RackLaws
+pub mod RackClaims

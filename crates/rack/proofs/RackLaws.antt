@@ -1,6 +1,6 @@
 -- Laws of the answers in lent memory: a text that fits or not, the status of a refusal, numbers that have room or not.
 -- Assumes nothing.
-use Prim.Native.Nat.{ℕ, _+_, _*_, _≤_, _<_}
+use Prim.Native.Nat.{ℕ, _+_, _≤_, _<_}
 use mathlib.Core.List.{List, [], _∷_}
 use mathlib.Core.Path.{_≡_, refl, sym, _∙_, ap, subst}
 use borrow.Author.Tests.{lt-ltb, le-ltb}
@@ -18,25 +18,25 @@ use Rattle.frames.specs.declared.refusal.Written.{Written}
 use Rattle.ring.specs.declared.clock.Tick.{Tick}
 use Rattle.plan.specs.declared.question.WhoAnswer.{WhoAnswer}
 use Rattle.plan.specs.declared.question.PassAnswer.{PassAnswer}
-use Rattle.planfile.specs.Fit.{fitted, Fits}
+use Rattle.planfile.specs.Fit.{Fits}
 use Rattle.planfile.specs.Tool.{answered}
 use Rattle.planfile.specs.Asked.{whoIn, passIn}
 use Rattle.rack.specs.Rack.{bytesOf, planBytes, planLeaves, statusOf, toldOf, leavesNumbers, whoNumbers, whoTold, verdictNumbers, passNumbers, passTold}
 
--- the number of a refusal is small
-pub number-small : (r : Refusal) → numberOf r ≤ 12
-number-small (Line k) = lit≤ tt
-number-small (Order k) = lit≤ tt
-number-small (Count k) = lit≤ tt
-number-small (Twice k) = lit≤ tt
-number-small Board = lit≤ tt
-number-small (Range k) = lit≤ tt
-number-small (Slot k) = lit≤ tt
-number-small (Tight k) = lit≤ tt
-number-small Horizon = lit≤ tt
-number-small (Full k) = lit≤ tt
-number-small Ask = lit≤ tt
-number-small Room = lit≤ tt
+-- the number of a refusal is 1 to 12
+pub number-row : (r : Refusal) → (1 ≤ numberOf r) × (numberOf r ≤ 12)
+number-row (Line k) = (lit≤ tt, lit≤ tt)
+number-row (Order k) = (lit≤ tt, lit≤ tt)
+number-row (Count k) = (lit≤ tt, lit≤ tt)
+number-row (Twice k) = (lit≤ tt, lit≤ tt)
+number-row Board = (lit≤ tt, lit≤ tt)
+number-row (Range k) = (lit≤ tt, lit≤ tt)
+number-row (Slot k) = (lit≤ tt, lit≤ tt)
+number-row (Tight k) = (lit≤ tt, lit≤ tt)
+number-row Horizon = (lit≤ tt, lit≤ tt)
+number-row (Full k) = (lit≤ tt, lit≤ tt)
+number-row Ask = (lit≤ tt, lit≤ tt)
+number-row Room = (lit≤ tt, lit≤ tt)
 
 -- what the tool answered is the plan's bytes
 pub plan-told : (tasks out left : List ℕ) (w v : Written) → w ≡ v → Fits out (answered tasks) w left

@@ -4,16 +4,15 @@ use Prim.Native.Nat.{ℕ, zero, suc, _+_, _*_, _-_, _^_, _≤_, _<_, zero-le, su
 use mathlib.Core.List.{List, [], _∷_}
 use mathlib.Core.Path.{_≡_, refl, sym, _∙_, ap, subst}
 use mathlib.Core.Bool.{Bool, true, false}
-use lib.Dec.{leb, ltb}
+use lib.Dec.{leb}
 use lib.ListN.{length, getD, drop, drop-of-length-le}
 use lib.Seq.{drop-cons}
 use native.Mathlib.Numerals.{add-one}
 use mathlib.Core.Logic.{_⊎_, inl, inr, ⊎-elim}
 use native.Mathlib.Omega.{arith}
 use borrow.Author.Tests.{lt-ltb, le-ltb, lt-leb, le-leb}
-use Rattle.shell.specs.declared.number.Number.{Number}
 use Rattle.shell.specs.declared.number.Number.the-variants.{Of, Wrong}
-use Rattle.shell.specs.Decimal.{both, pickNumber, allDigits, valueFrom, numberFrom, decimalOf}
+use Rattle.shell.specs.Decimal.{both, allDigits, valueFrom, numberFrom, decimalOf}
 
 -- digits behind a number make it no smaller
 grows : (high : ℕ) (bs : List ℕ) → high ≤ valueFrom high bs

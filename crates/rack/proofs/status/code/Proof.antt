@@ -1,7 +1,7 @@
 -- `rack::status::code` meets its contract: a refusal's number is at most 12, and its place a byte. Assumes nothing.
 use Prim.Native.Nat.{_≤_, _<_}
 use native.Mathlib.Omega.{arith}
-use Rattle.rack.proofs.RackLaws.{number-small}
+use Rattle.rack.proofs.RackLaws.{number-row}
 use borrow.Author.Needs.{needs}
 use Rattle.rack.proofs.status.code.Statement.{statement}
 use Rattle.rack.proofs.status.code.Tie as tie
@@ -17,7 +17,7 @@ cast-at c = search needs
 
 -- a number of at most 12 and a place of one byte
 small : (c : tie.After-place) → (c .before .number .result ≤ 12) × (c .place .result < 256)
-small c = (omega (arith, number-small (c .before .before .args .refusal), c .before .number .ensures), omega (arith, c .place .ok))
+small c = (omega (arith, number-row (c .before .before .args .refusal) .1, c .before .number .ensures), omega (arith, c .place .ok))
 
 mul-result : tie.Need-mul-result
 mul-result c = omega (arith, small c)

@@ -1,5 +1,5 @@
 -- `rack::status::put_numbers` meets its contract: the numbers copied so far are stored, one by one. Assumes nothing.
-use Prim.Native.Nat.{ℕ, _+_, _-_, _≤_}
+use Prim.Native.Nat.{ℕ, _-_, _≤_}
 use mathlib.Core.Path.{_≡_, refl, sym, _∙_, ap}
 use mathlib.Core.List.{List}
 use borrow.Author.Needs.{needs}
