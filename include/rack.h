@@ -1,8 +1,8 @@
 /* The rack tool for C: the plan of a task file, and the two questions of a plan.
  *
  * Link with librack.a (x86-64 Linux). Every function answers every input, keeps nothing between calls,
- * allocates nothing and calls nothing but memcpy and memset. A pointer may be null where its length is 0. Lent memory is read or
- * written only within its length, and what is written must not overlap what is read.
+ * allocates nothing and calls nothing but memcpy and memset. A pointer may be null where its length is 0. Lent
+ * memory is read or written only within its length, and what is written must not overlap what is read.
  *
  * A task file is the text of document 01: one 01 line, then 02 lines, in hexadecimal. Of a longer file only the
  * first 1,534 bytes are looked at, which is more than any good file has. */
