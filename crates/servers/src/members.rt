@@ -53,7 +53,11 @@ pub fn gather<'a>(
     let mut i: usize = 0;
     while i < n {
         if server[i] == q {
-            m = with_load(m, costs[i], deadlines[i], periods[i]);
+            let at = m.count;
+            m.costs[at] = costs[i];
+            m.deadlines[at] = deadlines[i];
+            m.periods[at] = periods[i];
+            m.count = at + 1;
         }
         i += 1;
     }

@@ -2,7 +2,6 @@
 // What they mean stands in specs/Placement.antt. The server of each task stands in a slice, of which the first i are placed.
 use crate::members::gather;
 use crate::members::own_horizon;
-use crate::members::with_load;
 ghost use mathlib.Core.Path.{_≡_};
 ghost use Prim.Native.Nat.{_+_, _≤_};
 ghost use lib.ListN.{length, take};
@@ -26,7 +25,12 @@ pub fn passes_with<'a>(
     ensures { λ r. ⌜ r ≡ takes (loadsOf (now (costs .entry)) (now (deadlines .entry)) (now (periods .entry)) i) slot loss (take i (now (server .entry))) (loadAt (now (costs .entry)) (now (deadlines .entry)) (now (periods .entry)) i) q ⌝ }
 {
     let before = gather(costs, deadlines, periods, server, i, q);
-    let after = with_load(before, costs[i], deadlines[i], periods[i]);
+    let at = before.count;
+    let mut after = before;
+    after.costs[at] = costs[i];
+    after.deadlines[at] = deadlines[i];
+    after.periods[at] = periods[i];
+    after.count = at + 1;
     let horizon = own_horizon(after, slot);
     let n = after.count;
     let whole = slot;

@@ -35,6 +35,11 @@ module _ (costs deadlines periods server : List ℕ) (n : ℕ) (g : Gathered cos
   room : length (loadsIn (loadsOf costs deadlines periods i) (take i server) q) < 64
   room = omega (arith, g .few, in-few (loadsOf costs deadlines periods i) (take i server) q, loads-length costs deadlines periods i)
 
+  -- so the next place is one of the row
+  free : (m : Members) → m ≡ membersOf (loadsIn (loadsOf costs deadlines periods i) (take i server) q) → m .count < 64
+  unfolding membersOf
+  free m e = omega (arith, ap (λ (k : Members). k .count) e, room)
+
   -- the servers and the loads of one task more
   next : loadsIn (loadsOf costs deadlines periods (i + 1)) (take (i + 1) server) q ≡
       loadsIn (loadsOf costs deadlines periods i ++ (loadAt costs deadlines periods i ∷ [])) (take i server ++ (getD server i 0 ∷ [])) q
@@ -65,30 +70,72 @@ mul-if1 c = search needs
 shared-slice-read-if1 : tie.Need-shared-slice-read-if1 Inv-loop μ-loop
 shared-slice-read-if1 c = search needs
 
-mul-with-load : tie.Need-mul-with-load Inv-loop μ-loop
-mul-with-load c = search needs
+mul-m : tie.Need-mul-m Inv-loop μ-loop
+mul-m c = search needs
 
-shared-slice-read-with-load : tie.Need-shared-slice-read-with-load Inv-loop μ-loop
-shared-slice-read-with-load c = search needs
+shared-slice-read-m : tie.Need-shared-slice-read-m Inv-loop μ-loop
+shared-slice-read-m c = search needs
 
-mul-with-load-2 : tie.Need-mul-with-load-2 Inv-loop μ-loop
-mul-with-load-2 c = search needs
+mul-m-2 : tie.Need-mul-m-2 Inv-loop μ-loop
+mul-m-2 c =
+    let at = c .before .before .before .before in
+    let s = at .before in
+    let h : at .loop .m .count < 64 = free (s .args .costs .now) (s .args .deadlines .now) (s .args .periods .now) (s .args .server .now) (s .args .n) (s .pre) (s .args .q) (at .loop .i) (c .before .before .before .loop-test .taken) (at .loop .m) (at .loop .inv .1) in
+    search needs
 
-shared-slice-read-with-load-2 : tie.Need-shared-slice-read-with-load-2 Inv-loop μ-loop
-shared-slice-read-with-load-2 c = search needs
+element-write-m : tie.Need-element-write-m Inv-loop μ-loop
+element-write-m c =
+    let at = c .before .before .before .before in
+    let s = at .before in
+    let h : at .loop .m .count < 64 = free (s .args .costs .now) (s .args .deadlines .now) (s .args .periods .now) (s .args .server .now) (s .args .n) (s .pre) (s .args .q) (at .loop .i) (c .before .before .before .loop-test .taken) (at .loop .m) (at .loop .inv .1) in
+    search needs
 
-mul-with-load-3 : tie.Need-mul-with-load-3 Inv-loop μ-loop
-mul-with-load-3 c = search needs
+mul-m-3 : tie.Need-mul-m-3 Inv-loop μ-loop
+mul-m-3 c = search needs
 
-shared-slice-read-with-load-3 : tie.Need-shared-slice-read-with-load-3 Inv-loop μ-loop
-shared-slice-read-with-load-3 c = search needs
+shared-slice-read-m-2 : tie.Need-shared-slice-read-m-2 Inv-loop μ-loop
+shared-slice-read-m-2 c = search needs
 
-with-load-requires : tie.Need-with-load-requires Inv-loop μ-loop
-unfolding membersOf
-with-load-requires c κs =
+mul-m-4 : tie.Need-mul-m-4 Inv-loop μ-loop
+mul-m-4 c =
+    let at = c .before .before .before .before .before in
+    let s = at .before in
+    let h : at .loop .m .count < 64 = free (s .args .costs .now) (s .args .deadlines .now) (s .args .periods .now) (s .args .server .now) (s .args .n) (s .pre) (s .args .q) (at .loop .i) (c .before .before .before .before .loop-test .taken) (at .loop .m) (at .loop .inv .1) in
+    search needs
+
+element-write-m-2 : tie.Need-element-write-m-2 Inv-loop μ-loop
+element-write-m-2 c =
+    let at = c .before .before .before .before .before in
+    let s = at .before in
+    let h : at .loop .m .count < 64 = free (s .args .costs .now) (s .args .deadlines .now) (s .args .periods .now) (s .args .server .now) (s .args .n) (s .pre) (s .args .q) (at .loop .i) (c .before .before .before .before .loop-test .taken) (at .loop .m) (at .loop .inv .1) in
+    search needs
+
+mul-m-5 : tie.Need-mul-m-5 Inv-loop μ-loop
+mul-m-5 c = search needs
+
+shared-slice-read-m-3 : tie.Need-shared-slice-read-m-3 Inv-loop μ-loop
+shared-slice-read-m-3 c = search needs
+
+mul-m-6 : tie.Need-mul-m-6 Inv-loop μ-loop
+mul-m-6 c =
     let at = c .before .before .before .before .before .before in
-    let s = at .before .before .before .before .before in
-    omega (arith, ap (λ (m : Members). m .count) (at .loop .inv .1), room (s .args .costs .now) (s .args .deadlines .now) (s .args .periods .now) (s .args .server .now) (s .args .n) (s .pre) (s .args .q) (at .loop .i) (c .before .before .before .before .before .loop-test .taken))
+    let s = at .before in
+    let h : at .loop .m .count < 64 = free (s .args .costs .now) (s .args .deadlines .now) (s .args .periods .now) (s .args .server .now) (s .args .n) (s .pre) (s .args .q) (at .loop .i) (c .before .before .before .before .before .loop-test .taken) (at .loop .m) (at .loop .inv .1) in
+    search needs
+
+element-write-m-3 : tie.Need-element-write-m-3 Inv-loop μ-loop
+element-write-m-3 c =
+    let at = c .before .before .before .before .before .before in
+    let s = at .before in
+    let h : at .loop .m .count < 64 = free (s .args .costs .now) (s .args .deadlines .now) (s .args .periods .now) (s .args .server .now) (s .args .n) (s .pre) (s .args .q) (at .loop .i) (c .before .before .before .before .before .loop-test .taken) (at .loop .m) (at .loop .inv .1) in
+    search needs
+
+add-m : tie.Need-add-m Inv-loop μ-loop
+add-m c =
+    let at = c .before .before .before .before .before .before in
+    let s = at .before in
+    let h : at .loop .m .count < 64 = free (s .args .costs .now) (s .args .deadlines .now) (s .args .periods .now) (s .args .server .now) (s .args .n) (s .pre) (s .args .q) (at .loop .i) (c .before .before .before .before .before .loop-test .taken) (at .loop .m) (at .loop .inv .1) in
+    search needs
 
 add-i : tie.Need-add-i Inv-loop μ-loop
 add-i c = search needs
@@ -99,14 +146,14 @@ loop-less c = search needs
 loop-again : tie.Need-loop-again Inv-loop μ-loop
 loop-again c =
     let at = c .before .before .before in
-    let s = at .before .before .before .before .before in
+    let s = at .before in
     let k = joins (s .args .costs .now) (s .args .deadlines .now) (s .args .periods .now) (s .args .server .now) (s .args .n) (s .pre) (s .args .q) (at .loop .i) (c .before .before .loop-test .taken) (at .loop .m) (at .loop .inv .1) in
     let l = stays (s .args .costs .now) (s .args .deadlines .now) (s .args .periods .now) (s .args .server .now) (s .args .n) (s .pre) (s .args .q) (at .loop .i) (c .before .before .loop-test .taken) (at .loop .m) (at .loop .inv .1) in
-    (omega arith, ⊎-elim (λ w. w .5 ∙ w .4 .ensures ∙ k (w .0 .taken)) (λ w. w .1 ∙ l (w .0 .left)) (c .if1 .came))
+    (omega arith, ⊎-elim (λ w. w .4 ∙ k (w .0 .taken)) (λ w. w .1 ∙ l (w .0 .left)) (c .if1 .came))
 
 returns : tie.Need-returns Inv-loop μ-loop
 returns c =
-    let s = c .before .before .before .before .before .before in
+    let s = c .before .before in
     let e : c .before .loop .i ≡ s .args .n = omega arith in
     c .before .loop .inv .1 ∙
     ap (λ (i : ℕ). membersOf (loadsIn (loadsOf (s .args .costs .now) (s .args .deadlines .now) (s .args .periods .now) i) (take i (s .args .server .now)) (s .args .q))) e
@@ -120,13 +167,19 @@ gather-spec =
     loop-holds
     mul-if1
     shared-slice-read-if1
-    mul-with-load
-    shared-slice-read-with-load
-    mul-with-load-2
-    shared-slice-read-with-load-2
-    mul-with-load-3
-    shared-slice-read-with-load-3
-    with-load-requires
+    mul-m
+    shared-slice-read-m
+    mul-m-2
+    element-write-m
+    mul-m-3
+    shared-slice-read-m-2
+    mul-m-4
+    element-write-m-2
+    mul-m-5
+    shared-slice-read-m-3
+    mul-m-6
+    element-write-m-3
+    add-m
     add-i
     loop-less
     loop-again

@@ -1,7 +1,7 @@
 -- `passes_with` meets its contract: the gathered loads with the task added are a part of the file, so their own horizon decides.
 -- Assumes nothing.
 use Prim.Native.Nat.{ℕ, _+_, _<_}
-use mathlib.Core.Path.{refl, ap, _∙_}
+use mathlib.Core.Path.{_≡_, refl, ap, _∙_}
 use mathlib.Core.Logic.{inr}
 use mathlib.Core.List.{List, [], _∷_, _++_}
 use borrow.Author.Needs.{needs}
@@ -10,7 +10,7 @@ use lib.ListN.{length, take}
 use Rattle.demand.specs.Load.{Load, loadAt, loadsOf}
 use Rattle.demand.proofs.Demand.{loads-length}
 use Rattle.verdict.specs.Verdict.{passing}
-use Rattle.servers.specs.Members.{membersOf, Sized}
+use Rattle.servers.specs.Members.{membersOf, withLoad, Sized}
 use Rattle.servers.specs.Placement.{loadsIn, takes}
 use Rattle.servers.specs.declared.members.Members.{Members}
 use Rattle.servers.proofs.LoadLaws.{in-few}
@@ -23,67 +23,112 @@ room : (costs deadlines periods placement : List ℕ) (i q S L : ℕ) → Sized 
 room costs deadlines periods placement i q S L file =
     omega (arith, file .bounded .few, in-few (loadsOf costs deadlines periods i) placement q, loads-length costs deadlines periods i)
 
+-- so the next place is one of the row
+free : (m : Members) (costs deadlines periods placement : List ℕ) (i q S L : ℕ) → Sized costs deadlines periods (i + 1) S L →
+    m ≡ membersOf (loadsIn (loadsOf costs deadlines periods i) placement q) → m .count < 64
+unfolding membersOf
+free m costs deadlines periods placement i q S L file e =
+    omega (arith, ap (λ (k : Members). k .count) e, room costs deadlines periods placement i q S L file)
+
 gather-requires : tie.Need-gather-requires
 gather-requires c κs = search needs
 
-mul-with-load : tie.Need-mul-with-load
-mul-with-load c = search needs
+mul-after : tie.Need-mul-after
+mul-after c = search needs
 
-shared-slice-read-with-load : tie.Need-shared-slice-read-with-load
-shared-slice-read-with-load c = search needs
+shared-slice-read-after : tie.Need-shared-slice-read-after
+shared-slice-read-after c = search needs
 
-mul-with-load-2 : tie.Need-mul-with-load-2
-mul-with-load-2 c = search needs
+mul-after-2 : tie.Need-mul-after-2
+mul-after-2 c =
+    let s = c .before .before .before .before .before .before in
+    let h : c .before .gather .result .count < 64 = free (c .before .gather .result) _ _ _ _ (s .args .i) (s .args .q) _ _ (s .pre .0) (c .before .gather .ensures) in
+    search needs
 
-shared-slice-read-with-load-2 : tie.Need-shared-slice-read-with-load-2
-shared-slice-read-with-load-2 c = search needs
+element-write-after : tie.Need-element-write-after
+element-write-after c =
+    let s = c .before .before .before .before .before .before in
+    let h : c .before .gather .result .count < 64 = free (c .before .gather .result) _ _ _ _ (s .args .i) (s .args .q) _ _ (s .pre .0) (c .before .gather .ensures) in
+    search needs
 
-mul-with-load-3 : tie.Need-mul-with-load-3
-mul-with-load-3 c = search needs
+mul-after-3 : tie.Need-mul-after-3
+mul-after-3 c = search needs
 
-shared-slice-read-with-load-3 : tie.Need-shared-slice-read-with-load-3
-shared-slice-read-with-load-3 c = search needs
+shared-slice-read-after-2 : tie.Need-shared-slice-read-after-2
+shared-slice-read-after-2 c = search needs
 
-with-load-requires : tie.Need-with-load-requires
-unfolding membersOf
-with-load-requires c κs =
+mul-after-4 : tie.Need-mul-after-4
+mul-after-4 c =
+    let s = c .before .before .before .before .before .before .before in
+    let h : c .before .before .gather .result .count < 64 = free (c .before .before .gather .result) _ _ _ _ (s .args .i) (s .args .q) _ _ (s .pre .0) (c .before .before .gather .ensures) in
+    search needs
+
+element-write-after-2 : tie.Need-element-write-after-2
+element-write-after-2 c =
+    let s = c .before .before .before .before .before .before .before in
+    let h : c .before .before .gather .result .count < 64 = free (c .before .before .gather .result) _ _ _ _ (s .args .i) (s .args .q) _ _ (s .pre .0) (c .before .before .gather .ensures) in
+    search needs
+
+mul-after-5 : tie.Need-mul-after-5
+mul-after-5 c = search needs
+
+shared-slice-read-after-3 : tie.Need-shared-slice-read-after-3
+shared-slice-read-after-3 c = search needs
+
+mul-after-6 : tie.Need-mul-after-6
+mul-after-6 c =
     let s = c .before .before .before .before .before .before .before .before in
-    omega (arith, ap (λ (m : Members). m .count) (c .before .before .before .gather .ensures), room _ _ _ (take (s .args .i) (s .args .server .now)) (s .args .i) (s .args .q) _ _ (s .pre .0))
+    let h : c .before .before .before .gather .result .count < 64 = free (c .before .before .before .gather .result) _ _ _ _ (s .args .i) (s .args .q) _ _ (s .pre .0) (c .before .before .before .gather .ensures) in
+    search needs
+
+element-write-after-3 : tie.Need-element-write-after-3
+element-write-after-3 c =
+    let s = c .before .before .before .before .before .before .before .before in
+    let h : c .before .before .before .gather .result .count < 64 = free (c .before .before .before .gather .result) _ _ _ _ (s .args .i) (s .args .q) _ _ (s .pre .0) (c .before .before .before .gather .ensures) in
+    search needs
+
+add-after : tie.Need-add-after
+add-after c =
+    let s = c .before .before .before .before .before .before .before .before in
+    let h : c .before .before .before .gather .result .count < 64 = free (c .before .before .before .gather .result) _ _ _ _ (s .args .i) (s .args .q) _ _ (s .pre .0) (c .before .before .before .gather .ensures) in
+    search needs
 
 -- the server before the task joins, and with it
-module _ (c : tie.After-with-load) where
+module _ (c : tie.After-shared-slice-known7) where
   abbrev start : tie.Start
-  start = c .before .before .before .before .before .before .before .before .before
+  start = c .before .before .before .before .before .before .before .before
 
   abbrev inside : List Load
   inside = loadsIn (loadsOf (start .args .costs .now) (start .args .deadlines .now) (start .args .periods .now) (start .args .i)) (take (start .args .i) (start .args .server .now)) (start .args .q)
 
-  before : Holds (start .args .costs .now) (start .args .deadlines .now) (start .args .periods .now) (start .args .i + 1) (start .args .slot) (c .before .before .before .before .gather .result) inside
-  before = holds-gathered (start .pre .0) _ _ _ _ (omega arith) (c .before .before .before .before .gather .ensures)
+  abbrev joining : Load
+  joining = loadAt (start .args .costs .now) (start .args .deadlines .now) (start .args .periods .now) (start .args .i)
 
-  after : Holds (start .args .costs .now) (start .args .deadlines .now) (start .args .periods .now) (start .args .i + 1) (start .args .slot) (c .with-load .result)
-      (inside ++ (loadAt (start .args .costs .now) (start .args .deadlines .now) (start .args .periods .now) (start .args .i) ∷ []))
+  before : Holds (start .args .costs .now) (start .args .deadlines .now) (start .args .periods .now) (start .args .i + 1) (start .args .slot) (c .before .before .before .gather .result) inside
+  before = holds-gathered (start .pre .0) _ _ _ _ (omega arith) (c .before .before .before .gather .ensures)
+
+  after : Holds (start .args .costs .now) (start .args .deadlines .now) (start .args .periods .now) (start .args .i + 1) (start .args .slot) (withLoad (c .before .before .before .gather .result) joining) (inside ++ (joining ∷ []))
   after =
-      holds-with (start .pre .0) (start .args .i) (c .with-load .result) (omega arith)
-      (room _ _ _ (take (start .args .i) (start .args .server .now)) (start .args .i) (start .args .q) _ _ (start .pre .0)) before (c .with-load .ensures)
+      holds-with (start .pre .0) (start .args .i) (withLoad (c .before .before .before .gather .result) joining) (omega arith)
+      (room _ _ _ (take (start .args .i) (start .args .server .now)) (start .args .i) (start .args .q) _ _ (start .pre .0)) before refl
 
 -- both have a horizon; the one that is asked for below is that with the task
 own-horizon-requires : tie.Need-own-horizon-requires
 own-horizon-requires c κs =
-    let without = holds-sized (c .before .before .before .before .before .before .before .before .before .pre .0) (before c) .bounded in
-    let joined = holds-sized (c .before .before .before .before .before .before .before .before .before .pre .0) (after c) .bounded in
+    let without = holds-sized (c .before .before .before .before .before .before .before .before .pre .0) (before c) .bounded in
+    let joined = holds-sized (c .before .before .before .before .before .before .before .before .pre .0) (after c) .bounded in
     search needs
 
 passes-requires : tie.Need-passes-requires
 passes-requires c κs =
-    let w = holds-sized (c .before .before .before .before .before .before .before .before .before .before .before .before .before .before .before .before .before .pre .0) (after (c .before .before .before .before .before .before .before .before)) in
+    let w = holds-sized (c .before .before .before .before .before .before .before .before .before .before .before .before .before .before .before .before .pre .0) (after (c .before .before .before .before .before .before .before .before)) in
     let h = c .before .before .before .before .before .before .before .own-horizon in
     (w .bounded .loaded, (testable w (h .result) (h .ensures), inr refl))
 
 returns : tie.Need-returns
 unfolding takes
 returns c =
-    let s = c .before .before .before .before .before .before .before .before .before .before .before .before .before .before .before .before .before .before in
+    let s = c .before .before .before .before .before .before .before .before .before .before .before .before .before .before .before .before .before in
     c .passes .ensures ∙ ap (λ (ks : List Load). passing ks (s .args .slot) (s .args .loss) (s .args .slot)) (holds-loads (after (c .before .before .before .before .before .before .before .before .before)))
 
 pub passes-with-spec : {M : Type 1} → statement M
@@ -91,13 +136,19 @@ passes-with-spec =
     tie.close
     (tie.spec
     gather-requires
-    mul-with-load
-    shared-slice-read-with-load
-    mul-with-load-2
-    shared-slice-read-with-load-2
-    mul-with-load-3
-    shared-slice-read-with-load-3
-    with-load-requires
+    mul-after
+    shared-slice-read-after
+    mul-after-2
+    element-write-after
+    mul-after-3
+    shared-slice-read-after-2
+    mul-after-4
+    element-write-after-2
+    mul-after-5
+    shared-slice-read-after-3
+    mul-after-6
+    element-write-after-3
+    add-after
     own-horizon-requires
     passes-requires
     returns)
