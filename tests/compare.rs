@@ -166,6 +166,21 @@ fn short_buffers() {
     }
 }
 
+// 64 servers, the most there can be: the whole tool runs on a stack of 64 KiB.
+fn small_stack() {
+    let mut set = Set { m: 64, s: 1440, ..Set::default() };
+    for i in 0..64 {
+        let t = [14400, 15840, 20160, 25200, 27720, 30240, 33264, 43200][i as usize % 8];
+        set.tasks.push(Task { id: i, c: t / 2 + 1, d: t, t });
+    }
+    let file = oracle::file(&set).into_bytes();
+    let run = move || (plan_text(&file), who(&file, 33, u64::MAX), pass(&file, 64, 1440));
+    let thread = std::thread::Builder::new().stack_size(64 * 1024).spawn(run).unwrap();
+    let (text, who, pass) = thread.join().unwrap();
+    assert_eq!(text.len(), 23 + 64 * 21 + 64 * 7 + 33 * 13);
+    assert_eq!((who.0, pass), (0, (0, [1, 0, 0, 0])));
+}
+
 fn who_runs() {
     let mut random = Random(14);
     let mut asked = 0;
@@ -253,12 +268,13 @@ fn one_processor_a_server() {
 }
 
 fn main() {
-    let tests: [(&str, fn()); 8] = [
+    let tests: [(&str, fn()); 9] = [
         ("examples", examples),
         ("good files", good_files),
         ("damaged files", damaged_files),
         ("long files", long_files),
         ("short buffers", short_buffers),
+        ("small stack", small_stack),
         ("who runs", who_runs),
         ("does it pass", does_pass),
         ("one processor a server", one_processor_a_server),
