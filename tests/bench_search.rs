@@ -1,5 +1,8 @@
 // The search for a short length: the proved descent against a plain walk over all steps, on the same servers in one run.
 // Evaluations of demand are counted in a Rust copy of the descent, whose answers are held to the proved one's.
+mod random;
+
+use random::Random;
 use std::collections::BTreeSet;
 use std::time::Instant;
 
@@ -87,21 +90,6 @@ impl Server {
     }
 }
 
-struct Random(u64);
-
-impl Random {
-    fn next(&mut self) -> u64 {
-        self.0 ^= self.0 << 13;
-        self.0 ^= self.0 >> 7;
-        self.0 ^= self.0 << 17;
-        self.0
-    }
-
-    fn within(&mut self, low: u64, high: u64) -> u64 {
-        low + self.next() % (high - low + 1)
-    }
-}
-
 fn divisors(h: u64, low: u64, high: u64) -> Vec<u64> {
     (low..=high).filter(|d| h % d == 0).collect()
 }
@@ -113,7 +101,7 @@ fn server(random: &mut Random, name: &'static str, n: usize, share: u64, slot: u
     let periods_of = divisors(H, 2_000, 1_000_000);
     let mut s = Server { name, costs: vec![], deadlines: vec![], periods: vec![], slot, gap, horizon: H };
     for _ in 0..n {
-        let period = periods_of[random.within(0, periods_of.len() as u64 - 1) as usize];
+        let period = random.one(&periods_of);
         let cost = (period * share / 1000 / n as u64).max(1);
         s.periods.push(period);
         s.costs.push(cost);

@@ -1,8 +1,10 @@
 // The proved tool, through its C interface, held to the independent account on many files, good and damaged.
 // Each test prints its name; the last line counts them.
 mod oracle;
+mod random;
 
 use oracle::{Set, Task};
+use random::Random;
 
 extern "C" {
     fn rack_plan(tasks: *const u8, tasks_len: usize, out: *mut u8, out_len: usize) -> usize;
@@ -28,25 +30,6 @@ fn pass(file: &[u8], server: u64, reserve: u64) -> (u64, [u64; 4]) {
     let mut answer = [0xA5; 4];
     let refusal = unsafe { rack_pass(file.as_ptr(), file.len(), server, reserve, answer.as_mut_ptr(), 4) };
     (refusal, answer)
-}
-
-struct Random(u64);
-
-impl Random {
-    fn next(&mut self) -> u64 {
-        self.0 ^= self.0 << 13;
-        self.0 ^= self.0 >> 7;
-        self.0 ^= self.0 << 17;
-        self.0
-    }
-
-    fn within(&mut self, low: u64, high: u64) -> u64 {
-        low + self.next() % (high - low + 1)
-    }
-
-    fn one(&mut self, of: &[u64]) -> u64 {
-        of[self.within(0, of.len() as u64 - 1) as usize]
-    }
 }
 
 // A set that mostly has a plan: periods over a small horizon, a slot that divides it.
