@@ -6,6 +6,5 @@ pub mod ToolLaws
 pub mod FileClaims
 pub mod Examples
 pub mod Horizons
-pub mod AtoL
 pub mod Tells
 pub mod FieldLaws

@@ -5,3 +5,4 @@ pub mod AcceptLaws
 pub mod PrintLaws
 pub mod Theorems
 pub mod Worked
+pub mod AtoL
