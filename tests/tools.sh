@@ -17,7 +17,7 @@ tools() {
     RUN=()
     return
   fi
-  have x86_64-linux-gnu-gcc || install gcc-x86-64-linux-gnu
+  have x86_64-linux-gnu-gcc || install gcc-x86-64-linux-gnu libc6-dev-amd64-cross
   have qemu-x86_64 || install qemu-user
   if [ ! -d /usr/lib/rustlib/x86_64-unknown-linux-gnu ]; then
     dpkg --add-architecture amd64
