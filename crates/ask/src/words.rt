@@ -1,12 +1,12 @@
 // The answer to a question in one line of plain words, or the 1F line of its refusal, on standard output.
 // Each function answers whether all of it was written.
-use frames::refusal::Outcome;
-use frames::refusal::Refusal;
-use frames::refusal::Written;
 use libc::STDOUT_FILENO;
 use planfile::asked::pass_in;
 use planfile::asked::who_in;
 use planfile::fit::fit_refusal;
+use refusals::Outcome;
+use refusals::Refusal;
+use refusals::Written;
 use ring::clock::Tick;
 use shell::front::front;
 use verdict::answer::Reading;

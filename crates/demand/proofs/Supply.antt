@@ -2,12 +2,12 @@
 -- Assumes nothing.
 use Prim.Native.Nat.{ℕ, _+_, _*_, _-_, _/_, _%_, _≤_, _<_}
 use mathlib.Core.Path.{_≡_, ap, ap₂, sym, _∙_}
+use mathlib.Core.Bool.{cond}
 use mathlib.Core.Logic.{⊎-elim}
 use native.Mathlib.Nat.{add-assoc, add-le-add, mul-le-mul-left, sub-le, sub-le-sub-left, le-dest, le-trans, le-add-right, le-of-eq, mod-lt, sub-eq-zero-of-le, sub-zero, div-add-mod', div-mul-le-self}
 use native.Mathlib.Omega.{arith}
 use lib.Arith.{digits-div, digits-mod}
 use lib.Dec.{leb}
-use Rattle.demand.specs.Demand.{pick}
 use Rattle.demand.specs.Supply.{Ring, Allowed, gap, supplyPast, supply}
 use Rattle.demand.proofs.Cases.{le-or-lt, eq-or-ne, by-slots, pick-le, pick-lt, pick-eq, pick-ne}
 
@@ -64,18 +64,18 @@ supply-gap S L R t h =
     (λ (n : R ≡ S → ⊥). supply-part S L R t n ∙ sym (ap (λ (f : ℕ). supplyPast S f t) (gap-part S L R n)))
     (eq-or-ne R S)
 
-step-inside : (a f x : ℕ) → a + (x + 1 - f) ≡ a + (x - f) + pick (leb f x) 1 0
+step-inside : (a f x : ℕ) → a + (x + 1 - f) ≡ a + (x - f) + cond (leb f x) 1 0
 step-inside a f x =
     ⊎-elim (λ (p : f ≤ x). omega (arith, pick-le 1 0 p)) (λ (p : x < f). omega (arith, pick-lt 1 0 p)) (le-or-lt f x)
 
-step-over : (a S f x : ℕ) → x + 1 ≡ S → a + (S - f) ≡ a + (x - f) + pick (leb f x) 1 0
+step-over : (a S f x : ℕ) → x + 1 ≡ S → a + (S - f) ≡ a + (x - f) + cond (leb f x) 1 0
 step-over a S f x e =
     ⊎-elim (λ (p : f ≤ x). omega (arith, pick-le 1 0 p)) (λ (p : x < f). omega (arith, pick-lt 1 0 p)) (le-or-lt f x)
 
 one-more : (k u f : ℕ) → (k + 1) * u + (0 - f) ≡ k * u + u
 one-more k u f = omega arith
 
-step-slots : (S f k x : ℕ) → x < S → supplyPast S f (k * S + x + 1) ≡ k * (S - f) + (x - f) + pick (leb f x) 1 0
+step-slots : (S f k x : ℕ) → x < S → supplyPast S f (k * S + x + 1) ≡ k * (S - f) + (x - f) + cond (leb f x) 1 0
 step-slots S f k x h =
     ⊎-elim
     (λ (p : S ≤ x + 1).
@@ -86,10 +86,10 @@ step-slots S f k x h =
     (le-or-lt S (x + 1))
 
 -- one tick more is usable or not, by its place in the slot: supply counts the i < t with f ≤ i % S
-pub supply-step : (S f t : ℕ) → 1 ≤ S → supplyPast S f (t + 1) ≡ supplyPast S f t + pick (leb f (t % S)) 1 0
+pub supply-step : (S f t : ℕ) → 1 ≤ S → supplyPast S f (t + 1) ≡ supplyPast S f t + cond (leb f (t % S)) 1 0
 supply-step S f t h =
-    by-slots (λ (t : ℕ). supplyPast S f (t + 1) ≡ supplyPast S f t + pick (leb f (t % S)) 1 0) S h
-    (λ k x p. step-slots S f k x p ∙ sym (ap₂ (λ (a m : ℕ). a + pick (leb f m) 1 0) (supply-slots S f k p) (digits-mod k p)))
+    by-slots (λ (t : ℕ). supplyPast S f (t + 1) ≡ supplyPast S f t + cond (leb f (t % S)) 1 0) S h
+    (λ k x p. step-slots S f k x p ∙ sym (ap₂ (λ (a m : ℕ). a + cond (leb f m) 1 0) (supply-slots S f k p) (digits-mod k p)))
     t
 
 turn-sums : (q k u y : ℕ) → (q + k) * u + y ≡ q * u + y + k * u

@@ -2,17 +2,13 @@
 -- Document 01, "Demand, supply, and the report's test".
 use Prim.Native.Nat.{ℕ, _+_, _*_, _-_, _/_}
 use mathlib.Core.List.{List, [], _∷_}
-use mathlib.Core.Bool.{Bool, true, false}
+use mathlib.Core.Bool.{Bool, true, false, cond}
 use lib.Dec.{leb}
 use Rattle.demand.specs.Load.{Load}
 
-abbrev pub pick : Bool → ℕ → ℕ → ℕ
-pick true a b = a
-pick false a b = b
-
 -- max(0, floor((t − d)/T) + 1): the jobs whose release and deadline both lie in a window of t
 unfoldable pub jobs : (d T t : ℕ) → ℕ
-jobs d T t = pick (leb d t) ((t - d) / T + 1) 0
+jobs d T t = cond (leb d t) ((t - d) / T + 1) 0
 
 -- the sum over the loads of c · jobs
 unfoldable pub demand : List Load → ℕ → ℕ

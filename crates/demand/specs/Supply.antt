@@ -2,9 +2,9 @@
 -- Document 01, "Demand, supply, and the report's test".
 use Prim.Native.Nat.{ℕ, _+_, _*_, _-_, _/_, _%_, _≤_}
 use mathlib.Core.Path.{_≡_}
+use mathlib.Core.Bool.{cond}
 use mathlib.Core.Logic.{_⊎_}
 use lib.Dec.{eqb}
-use Rattle.demand.specs.Demand.{pick}
 
 -- L + 1 ≤ R ≤ S − 1
 pub record Ring (S L R : ℕ) : Type 0 where
@@ -17,7 +17,7 @@ Allowed S L R = Ring S L R ⊎ (R ≡ S)
 
 -- f = S − R + L for a ring reserve: the longest stretch with nothing usable. A whole processor has none.
 unfoldable pub gap : (S L R : ℕ) → ℕ
-gap S L R = pick (eqb R S) 0 (S - R + L)
+gap S L R = cond (eqb R S) 0 (S - R + L)
 
 -- with t = kS + x and 0 ≤ x < S: k·(S − f) + max(0, x − f)
 unfoldable pub supplyPast : (S f t : ℕ) → ℕ
@@ -25,4 +25,4 @@ supplyPast S f t = t / S * (S - f) + (t % S - f)
 
 -- supply at t of a ring reserve; t itself for R = S
 unfoldable pub supply : (S L R t : ℕ) → ℕ
-supply S L R t = pick (eqb R S) t (supplyPast S (S - R + L) t)
+supply S L R t = cond (eqb R S) t (supplyPast S (S - R + L) t)

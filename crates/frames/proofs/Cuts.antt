@@ -2,28 +2,28 @@
 -- Assumes nothing.
 use Prim.Native.Nat.{ℕ}
 use mathlib.Core.Path.{_≡_, refl, _∙_, ap, ap₂}
-use mathlib.Core.Bool.{Bool, true, false}
+use mathlib.Core.Bool.{Bool, true, false, cond, _||_}
 use mathlib.Core.List.{List, [], _∷_, _++_}
 use lib.Dec.{eqb}
 use borrow.Author.Tests.{eqb-true, eq-eqb}
-use Rattle.frames.specs.Digit.{either, allLegal}
-use Rattle.frames.specs.Line.{LF, pickBytes, line, after, closed, same}
-use Rattle.frames.proofs.Tests.{both-left, both-right, both-true}
-use Rattle.frames.proofs.Digits.{legal-not-LF, legal-head, legal-tail}
+use Rattle.digits.specs.Digit.{allLegal}
+use Rattle.frames.specs.Line.{LF, line, after, closed, same}
+use Rattle.digits.proofs.Tests.{both-left, both-right, both-true}
+use Rattle.digits.proofs.Digits.{legal-not-LF, legal-head, legal-tail}
 
 -- legal digits and an LF: the first line is the digits, it is closed, and what follows comes after it
 pub line-cut : (ds rest : List ℕ) → allLegal ds ≡ true → line (ds ++ (LF ∷ rest)) ≡ ds
 unfolding line
 line-cut [] rest p = refl
 line-cut (d ∷ ds) rest p =
-    ap (λ (t : Bool). pickBytes t [] (d ∷ line (ds ++ (LF ∷ rest)))) (legal-not-LF d (legal-head d ds p))
+    ap (λ (t : Bool). cond t [] (d ∷ line (ds ++ (LF ∷ rest)))) (legal-not-LF d (legal-head d ds p))
     ∙ ap (λ (l : List ℕ). d ∷ l) (line-cut ds rest (legal-tail d ds p))
 
 pub after-cut : (ds rest : List ℕ) → allLegal ds ≡ true → after (ds ++ (LF ∷ rest)) ≡ rest
 unfolding after
 after-cut [] rest p = refl
 after-cut (d ∷ ds) rest p =
-    ap (λ (t : Bool). pickBytes t (ds ++ (LF ∷ rest)) (after (ds ++ (LF ∷ rest)))) (legal-not-LF d (legal-head d ds p))
+    ap (λ (t : Bool). cond t (ds ++ (LF ∷ rest)) (after (ds ++ (LF ∷ rest)))) (legal-not-LF d (legal-head d ds p))
     ∙ after-cut ds rest (legal-tail d ds p)
 
 pub closed-cut : (ds rest : List ℕ) → closed (ds ++ (LF ∷ rest)) ≡ true
@@ -31,7 +31,7 @@ unfolding closed
 closed-cut [] rest = refl
 closed-cut (d ∷ ds) rest = rw (closed-cut ds rest) (either-right (eqb d LF))
   where
-    either-right : (t : Bool) → either t true ≡ true
+    either-right : (t : Bool) → (t || true) ≡ true
     either-right true = refl
     either-right false = refl
 
@@ -41,8 +41,8 @@ unfolding closed line after
 closed-split [] p = cc
 closed-split (b ∷ bs) p = go (eqb b LF) refl p (closed-split bs)
   where
-    go : (t : Bool) → eqb b LF ≡ t → either t (closed bs) ≡ true → (closed bs ≡ true → bs ≡ line bs ++ (LF ∷ after bs))
-        → b ∷ bs ≡ pickBytes t [] (b ∷ line bs) ++ (LF ∷ pickBytes t bs (after bs))
+    go : (t : Bool) → eqb b LF ≡ t → (t || closed bs) ≡ true → (closed bs ≡ true → bs ≡ line bs ++ (LF ∷ after bs))
+        → b ∷ bs ≡ cond t [] (b ∷ line bs) ++ (LF ∷ cond t bs (after bs))
     go true e q ih = ap (λ (n : ℕ). n ∷ bs) (eqb-true b LF e)
     go false e q ih = ap (λ (l : List ℕ). b ∷ l) (ih q)
 

@@ -8,13 +8,14 @@ use native.Mathlib.Numerals.{add-one}
 use native.Mathlib.Omega.{arith}
 use lib.ListN.{length, take, drop, getD, length-append, length-drop}
 use lib.Seq.{length-take-le, take-at, drop-append-add, take-add}
-use Rattle.frames.specs.Digit.{allLegal}
-use Rattle.frames.specs.Number.{number, hex}
+use Rattle.digits.specs.Digit.{allLegal}
+use Rattle.digits.specs.Number.{number, hex}
 use Rattle.frames.specs.Table.{sum}
-use Rattle.frames.specs.Line.{fields, stored}
-use Rattle.frames.proofs.Digits.{legal-append, legal-take, legal-drop}
-use Rattle.frames.proofs.Stored.{stored-stored}
-use Rattle.frames.proofs.Numbers.{hex-length, hex-legal, hex-number, part-legal}
+use Rattle.frames.specs.Line.{fields}
+use Rattle.digits.specs.Stored.{stored}
+use Rattle.digits.proofs.Digits.{legal-append, legal-take, legal-drop}
+use Rattle.digits.proofs.Stored.{stored-stored}
+use Rattle.digits.proofs.Numbers.{hex-length, hex-legal, hex-number, part-legal}
 use Rattle.frames.proofs.Tables.{sum-take, sum-front}
 
 -- the fields' digits: as many as the widths say, and legal

@@ -2,7 +2,7 @@
 -- Assumes nothing.
 use Prim.Native.Nat.{ℕ, suc, _+_, _^_, _≤_, _<_}
 use mathlib.Core.Path.{_≡_, sym, _∙_, ap, ap₂, subst}
-use mathlib.Core.Bool.{Bool, true, false}
+use mathlib.Core.Bool.{Bool, true, false, _&&_}
 use mathlib.Core.List.{List, _∷_, _++_}
 use native.Mathlib.Omega.{arith}
 use lib.Dec.{ltb, eqb}
@@ -11,13 +11,13 @@ use lib.Seq.{length-take-le, take-at, getD-at, take-take, split-at, take-append-
 use borrow.Author.Tests.{eqb-true, eq-eqb, ltb-true, lt-ltb}
 use Rattle.frames.specs.declared.table.Frame.{Frame}
 use Rattle.frames.specs.declared.table.Frame.the-variants.{Header, Task}
-use Rattle.frames.specs.Digit.{both, allLegal}
-use Rattle.frames.specs.Number.{number}
+use Rattle.digits.specs.Digit.{allLegal}
+use Rattle.digits.specs.Number.{number}
 use Rattle.frames.specs.Table.{kindOf, widthOf, placeOf, lengthOf}
 use Rattle.frames.specs.Line.{LF, line, after, closed, same, formed, fieldOf}
-use Rattle.frames.proofs.Tests.{both-left, both-right, both-true, both-ways, cannot-pass}
-use Rattle.frames.proofs.Digits.{legal-take, legal-drop}
-use Rattle.frames.proofs.Numbers.{number-below}
+use Rattle.digits.proofs.Tests.{both-left, both-right, both-true, both-ways, cannot-pass}
+use Rattle.digits.proofs.Digits.{legal-take, legal-drop}
+use Rattle.digits.proofs.Numbers.{number-below}
 use Rattle.frames.proofs.Tables.{place-within}
 use Rattle.frames.proofs.Cuts.{line-cut, closed-cut, closed-split, same-equal, equal-same}
 
@@ -27,11 +27,11 @@ module _ (frame : Frame) (text : List ℕ) (f : formed frame text ≡ true) wher
   unfolding formed
   formed-closed = both-left (closed text) _ f
 
-  rest₁ : both (eqb (length (line text)) (lengthOf frame)) (both (same (take 2 (line text)) (kindOf frame)) (allLegal (line text))) ≡ true
+  rest₁ : (eqb (length (line text)) (lengthOf frame) && (same (take 2 (line text)) (kindOf frame) && allLegal (line text))) ≡ true
   unfolding formed
   rest₁ = both-right (closed text) _ f
 
-  rest₂ : both (same (take 2 (line text)) (kindOf frame)) (allLegal (line text)) ≡ true
+  rest₂ : (same (take 2 (line text)) (kindOf frame) && allLegal (line text)) ≡ true
   rest₂ = both-right (eqb (length (line text)) (lengthOf frame)) _ rest₁
 
   pub formed-size : length (line text) ≡ lengthOf frame
@@ -107,9 +107,9 @@ made-formed frame ds rest n k l =
 -- the test that a program makes: enough bytes, the LF at its place, the kind, and legal digits before the LF
 abbrev pub shaped : Frame → List ℕ → Bool
 shaped frame text =
-    both (ltb (lengthOf frame) (length text))
-    (both (eqb (getD text (lengthOf frame) 0) LF)
-    (both (same (take 2 text) (kindOf frame)) (allLegal (take (lengthOf frame) text))))
+    ltb (lengthOf frame) (length text) &&
+    (eqb (getD text (lengthOf frame) 0) LF &&
+    (same (take 2 text) (kindOf frame) && allLegal (take (lengthOf frame) text)))
 
 pub formed-same : (frame : Frame) (text : List ℕ) → formed frame text ≡ true → same (take 2 text) (kindOf frame) ≡ true
 formed-same frame text f =
@@ -129,10 +129,10 @@ shaped-formed frame text s =
     ap (formed frame) whole
     ∙ made-formed frame (take (lengthOf frame) text) (drop (suc (lengthOf frame)) text) (length-take-le (lengthOf frame) text (omega (arith, long))) kind digits
   where
-    s₁ : both (eqb (getD text (lengthOf frame) 0) LF) (both (same (take 2 text) (kindOf frame)) (allLegal (take (lengthOf frame) text))) ≡ true
+    s₁ : (eqb (getD text (lengthOf frame) 0) LF && (same (take 2 text) (kindOf frame) && allLegal (take (lengthOf frame) text))) ≡ true
     s₁ = both-right (ltb (lengthOf frame) (length text)) _ s
 
-    s₂ : both (same (take 2 text) (kindOf frame)) (allLegal (take (lengthOf frame) text)) ≡ true
+    s₂ : (same (take 2 text) (kindOf frame) && allLegal (take (lengthOf frame) text)) ≡ true
     s₂ = both-right (eqb (getD text (lengthOf frame) 0) LF) _ s₁
 
     long : lengthOf frame < length text
@@ -158,9 +158,9 @@ formed-is frame text = both-ways (formed frame text) (shaped frame text) (formed
 pub formed-prefix : (frame : Frame) (n : ℕ) (text : List ℕ) → lengthOf frame + 1 ≤ n → formed frame (take n text) ≡ formed frame text
 formed-prefix frame n text h =
     formed-is frame (take n text)
-    ∙ ap₂ both long
-    (ap₂ both (ap (λ (v : ℕ). eqb v LF) (getD-take n text (lengthOf frame) 0 (omega arith)))
-    (ap₂ both (ap (λ (l : List ℕ). same l (kindOf frame)) (take-take 2 n text (omega arith))) (ap allLegal (take-take (lengthOf frame) n text (omega arith)))))
+    ∙ ap₂ _&&_ long
+    (ap₂ _&&_ (ap (λ (v : ℕ). eqb v LF) (getD-take n text (lengthOf frame) 0 (omega arith)))
+    (ap₂ _&&_ (ap (λ (l : List ℕ). same l (kindOf frame)) (take-take 2 n text (omega arith))) (ap allLegal (take-take (lengthOf frame) n text (omega arith)))))
     ∙ sym (formed-is frame text)
   where
     long : ltb (lengthOf frame) (length (take n text)) ≡ ltb (lengthOf frame) (length text)

@@ -1,10 +1,6 @@
 pub mod Cuts
-pub mod Digits
 pub mod Fields
 pub mod Formed
 pub mod Lines
-pub mod Numbers
 pub mod Places
-pub mod Stored
 pub mod Tables
-pub mod Tests

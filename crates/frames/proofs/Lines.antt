@@ -9,13 +9,14 @@ use native.Mathlib.Omega.{arith}
 use lib.ListN.{length, take, drop, getD, length-append, length-drop, take-append-drop}
 use lib.Seq.{take-at, drop-append-add, drop-drop, take-length, take-all}
 use Rattle.frames.specs.declared.table.Frame.{Frame}
-use Rattle.frames.specs.Digit.{allLegal}
-use Rattle.frames.specs.Number.{number}
+use Rattle.digits.specs.Digit.{allLegal}
+use Rattle.digits.specs.Number.{number}
 use Rattle.frames.specs.Table.{kindOf, widthsOf, sum, widthOf, placeOf, lengthOf}
-use Rattle.frames.specs.Line.{LF, line, after, formed, fieldOf, fieldsOf, fields, lineOf, stored}
-use Rattle.frames.proofs.Digits.{legal-append, legal-drop}
-use Rattle.frames.proofs.Stored.{stored-three}
-use Rattle.frames.proofs.Numbers.{number-hex}
+use Rattle.frames.specs.Line.{LF, line, after, formed, fieldOf, fieldsOf, fields, lineOf}
+use Rattle.digits.specs.Stored.{stored}
+use Rattle.digits.proofs.Digits.{legal-append, legal-drop}
+use Rattle.digits.proofs.Stored.{stored-three}
+use Rattle.digits.proofs.Numbers.{number-hex}
 use Rattle.frames.proofs.Tables.{fields-seven, kind-length, kind-legal}
 use Rattle.frames.proofs.Cuts.{line-cut, after-cut}
 pub use Rattle.frames.proofs.Formed.{formed-text, formed-size, formed-kind, formed-legal, formed-length, formed-line, formed-end, formed-after, formed-field, field-below, made-formed, formed-is, formed-prefix, formed-kinds, header-not-task, task-not-header}

@@ -2,7 +2,7 @@
 -- Assumes nothing.
 use Prim.Native.Nat.{ℕ, suc, _+_, _-_, _≤_, _<_}
 use mathlib.Core.Path.{_≡_, sym, _∙_, ap, ap₂}
-use mathlib.Core.Bool.{Bool, true, false}
+use mathlib.Core.Bool.{Bool, true, false, _&&_}
 use mathlib.Core.List.{List, [], _∷_}
 use native.Mathlib.Numerals.{add-one}
 use native.Mathlib.Omega.{arith}
@@ -11,11 +11,11 @@ use lib.ListN.{length, take, drop, getD, length-drop}
 use lib.Seq.{getD-drop, drop-cons, drop-drop}
 use borrow.Author.Tests.{eq-eqb, ne-eqb, lt-ltb}
 use Rattle.frames.specs.declared.table.Frame.{Frame}
-use Rattle.frames.specs.Digit.{both, allLegal}
-use Rattle.frames.specs.Number.{number}
+use Rattle.digits.specs.Digit.{allLegal}
+use Rattle.digits.specs.Number.{number}
 use Rattle.frames.specs.Table.{kindOf, widthOf, placeOf, lengthOf}
 use Rattle.frames.specs.Line.{LF, same, formed, fieldOf}
-use Rattle.frames.proofs.Tests.{both-alone, cannot-pass}
+use Rattle.digits.proofs.Tests.{both-alone, cannot-pass}
 use Rattle.frames.proofs.Tables.{place-within, kind-two}
 use Rattle.frames.proofs.Formed.{formed-length, formed-end, formed-part, formed-field, field-legal, formed-same, formed-is}
 
@@ -26,25 +26,25 @@ take-two text at h =
     ∙ ap (λ (l : List ℕ). getD text at 0 ∷ take 1 l) (drop-cons text (suc at) 0 (omega arith))
     ∙ ap (λ (n : ℕ). getD text at 0 ∷ getD text n 0 ∷ []) (sym (add-one at))
 
-same-two : (a b k l : ℕ) → same (a ∷ b ∷ []) (k ∷ l ∷ []) ≡ both (eqb a k) (eqb b l)
+same-two : (a b k l : ℕ) → same (a ∷ b ∷ []) (k ∷ l ∷ []) ≡ (eqb a k && eqb b l)
 unfolding same
-same-two a b k l = ap (both (eqb a k)) (both-alone (eqb b l))
+same-two a b k l = ap (_&&_ (eqb a k)) (both-alone (eqb b l))
 
 module _ (text : List ℕ) (at : ℕ) (frame : Frame) (kind : List ℕ) (e : kind ≡ kindOf frame) (h : at + 2 ≤ length text) where
-  kind-test : same (take 2 (drop at text)) (kindOf frame) ≡ both (eqb (getD text at 0) (getD kind 0 0)) (eqb (getD text (at + 1) 0) (getD kind 1 0))
+  kind-test : same (take 2 (drop at text)) (kindOf frame) ≡ (eqb (getD text at 0) (getD kind 0 0) && eqb (getD text (at + 1) 0) (getD kind 1 0))
   kind-test =
       ap₂ same (take-two text at h) (kind-two frame)
       ∙ same-two (getD text at 0) (getD text (at + 1) 0) (getD (kindOf frame) 0 0) (getD (kindOf frame) 1 0)
-      ∙ ap (λ (l : List ℕ). both (eqb (getD text at 0) (getD l 0 0)) (eqb (getD text (at + 1) 0) (getD l 1 0))) (sym e)
+      ∙ ap (λ (l : List ℕ). (eqb (getD text at 0) (getD l 0 0) && eqb (getD text (at + 1) 0) (getD l 1 0))) (sym e)
 
   pub kind-second : getD text at 0 ≡ getD kind 0 0
       → same (take 2 (drop at text)) (kindOf frame) ≡ eqb (getD text (at + 1) 0) (getD kind 1 0)
-  kind-second p = kind-test ∙ ap (λ (t : Bool). both t (eqb (getD text (at + 1) 0) (getD kind 1 0))) (eq-eqb (getD text at 0) (getD kind 0 0) p)
+  kind-second p = kind-test ∙ ap (λ (t : Bool). (t && eqb (getD text (at + 1) 0) (getD kind 1 0))) (eq-eqb (getD text at 0) (getD kind 0 0) p)
 
   pub kind-first : (getD text at 0 ≡ getD kind 0 0 → ⊥) → same (take 2 (drop at text)) (kindOf frame) ≡ eqb (getD text at 0) (getD kind 0 0)
   kind-first p =
       kind-test
-      ∙ ap (λ (t : Bool). both t (eqb (getD text (at + 1) 0) (getD kind 1 0))) (ne-eqb (getD text at 0) (getD kind 0 0) p)
+      ∙ ap (λ (t : Bool). (t && eqb (getD text (at + 1) 0) (getD kind 1 0))) (ne-eqb (getD text at 0) (getD kind 0 0) p)
       ∙ sym (ne-eqb (getD text at 0) (getD kind 0 0) p)
 
 -- the test at a place of a text, step by step
@@ -65,10 +65,10 @@ module _ (frame : Frame) (text : List ℕ) (at n : ℕ) (e : n ≡ lengthOf fram
       → formed frame (drop at text) ≡ allLegal (take n (drop at text))
   rest-legal h l k =
       formed-is frame (drop at text)
-      ∙ ap (λ (t : Bool). both t (both (eqb (getD (drop at text) (lengthOf frame) 0) LF) (both (same (take 2 (drop at text)) (kindOf frame)) (allLegal (take (lengthOf frame) (drop at text))))))
+      ∙ ap (λ (t : Bool). (t && (eqb (getD (drop at text) (lengthOf frame) 0) LF && (same (take 2 (drop at text)) (kindOf frame) && allLegal (take (lengthOf frame) (drop at text))))))
       (lt-ltb (lengthOf frame) (length (drop at text)) (omega (arith, length-drop at text)))
-      ∙ ap (λ (t : Bool). both t (both (same (take 2 (drop at text)) (kindOf frame)) (allLegal (take (lengthOf frame) (drop at text))))) (eq-eqb _ LF (end-at ∙ l))
-      ∙ ap (λ (t : Bool). both t (allLegal (take (lengthOf frame) (drop at text)))) k
+      ∙ ap (λ (t : Bool). (t && (same (take 2 (drop at text)) (kindOf frame) && allLegal (take (lengthOf frame) (drop at text))))) (eq-eqb _ LF (end-at ∙ l))
+      ∙ ap (λ (t : Bool). (t && allLegal (take (lengthOf frame) (drop at text)))) k
       ∙ ap (λ (m : ℕ). allLegal (take m (drop at text))) (sym e)
 
 -- a field's digits at a place of a text

@@ -1,8 +1,8 @@
 -- Laws of the table of frames: the line lengths, and what the filled rows have at each field.
 -- Assumes nothing.
-use Prim.Native.Nat.{ℕ, zero, suc, _+_, _≤_, _<_}
+use Prim.Native.Nat.{ℕ, zero, suc, _+_, _-_, _^_, _≤_, _<_}
 use mathlib.Core.Path.{_≡_, refl, sym, _∙_, ap}
-use mathlib.Core.Bool.{Bool, true}
+use mathlib.Core.Bool.{Bool, true, _&&_}
 use mathlib.Core.List.{List, [], _∷_, _++_, map}
 use native.Mathlib.Numerals.{add-one}
 use native.Mathlib.Omega.{arith}
@@ -13,9 +13,10 @@ use borrow.Author.Tests.{leb-true, ltb-true, eqb-true}
 use Rattle.frames.specs.declared.table.Row.{Row}
 use Rattle.frames.specs.declared.table.Frame.{Frame}
 use Rattle.frames.specs.declared.table.Frame.the-variants.{Header, Task, Plan, Server, Placed, Processor, Refused}
-use Rattle.frames.specs.Digit.{both, legal, allLegal}
-use Rattle.frames.specs.Table.{kindOf, widthsOf, sum, widthOf, placeOf, lengthOf, rowOf, indexOf}
-use Rattle.frames.proofs.Tests.{both-left, both-right}
+use Rattle.digits.specs.Digit.{legal, allLegal, digitOf}
+use Rattle.digits.specs.Number.{hex}
+use Rattle.frames.specs.Table.{kindOf, widthsOf, sum, widthOf, placeOf, lengthOf, rowOf, indexOf, markOf}
+use Rattle.digits.proofs.Tests.{both-left, both-right}
 
 -- every frame, in the table's order
 abbrev pub frames : List Frame
@@ -86,7 +87,7 @@ line-lengths = refl
 -- no list of widths has one above a bound
 abbrev below : ℕ → List ℕ → Bool
 below n [] = true
-below n (w ∷ ws) = both (leb w n) (below n ws)
+below n (w ∷ ws) = leb w n && below n ws
 
 below-at : (n : ℕ) (ws : List ℕ) → below n ws ≡ true → (k : ℕ) → getD ws k 0 ≤ n
 below-at n [] p k = omega arith
@@ -139,3 +140,8 @@ place-seven frame = ap (λ (ws : List ℕ). 2 + sum ws) (take-all 7 (widthsOf fr
 pub place-next : (frame : Frame) (field : ℕ) → placeOf frame (field + 1) ≡ placeOf frame field + widthOf frame field
 place-next frame field =
     ap (λ (n : ℕ). placeOf frame n) (add-one field) ∙ omega (arith, sum-take (widthsOf frame) field)
+
+-- the mark is the greatest number of eight digits
+pub mark-hex : hex 8 (16 ^ 8 - 1) ≡ markOf
+unfolding hex digitOf markOf
+mark-hex = refl

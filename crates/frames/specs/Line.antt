@@ -2,49 +2,45 @@
 -- Document 01, "Lines of hexadecimal" and row 1 of the refusals.
 use Prim.Native.Nat.{ℕ, _+_}
 use mathlib.Core.List.{List, [], _∷_, _++_}
-use mathlib.Core.Bool.{Bool, true, false}
+use mathlib.Core.Bool.{Bool, true, false, cond, _&&_, _||_}
 use lib.ListN.{length, take, drop}
 use lib.Dec.{eqb}
 use Rattle.frames.specs.declared.table.Frame.{Frame}
-use Rattle.frames.specs.Digit.{both, either, allLegal}
-use Rattle.frames.specs.Number.{number, hex}
+use Rattle.digits.specs.Digit.{allLegal}
+use Rattle.digits.specs.Number.{number, hex}
 use Rattle.frames.specs.Table.{kindOf, widthsOf, widthOf, placeOf, lengthOf}
 
 -- the byte LF
 abbrev pub LF : ℕ
 LF = 10
 
-abbrev pub pickBytes : Bool → List ℕ → List ℕ → List ℕ
-pickBytes true a b = a
-pickBytes false a b = b
-
 -- the bytes of the first line, up to its LF or to the end of the text
 unfoldable pub line : List ℕ → List ℕ
 line [] = []
-line (b ∷ bs) = pickBytes (eqb b LF) [] (b ∷ line bs)
+line (b ∷ bs) = cond (eqb b LF) [] (b ∷ line bs)
 
 -- what follows the first line and its LF
 unfoldable pub after : List ℕ → List ℕ
 after [] = []
-after (b ∷ bs) = pickBytes (eqb b LF) bs (after bs)
+after (b ∷ bs) = cond (eqb b LF) bs (after bs)
 
 -- whether the first line has its LF
 unfoldable pub closed : List ℕ → Bool
 closed [] = false
-closed (b ∷ bs) = either (eqb b LF) (closed bs)
+closed (b ∷ bs) = eqb b LF || closed bs
 
 unfoldable pub same : List ℕ → List ℕ → Bool
 same [] [] = true
 same [] (y ∷ ys) = false
 same (x ∷ xs) [] = false
-same (x ∷ xs) (y ∷ ys) = both (eqb x y) (same xs ys)
+same (x ∷ xs) (y ∷ ys) = eqb x y && same xs ys
 
 -- the first line of the text is of this kind, at its exact length, in legal digits, and has its LF
 unfoldable pub formed : Frame → List ℕ → Bool
 formed frame text =
-    both (closed text)
-    (both (eqb (length (line text)) (lengthOf frame))
-    (both (same (take 2 (line text)) (kindOf frame)) (allLegal (line text))))
+    closed text &&
+    (eqb (length (line text)) (lengthOf frame) &&
+    (same (take 2 (line text)) (kindOf frame) && allLegal (line text)))
 
 -- the value of a field of the first line
 unfoldable pub fieldOf : Frame → ℕ → List ℕ → ℕ
@@ -71,7 +67,3 @@ fields (w ∷ ws) (v ∷ vs) = hex w v ++ fields ws vs
 -- the line of a frame with these values, closed by its LF
 unfoldable pub lineOf : Frame → List ℕ → List ℕ
 lineOf frame values = kindOf frame ++ (fields (widthsOf frame) values ++ (LF ∷ []))
-
--- a text stored in a buffer from a place on, the rest as before
-unfoldable pub stored : (buffer : List ℕ) (at : ℕ) (text : List ℕ) → List ℕ
-stored buffer at text = take at buffer ++ (text ++ drop (at + length text) buffer)

@@ -1,5 +1,3 @@
-// Frames: the table of kinds and widths, the lines of hexadecimal that follow it, and the refusals.
+// Frames: the table of kinds and widths, and the lines of hexadecimal that follow it.
 pub mod line;
-pub mod number;
-pub mod refusal;
 pub mod table;

@@ -1,20 +1,21 @@
 // Lines of a frame, read from and written to a place in a text.
 // A line is its kind, its fields at the table's widths, and one LF.
-use crate::number::all_legal;
-use crate::number::number_at;
-use crate::number::put_number;
 use crate::table::Frame;
 use crate::table::WHOLE;
 use crate::table::length;
 use crate::table::place;
 use crate::table::row_of;
 use crate::table::width;
+use digits::all_legal;
+use digits::number_at;
+use digits::put_number;
 ghost use mathlib.Core.Path.{_≡_};
 ghost use mathlib.Core.Bool.{true};
 ghost use Prim.Native.Nat.{_+_, _<_, _≤_};
 ghost use lib.ListN.{length as count, take, drop};
 ghost use Rattle.frames.specs.Table.{lengthOf, widthsOf, sum, markOf, kindOf};
-ghost use Rattle.frames.specs.Line.{formed, fieldOf, fields, lineOf, stored, same};
+ghost use Rattle.frames.specs.Line.{formed, fieldOf, fields, lineOf, same};
+ghost use Rattle.digits.specs.Stored.{stored};
 
 // Whether the text at `at` starts with the frame's kind.
 fn is_kind(text: &[u8], at: usize, frame: Frame) -> bool

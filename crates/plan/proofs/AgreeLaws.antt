@@ -2,12 +2,11 @@
 -- Assumes nothing.
 use Prim.Native.Nat.{ℕ, _+_}
 use mathlib.Core.Path.{_≡_, refl, sym, ap, _∙_}
-use mathlib.Core.Bool.{Bool, true, false}
+use mathlib.Core.Bool.{Bool, true, false, _&&_}
 use mathlib.Core.List.{List, [], _∷_}
 use borrow.Author.Tests.{eq-eqb, eqb-true}
 use lib.Dec.{eqb}
 use lib.ListN.{take}
-use Rattle.frames.specs.Digit.{both}
 use Rattle.frames.specs.Line.{same}
 use Rattle.plan.specs.declared.plan.Plan.{Plan}
 use Rattle.plan.specs.Agrees.{sameFront, sameFigures, sameServers, sameProcessors, agrees}
@@ -31,13 +30,13 @@ same-refl (x ∷ xs) = rw (eq-eqb x x refl) (same-refl xs)
 
 module _ (a b : Plan) where
   abbrev from-slot : Bool
-  from-slot = both (eqb (a .slot) (b .slot)) (eqb (a .idle) (b .idle))
+  from-slot = eqb (a .slot) (b .slot) && eqb (a .idle) (b .idle)
 
   abbrev from-servers : Bool
-  from-servers = both (eqb (a .servers) (b .servers)) from-slot
+  from-servers = eqb (a .servers) (b .servers) && from-slot
 
   abbrev from-ring : Bool
-  from-ring = both (eqb (a .ring) (b .ring)) from-servers
+  from-ring = eqb (a .ring) (b .ring) && from-servers
 
   -- the numbers of the plan line
   pub record Figures : Type 0 where
@@ -82,9 +81,9 @@ module _ (a b : Plan) where
   unfolding agrees sameServers sameProcessors
   agree-same n e =
       let server-test = sameFront n (a .server) (b .server) in
-      let after = both server-test (sameProcessors a b) in
-      let f = figures-same (both-left (sameFigures a b) (both (sameServers a b) after) e) in
-      let e1 = both-right (sameFigures a b) (both (sameServers a b) after) e in
+      let after = (server-test && sameProcessors a b) in
+      let f = figures-same (both-left (sameFigures a b) (sameServers a b && after) e) in
+      let e1 = both-right (sameFigures a b) (sameServers a b && after) e in
       let servers = both-left (sameServers a b) after e1 in
       let later = both-right (sameServers a b) after e1 in
       let processors = both-right server-test (sameProcessors a b) later in
@@ -95,9 +94,9 @@ module _ (a b : Plan) where
         servers = f .servers;
         slot = f .slot;
         idle = f .idle;
-        reserve = ap (λ (k : ℕ). take k (a .reserve)) (f .servers) ∙ same-eq (take (b .servers) (a .reserve)) (take (b .servers) (b .reserve)) (both-left reserve-test (both start-test tasks-test) servers);
-        start = ap (λ (k : ℕ). take k (a .start)) (f .servers) ∙ same-eq (take (b .servers) (a .start)) (take (b .servers) (b .start)) (both-left start-test tasks-test (both-right reserve-test (both start-test tasks-test) servers));
-        tasks = ap (λ (k : ℕ). take k (a .tasks)) (f .servers) ∙ same-eq (take (b .servers) (a .tasks)) (take (b .servers) (b .tasks)) (both-right start-test tasks-test (both-right reserve-test (both start-test tasks-test) servers));
+        reserve = ap (λ (k : ℕ). take k (a .reserve)) (f .servers) ∙ same-eq (take (b .servers) (a .reserve)) (take (b .servers) (b .reserve)) (both-left reserve-test (start-test && tasks-test) servers);
+        start = ap (λ (k : ℕ). take k (a .start)) (f .servers) ∙ same-eq (take (b .servers) (a .start)) (take (b .servers) (b .start)) (both-left start-test tasks-test (both-right reserve-test (start-test && tasks-test) servers));
+        tasks = ap (λ (k : ℕ). take k (a .tasks)) (f .servers) ∙ same-eq (take (b .servers) (a .tasks)) (take (b .servers) (b .tasks)) (both-right start-test tasks-test (both-right reserve-test (start-test && tasks-test) servers));
         server = same-eq (take n (a .server)) (take n (b .server)) (both-left server-test (sameProcessors a b) later);
         first = ap (λ (k : ℕ). take k (a .first)) sum ∙ same-eq (take (b .ring + b .whole) (a .first)) (take (b .ring + b .whole) (b .first)) (both-left first-test duration-test processors);
         duration = ap (λ (k : ℕ). take k (a .duration)) sum ∙ same-eq (take (b .ring + b .whole) (a .duration)) (take (b .ring + b .whole) (b .duration)) (both-right first-test duration-test processors);

@@ -2,16 +2,15 @@
 -- Assumes nothing.
 use Prim.Native.Nat.{ℕ, zero, suc, _^_, _≤_, _<_}
 use mathlib.Core.Path.{_≡_, refl, sym, ap, subst, _∙_}
-use mathlib.Core.Bool.{Bool, true, false, not}
+use mathlib.Core.Bool.{Bool, true, false, not, _&&_, _||_}
 use mathlib.Core.List.{List, [], _∷_, map}
 use native.Mathlib.Omega.{arith}
 use borrow.Author.Tests.{leb-true, leb-false, ltb-false, lt-ltb, le-ltb, eqb-false, not-false}
 use lib.Dec.{leb, eqb}
 use lib.ListN.{length, take, getD, length-map}
-use Rattle.frames.specs.Digit.{both, either}
-use Rattle.frames.specs.declared.refusal.Refusal.the-variants.{Board, Range, Slot, Tight, Horizon}
-use Rattle.frames.specs.declared.refusal.Outcome.{Outcome}
-use Rattle.frames.specs.declared.refusal.Outcome.the-variants.{Done, Refused}
+use Rattle.refusals.specs.declared.Refusal.the-variants.{Board, Range, Slot, Tight, Horizon}
+use Rattle.refusals.specs.declared.Outcome.{Outcome}
+use Rattle.refusals.specs.declared.Outcome.the-variants.{Done, Refused}
 use Rattle.wholes.specs.Multiple.{leastMultipleOf, Positive, within}
 use Rattle.wholes.specs.declared.Multiple.the-variants.{Within, Past}
 use Rattle.wholes.proofs.WithinLaws.{within-value, past-value}
@@ -42,7 +41,7 @@ use Rattle.plan.proofs.Charges.{tight-meets}
 pub board-slot : (h : Header) → boardRow h ≡ false → 1 ≤ h .slot
 unfolding boardRow
 board-slot h e =
-    omega (arith, eqb-false (h .slot) 0 (either-right (not (both (leb 1 (h .processors)) (leb (h .processors) mostProcessors))) (eqb (h .slot) 0) e))
+    omega (arith, eqb-false (h .slot) 0 (either-right (not (leb 1 (h .processors) && leb (h .processors) mostProcessors)) (eqb (h .slot) 0) e))
 
 range-figures : (t : Task) → rangeRow t ≡ false → (1 ≤ t .cost) × (t .cost ≤ t .deadline) × (t .deadline ≤ t .period)
 unfolding rangeRow
@@ -61,13 +60,13 @@ range-figures t e = (leb-true 1 (t .cost) (both-left a rest all), leb-true (t .c
     f = leb (t .period) longestPeriod
 
     rest′ : Bool
-    rest′ = both d f
+    rest′ = d && f
 
     rest : Bool
-    rest = both b rest′
+    rest = b && rest′
 
-    all : both a rest ≡ true
-    all = not-false (both a rest) e
+    all : (a && rest) ≡ true
+    all = not-false (a && rest) e
 
     all′ : rest ≡ true
     all′ = both-right a rest all
@@ -204,26 +203,26 @@ module _ (set : TaskSet) where
   unfolding askRow
   header-carried e =
       either-left (headerOverflows (set .header)) (some taskOverflows (members set))
-      (either-right (twiceRow (members set)) (either (headerOverflows (set .header)) (some taskOverflows (members set)))
-      (either-right (countRow set) (either (twiceRow (members set)) (either (headerOverflows (set .header)) (some taskOverflows (members set)))) e))
+      (either-right (twiceRow (members set)) (headerOverflows (set .header) || some taskOverflows (members set))
+      (either-right (countRow set) (twiceRow (members set) || (headerOverflows (set .header) || some taskOverflows (members set))) e))
 
   abbrev from-cpmdo : Bool
   from-cpmdo = overflows 4 (set .header .cpmdo)
 
   abbrev from-resd : Bool
-  from-resd = either (overflows 4 (set .header .resd)) from-cpmdo
+  from-resd = overflows 4 (set .header .resd) || from-cpmdo
 
   abbrev from-ctswo : Bool
-  from-ctswo = either (overflows 4 (set .header .ctswo)) from-resd
+  from-ctswo = overflows 4 (set .header .ctswo) || from-resd
 
   abbrev from-relo : Bool
-  from-relo = either (overflows 4 (set .header .relo)) from-ctswo
+  from-relo = overflows 4 (set .header .relo) || from-ctswo
 
   abbrev from-relj : Bool
-  from-relj = either (overflows 4 (set .header .relj)) from-relo
+  from-relj = overflows 4 (set .header .relj) || from-relo
 
   abbrev from-slot : Bool
-  from-slot = either (overflows 6 (set .header .slot)) from-relj
+  from-slot = overflows 6 (set .header .slot) || from-relj
 
   slot-on : askRow set ≡ false → from-slot ≡ false
   unfolding headerOverflows

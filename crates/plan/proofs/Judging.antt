@@ -2,14 +2,13 @@
 -- Assumes nothing.
 use Prim.Native.Nat.{ℕ, _+_}
 use mathlib.Core.Path.{_≡_, refl, ap, _∙_}
-use mathlib.Core.Bool.{Bool, true, false}
+use mathlib.Core.Bool.{Bool, true, false, _&&_, _||_}
 use mathlib.Core.Logic.{inl, inr}
 use mathlib.Core.List.{List}
 use native.Mathlib.Omega.{arith}
 use borrow.Author.Tests.{leb-true, eqb-true}
 use lib.Dec.{leb, eqb}
 use lib.ListN.{length, take}
-use Rattle.frames.specs.Digit.{both, either}
 use Rattle.demand.specs.Load.{Load}
 use Rattle.demand.specs.Supply.{Allowed}
 use Rattle.verdict.specs.Verdict.{ownHorizon}
@@ -38,14 +37,14 @@ module _ (S L R : ℕ) where
   abbrev parts : Bool
   parts = leb (R + 1) S
 
-  by-ring : (x : Bool) → both enters parts ≡ x → either x (eqb R S) ≡ true → Allowed S L R
+  by-ring : (x : Bool) → (enters && parts) ≡ x → (x || eqb R S) ≡ true → Allowed S L R
   by-ring true g e = inl (record { enters = leb-true (L + 1) R (both-left enters parts g); parts = leb-true (R + 1) S (both-right enters parts g) })
   by-ring false g e = inr (eqb-true R S e)
 
   -- both tests of a ring reserve hold, or it is the slot
   pub allowed-is : allowed S L R ≡ true → Allowed S L R
   unfolding allowed
-  allowed-is e = by-ring (both enters parts) refl e
+  allowed-is e = by-ring (enters && parts) refl e
 
 module _ (set : TaskSet) (full : length (set .tasks) ≡ 64) (plan : Plan) (e : makes set plan ≡ true) {m : Members} (h : m ≡ membersOf (loadsOfSet set)) (q : ℕ)
     {own : Members} (g : own ≡ membersOf (loadsIn (held m) (take (m .count) (plan .server)) q)) where

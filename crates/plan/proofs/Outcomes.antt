@@ -2,11 +2,10 @@
 -- Assumes nothing.
 use Prim.Native.Nat.{ℕ, zero, suc}
 use mathlib.Core.Path.{_≡_, refl, sym}
-use mathlib.Core.Bool.{Bool, true, false, false≢true}
-use Rattle.frames.specs.Digit.{both}
-use Rattle.frames.specs.declared.refusal.Refusal.{Refusal}
-use Rattle.frames.specs.declared.refusal.Outcome.{Outcome}
-use Rattle.frames.specs.declared.refusal.Outcome.the-variants.{Done, Refused}
+use mathlib.Core.Bool.{Bool, true, false, false≢true, _&&_}
+use Rattle.refusals.specs.declared.Refusal.{Refusal}
+use Rattle.refusals.specs.declared.Outcome.{Outcome}
+use Rattle.refusals.specs.declared.Outcome.the-variants.{Done, Refused}
 use Rattle.tasks.specs.Rows.{firstOf, when, atTask}
 use Rattle.tasks.proofs.Bools.{done-refused}
 
@@ -30,11 +29,11 @@ pub true-false : {A : Type 0} → true ≡ false → A
 true-false e = absurd (false≢true (sym e))
 
 -- both of two tests hold
-pub both-left : (a b : Bool) → both a b ≡ true → a ≡ true
+pub both-left : (a b : Bool) → (a && b) ≡ true → a ≡ true
 both-left true b e = refl
 both-left false b e = e
 
 -- the second of two tests that hold
-pub both-right : (a b : Bool) → both a b ≡ true → b ≡ true
+pub both-right : (a b : Bool) → (a && b) ≡ true → b ≡ true
 both-right true b e = e
 both-right false b e = true-false (sym e)

@@ -10,7 +10,7 @@ use borrow.Author.Tests.{leb-true, ltb-false}
 use lib.Dec.{leb}
 use lib.ListN.{length, getD, take}
 use lib.Seq.{getD-take}
-use Rattle.frames.specs.declared.refusal.Outcome.the-variants.{Done}
+use Rattle.refusals.specs.declared.Outcome.the-variants.{Done}
 use Rattle.demand.specs.Passes.{Passes}
 use Rattle.verdict.specs.Verdict.{verdictOf}
 use Rattle.verdict.specs.Reserve.{Smallest}

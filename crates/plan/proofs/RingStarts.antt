@@ -2,14 +2,13 @@
 -- Assumes nothing.
 use Prim.Native.Nat.{ℕ, zero, suc, _-_, _≤_, _<_}
 use mathlib.Core.Path.{_≡_, sym, ap, _∙_}
-use mathlib.Core.Bool.{Bool}
+use mathlib.Core.Bool.{Bool, cond}
 use mathlib.Core.List.{List}
 use native.Mathlib.Omega.{arith}
 use borrow.Author.Tests.{lt-ltb, le-ltb}
 use lib.Dec.{ltb}
 use lib.ListN.{take, getD}
 use lib.Seq.{getD-take}
-use Rattle.frames.specs.Digit.{pick}
 use Rattle.ring.specs.Reserves.{reserveOf, startOf}
 use Rattle.plan.specs.Plan.{ringStart}
 
@@ -22,9 +21,9 @@ reserve-place rs n (suc q) h l =
 module _ (S : ℕ) (rs : List ℕ) (n q : ℕ) (h : 1 ≤ q) (l : q ≤ n) where
   pub start-ring : getD rs (q - 1) 0 < S → startOf S (take n rs) q ≡ ringStart S (take n rs) q
   start-ring d =
-      sym (ap (λ (b : Bool). pick b (startOf S (take n rs) q) 0) (ap (λ (R : ℕ). ltb R S) (reserve-place rs n q h l) ∙ lt-ltb (getD rs (q - 1) 0) S d))
+      sym (ap (λ (b : Bool). cond b (startOf S (take n rs) q) 0) (ap (λ (R : ℕ). ltb R S) (reserve-place rs n q h l) ∙ lt-ltb (getD rs (q - 1) 0) S d))
 
   -- a server with a whole processor stands nowhere
   pub start-whole : S ≤ getD rs (q - 1) 0 → 0 ≡ ringStart S (take n rs) q
   start-whole d =
-      sym (ap (λ (b : Bool). pick b (startOf S (take n rs) q) 0) (ap (λ (R : ℕ). ltb R S) (reserve-place rs n q h l) ∙ le-ltb (getD rs (q - 1) 0) S d))
+      sym (ap (λ (b : Bool). cond b (startOf S (take n rs) q) 0) (ap (λ (R : ℕ). ltb R S) (reserve-place rs n q h l) ∙ le-ltb (getD rs (q - 1) 0) S d))

@@ -1,11 +1,10 @@
 -- Unused room of a set or of a plan does not change an answer; and the planner makes its own plan.
 -- Assumes nothing.
 use mathlib.Core.Path.{_≡_, refl, sym, ap, _∙_}
-use mathlib.Core.Bool.{Bool, true}
-use Rattle.frames.specs.Digit.{both}
-use Rattle.frames.specs.declared.refusal.Refusal.{Refusal}
-use Rattle.frames.specs.declared.refusal.Outcome.{Outcome}
-use Rattle.frames.specs.declared.refusal.Outcome.the-variants.{Done, Refused}
+use mathlib.Core.Bool.{Bool, true, _&&_}
+use Rattle.refusals.specs.declared.Refusal.{Refusal}
+use Rattle.refusals.specs.declared.Outcome.{Outcome}
+use Rattle.refusals.specs.declared.Outcome.the-variants.{Done, Refused}
 use Rattle.tasks.specs.declared.set.TaskSet.{TaskSet}
 use Rattle.tasks.specs.Rows.{countRow, figuresOutcome, askRow}
 use Rattle.tasks.proofs.Bools.{done-refused}
@@ -77,7 +76,7 @@ module _ (a b : TaskSet) (s : SameSet a b) where
 module _ (set : TaskSet) (a b : Plan) (s : SamePlan (set .count) a b) where
   check-plans : makes set a ≡ makes set b
   unfolding makes
-  check-plans = ap (λ (x : Bool). both (isDone (planOutcome set)) x) (agree-alike (set .count) a b (planMade set) s)
+  check-plans = ap (λ (x : Bool). (isDone (planOutcome set) && x)) (agree-alike (set .count) a b (planMade set) s)
 
   plan-room : PlanRoomIgnored set a b
   unfolding whoRuns doesPass isProcessor isServer

@@ -2,10 +2,9 @@
 -- Document 01, "Refusal numbers and their order".
 use Prim.Native.Nat.{ℕ, _+_}
 use mathlib.Core.List.{List}
-use mathlib.Core.Bool.{Bool}
+use mathlib.Core.Bool.{Bool, _&&_}
 use lib.ListN.{take}
 use lib.Dec.{eqb}
-use Rattle.frames.specs.Digit.{both}
 use Rattle.frames.specs.Line.{same}
 use Rattle.plan.specs.declared.plan.Plan.{Plan}
 
@@ -16,24 +15,24 @@ sameFront n a b = same (take n a) (take n b)
 -- the numbers of the plan line
 unfoldable pub sameFigures : (a b : Plan) → Bool
 sameFigures a b =
-    both (eqb (a .whole) (b .whole))
-    (both (eqb (a .ring) (b .ring))
-    (both (eqb (a .servers) (b .servers)) (both (eqb (a .slot) (b .slot)) (eqb (a .idle) (b .idle)))))
+    eqb (a .whole) (b .whole) &&
+    (eqb (a .ring) (b .ring) &&
+    (eqb (a .servers) (b .servers) && (eqb (a .slot) (b .slot) && eqb (a .idle) (b .idle))))
 
 -- reserve, start and number of tasks of each server
 unfoldable pub sameServers : (a b : Plan) → Bool
 sameServers a b =
-    both (sameFront (b .servers) (a .reserve) (b .reserve))
-    (both (sameFront (b .servers) (a .start) (b .start)) (sameFront (b .servers) (a .tasks) (b .tasks)))
+    sameFront (b .servers) (a .reserve) (b .reserve) &&
+    (sameFront (b .servers) (a .start) (b .start) && sameFront (b .servers) (a .tasks) (b .tasks))
 
 -- first server and first duration of each processor
 unfoldable pub sameProcessors : (a b : Plan) → Bool
 sameProcessors a b =
-    both (sameFront (b .ring + b .whole) (a .first) (b .first))
-    (sameFront (b .ring + b .whole) (a .duration) (b .duration))
+    sameFront (b .ring + b .whole) (a .first) (b .first) &&
+    sameFront (b .ring + b .whole) (a .duration) (b .duration)
 
 -- two plans of so many tasks agree
 unfoldable pub agrees : (tasks : ℕ) → (a b : Plan) → Bool
 agrees n a b =
-    both (sameFigures a b)
-    (both (sameServers a b) (both (sameFront n (a .server) (b .server)) (sameProcessors a b)))
+    sameFigures a b &&
+    (sameServers a b && (sameFront n (a .server) (b .server) && sameProcessors a b))

@@ -2,9 +2,9 @@
 -- Document 01, "From tasks to servers to ring" and "Lines of hexadecimal".
 use Prim.Native.Nat.{ℕ, zero, suc}
 use mathlib.Core.List.{List, [], _∷_, _++_}
+use mathlib.Core.Bool.{cond}
 use lib.ListN.{length, replicate}
 use lib.Dec.{ltb}
-use Rattle.frames.specs.Digit.{pick}
 use Rattle.demand.specs.Load.{Load}
 use Rattle.tasks.specs.declared.set.TaskSet.{TaskSet}
 use Rattle.servers.specs.Placement.{loadsIn, placementOf}
@@ -22,7 +22,7 @@ upTo f (suc n) = upTo f n ++ (f (suc n) ∷ [])
 
 -- where a server stands on the ring; a server with a whole processor stands nowhere and has 0
 abbrev pub ringStart : (S : ℕ) (reserves : List ℕ) (q : ℕ) → ℕ
-ringStart S reserves q = pick (ltb (reserveOf reserves q) S) (startOf S reserves q) 0
+ringStart S reserves q = cond (ltb (reserveOf reserves q) S) (startOf S reserves q) 0
 
 -- the plan of a slot, a placement and its reserves
 unfoldable pub laidOut : (S : ℕ) → List Load → (placement reserves : List ℕ) → Plan

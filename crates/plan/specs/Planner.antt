@@ -1,13 +1,12 @@
 -- What planning a set answers: the first refusal of row 11 and rows 5 to 10, or the plan.
 -- Document 01, "Refusal numbers and their order".
 use Prim.Native.Nat.{ℕ}
-use mathlib.Core.Bool.{Bool, true, false}
+use mathlib.Core.Bool.{Bool, true, false, _&&_}
 use mathlib.Core.Path.{_≡_}
 use lib.Dec.{ltb}
-use Rattle.frames.specs.Digit.{both}
-use Rattle.frames.specs.declared.refusal.Refusal.the-variants.{Full, Ask}
-use Rattle.frames.specs.declared.refusal.Outcome.{Outcome}
-use Rattle.frames.specs.declared.refusal.Outcome.the-variants.{Done, Refused}
+use Rattle.refusals.specs.declared.Refusal.the-variants.{Full, Ask}
+use Rattle.refusals.specs.declared.Outcome.{Outcome}
+use Rattle.refusals.specs.declared.Outcome.the-variants.{Done, Refused}
 use Rattle.tasks.specs.declared.set.TaskSet.{TaskSet}
 use Rattle.tasks.specs.Rows.{firstOf, when, askRow}
 use Rattle.ring.specs.Reserves.{processorsOf}
@@ -49,4 +48,4 @@ isDone (Refused r) = false
 
 -- the planner makes this plan of this set; unused room is not compared
 unfoldable pub makes : TaskSet → Plan → Bool
-makes set plan = both (isDone (planOutcome set)) (agrees (set .count) plan (planMade set))
+makes set plan = isDone (planOutcome set) && agrees (set .count) plan (planMade set)

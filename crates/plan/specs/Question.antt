@@ -1,12 +1,11 @@
 -- The two questions about a set and its plan: who runs on a processor at a tick, and does a server pass with a reserve.
 -- Document 01, "From tasks to servers to ring" and row 11 of the refusals.
 use Prim.Native.Nat.{ℕ, _+_, _≤_}
-use mathlib.Core.Bool.{Bool, true, false}
+use mathlib.Core.Bool.{Bool, true, false, _&&_, _||_}
 use lib.Dec.{leb, eqb}
 use lib.ListN.{take}
-use Rattle.frames.specs.Digit.{both, either}
-use Rattle.frames.specs.declared.refusal.Refusal.the-variants.{Ask}
-use Rattle.frames.specs.declared.refusal.Outcome.the-variants.{Done, Refused}
+use Rattle.refusals.specs.declared.Refusal.the-variants.{Ask}
+use Rattle.refusals.specs.declared.Outcome.the-variants.{Done, Refused}
 use Rattle.verdict.specs.declared.answer.Verdict.{Verdict}
 use Rattle.verdict.specs.declared.answer.Verdict.the-variants.{Yes}
 use Rattle.verdict.specs.Verdict.{verdictOf}
@@ -26,14 +25,14 @@ use Rattle.plan.specs.Planner.{makes}
 
 -- L + 1 ≤ R ≤ S − 1, or R = S
 unfoldable pub allowed : (S L R : ℕ) → Bool
-allowed S L R = either (both (leb (L + 1) R) (leb (R + 1) S)) (eqb R S)
+allowed S L R = (leb (L + 1) R && leb (R + 1) S) || eqb R S
 
 -- the processors that are there: 1 to r + whole
 unfoldable pub isProcessor : Plan → ℕ → Bool
-isProcessor plan p = both (leb 1 p) (leb p (plan .ring + plan .whole))
+isProcessor plan p = leb 1 p && leb p (plan .ring + plan .whole)
 
 unfoldable pub isServer : Plan → ℕ → Bool
-isServer plan q = both (leb 1 q) (leb q (plan .servers))
+isServer plan q = leb 1 q && leb q (plan .servers)
 
 -- what asking a plan that is checked already asks: its reserves are laid, and the processor is there
 pub record Standing (plan : Plan) (p : ℕ) : Type 0 where
@@ -51,7 +50,7 @@ whoAnswer stand = record { outcome = Done; server = stand .server; left = stand 
 -- who runs on processor p at tick x: the server (0 for idle) and the ticks left, this one included
 unfoldable pub whoRuns : TaskSet → Plan → (p : ℕ) → Tick → WhoAnswer
 whoRuns set plan p x =
-    pickWho (both (makes set plan) (isProcessor plan p)) (whoAnswer (whoOf (set .header .slot) (setReserves set) p x))
+    pickWho (makes set plan && isProcessor plan p) (whoAnswer (whoOf (set .header .slot) (setReserves set) p x))
 
 abbrev pub pickPass : Bool → Verdict → PassAnswer
 pickPass true v = record { outcome = Done; verdict = v }
@@ -61,5 +60,5 @@ pickPass false v = record { outcome = Refused Ask; verdict = Yes (record { lengt
 unfoldable pub doesPass : TaskSet → Plan → (q R : ℕ) → PassAnswer
 doesPass set plan q R =
     pickPass
-    (both (makes set plan) (both (isServer plan q) (allowed (set .header .slot) (lossOf (set .header)) R)))
+    (makes set plan && (isServer plan q && allowed (set .header .slot) (lossOf (set .header)) R))
     (verdictOf (loadsIn (loadsOfSet set) (setPlacement set) q) (set .header .slot) (lossOf (set .header)) R)

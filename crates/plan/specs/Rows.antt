@@ -3,11 +3,10 @@
 use Prim.Native.Nat.{ℕ, _≤_}
 use mathlib.Core.List.{map}
 use mathlib.Core.Path.{_≡_}
-use mathlib.Core.Bool.{Bool, false}
+use mathlib.Core.Bool.{Bool, false, _||_}
 use lib.Dec.{leb, ltb}
-use Rattle.frames.specs.Digit.{either}
-use Rattle.frames.specs.declared.refusal.Refusal.the-variants.{Slot, Tight, Horizon}
-use Rattle.frames.specs.declared.refusal.Outcome.{Outcome}
+use Rattle.refusals.specs.declared.Refusal.the-variants.{Slot, Tight, Horizon}
+use Rattle.refusals.specs.declared.Outcome.{Outcome}
 use Rattle.wholes.specs.Multiple.{leastMultipleOf}
 use Rattle.tasks.specs.declared.set.Header.{Header}
 use Rattle.tasks.specs.declared.set.Task.{Task}
@@ -22,7 +21,7 @@ slotRow h t = ltb (t .deadline) (h .slot)
 
 -- 8 TIGHT: a task has RelJ ≥ D or c > d
 unfoldable pub tightRow : Header → Task → Bool
-tightRow h t = either (leb (t .deadline) (h .relj)) (ltb (loadOf h t .deadline) (loadOf h t .cost))
+tightRow h t = leb (t .deadline) (h .relj) || ltb (loadOf h t .deadline) (loadOf h t .cost)
 
 -- the horizon H: the least common multiple of S and every T of the file
 unfoldable pub horizonOf : TaskSet → ℕ

@@ -2,7 +2,7 @@
 // What it means stands in specs/Agrees.antt and specs/Planner.antt.
 use crate::plan::Plan;
 use crate::planner::make;
-use frames::refusal::Outcome;
+use refusals::Outcome;
 use tasks::set::TaskSet;
 ghost use mathlib.Core.Path.{_≡_};
 ghost use Prim.Native.Nat.{_+_, _≤_};

@@ -3,8 +3,8 @@
 use crate::charge;
 use crate::check::makes_plan;
 use crate::plan::Plan;
-use frames::refusal::Outcome;
-use frames::refusal::Refusal;
+use refusals::Outcome;
+use refusals::Refusal;
 use ring::clock::Tick;
 use ring::cover::Stand;
 use servers::members::gather;

@@ -1,8 +1,8 @@
 // Rows 7 to 9 of the refusals over a set, each over all tasks, and rows 5 to 9 in order.
 // What they mean stands in specs/Rows.antt.
 use crate::charge;
-use frames::refusal::Outcome;
-use frames::refusal::Refusal;
+use refusals::Outcome;
+use refusals::Refusal;
 use tasks::set::Header;
 use tasks::set::Task;
 use tasks::set::TaskSet;

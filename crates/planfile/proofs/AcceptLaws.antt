@@ -2,16 +2,15 @@
 -- Assumes nothing.
 use Prim.Native.Nat.{ℕ, _≤_}
 use mathlib.Core.Path.{_≡_, refl, sym, _∙_, ap}
-use mathlib.Core.Bool.{true}
+use mathlib.Core.Bool.{true, _&&_}
 use native.Mathlib.Nat.{min-le-left}
 use native.Mathlib.Omega.{arith}
 use lib.Dec.{leb, eqb}
 use lib.ListN.{length, length-take, length-map}
 use borrow.Author.Tests.{ltb-false, leb-true, eqb-true, not-false}
-use Rattle.frames.specs.Digit.{both}
-use Rattle.frames.proofs.Tests.{both-left, both-right}
-use Rattle.frames.specs.declared.refusal.Outcome.{Outcome}
-use Rattle.frames.specs.declared.refusal.Outcome.the-variants.{Done, Refused}
+use Rattle.digits.proofs.Tests.{both-left, both-right}
+use Rattle.refusals.specs.declared.Outcome.{Outcome}
+use Rattle.refusals.specs.declared.Outcome.the-variants.{Done, Refused}
 use Rattle.tasks.specs.declared.set.Header.{Header}
 use Rattle.tasks.specs.declared.set.TaskSet.{TaskSet}
 use Rattle.tasks.specs.Set.{members, mostTasks, mostProcessors}
@@ -84,7 +83,7 @@ module _ (set : TaskSet) (plan : Plan) (m : makes set plan ≡ true) where
   unfolding agrees
   figures = both-left _ _ makes-agrees
 
-  past-whole : both (eqb (plan .ring) (planMade set .ring)) (both (eqb (plan .servers) (planMade set .servers)) (both (eqb (plan .slot) (planMade set .slot)) (eqb (plan .idle) (planMade set .idle)))) ≡ true
+  past-whole : (eqb (plan .ring) (planMade set .ring) && (eqb (plan .servers) (planMade set .servers) && (eqb (plan .slot) (planMade set .slot) && eqb (plan .idle) (planMade set .idle)))) ≡ true
   unfolding sameFigures
   past-whole = both-right (eqb (plan .whole) (planMade set .whole)) _ figures
 

@@ -4,15 +4,15 @@ use Prim.Native.Nat.{ℕ}
 use Prim.Native.String.{String}
 use mathlib.Core.List.{List, [], _∷_, map}
 use mathlib.Core.Path.{_≡_, refl}
-use Rattle.frames.specs.declared.refusal.Outcome.the-variants.{Done}
+use Rattle.refusals.specs.declared.Outcome.the-variants.{Done}
 use Rattle.verdict.specs.declared.answer.Reading.{Reading}
 use Rattle.verdict.specs.declared.answer.Verdict.the-variants.{No}
 use Rattle.ring.specs.declared.clock.Tick.{Tick}
 use Rattle.tasks.proofs.Examples.{bytesOf}
 use Rattle.plan.specs.declared.question.WhoAnswer.{WhoAnswer}
 use Rattle.plan.specs.declared.question.PassAnswer.{PassAnswer}
-use Rattle.frames.specs.Digit.{legal, valueOf, digitOf, allLegal}
-use Rattle.frames.specs.Number.{numberFrom, hex}
+use Rattle.digits.specs.Digit.{legal, valueOf, digitOf, allLegal}
+use Rattle.digits.specs.Number.{numberFrom, hex}
 use Rattle.frames.specs.Table.{kindOf, widthsOf, sum}
 use Rattle.frames.specs.Line.{line, after, closed, same, formed, fieldOf, fields, lineOf}
 use Rattle.tasks.specs.Set.{setOf}

@@ -3,7 +3,7 @@
 use Prim.Native.Nat.{ℕ, zero, suc, pred, _+_, _*_, _-_, _^_, _≤_, _<_}
 use mathlib.Core.Path.{_≡_, refl, sym, _∙_, ap, subst}
 use mathlib.Core.List.{List, [], _∷_, _++_}
-use mathlib.Core.Bool.{Bool, true, false}
+use mathlib.Core.Bool.{Bool, true, false, cond}
 use mathlib.Core.Logic.{⊎-elim}
 use native.Mathlib.Nat.{add-sub-cancel, mul-le-mul}
 use native.Mathlib.Numerals.{add-one, sub-one}
@@ -13,7 +13,6 @@ use lib.Dec.{leb, ltb}
 use lib.ListN.{length, take, getD, List·getD-append}
 use lib.Seq.{getD-take, getD-append-seam}
 use borrow.Author.Tests.{leb-false, le-ltb}
-use Rattle.frames.specs.Digit.{pick}
 use Rattle.tasks.specs.declared.set.Header.{Header}
 use Rattle.tasks.specs.declared.set.TaskSet.{TaskSet}
 use Rattle.tasks.specs.Rows.{headerOverflows}
@@ -65,7 +64,7 @@ row-up f n i h = List·getD-append (upTo f n) _ 0 i (omega (arith, up-length f n
 front-at : (m n : ℕ) (a b : List ℕ) → take m a ≡ take n b → (i : ℕ) → i < m → i < n → getD a i 0 ≡ getD b i 0
 front-at m n a b e i p q = sym (getD-take m a i 0 p) ∙ ap (λ (l : List ℕ). getD l i 0) e ∙ getD-take n b i 0 q
 
-pick-most : (t : Bool) (x b : ℕ) → x ≤ b → pick t x 0 ≤ b
+pick-most : (t : Bool) (x b : ℕ) → x ≤ b → cond t x 0 ≤ b
 pick-most true x b h = h
 pick-most false x b h = omega arith
 
@@ -147,7 +146,7 @@ module _ (set : TaskSet) (plan : Plan) (full : length (set .tasks) ≡ 64) (m : 
 
     no-start : plan .slot ≤ getD (plan .reserve) i 0 → getD (plan .start) i 0 ≡ 0
     unfolding S
-    no-start w = start-at ∙ ap (λ (t : Bool). pick t (startOf S rs (i + 1)) 0) (le-ltb (reserveOf rs (i + 1)) S whole)
+    no-start w = start-at ∙ ap (λ (t : Bool). cond t (startOf S rs (i + 1)) 0) (le-ltb (reserveOf rs (i + 1)) S whole)
       where
         whole : S ≤ reserveOf rs (i + 1)
         whole = subst (λ (k : ℕ). S ≤ getD rs k 0) (sym (add-sub-cancel i 1) ∙ sub-one (i + 1)) (omega (arith, reserve-at, of .slot, w))

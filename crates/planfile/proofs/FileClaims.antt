@@ -3,24 +3,24 @@
 use Prim.Native.Nat.{ℕ, _+_, _≤_}
 use mathlib.Core.Path.{_≡_, refl, sym, _∙_, ap}
 use mathlib.Core.List.{List, _++_}
-use mathlib.Core.Bool.{Bool, true, false}
+use mathlib.Core.Bool.{Bool, true, false, cond}
 use native.Mathlib.Nat.{zero-add}
 use native.Mathlib.Omega.{arith}
 use lib.Dec.{ltb}
 use lib.ListN.{length, take, drop}
 use borrow.Author.Tests.{ltb-true}
-use Rattle.frames.specs.Line.{stored}
-use Rattle.frames.specs.declared.refusal.Refusal.{Refusal}
-use Rattle.frames.specs.declared.refusal.Refusal.the-variants.{Room}
-use Rattle.frames.specs.declared.refusal.Outcome.{Outcome}
-use Rattle.frames.specs.declared.refusal.Outcome.the-variants.{Done, Refused as RefusedBy}
-use Rattle.frames.specs.declared.refusal.Written.{Written}
-use Rattle.frames.specs.declared.refusal.Written.the-variants.{Bytes, Refused}
+use Rattle.digits.specs.Stored.{stored}
+use Rattle.refusals.specs.declared.Refusal.{Refusal}
+use Rattle.refusals.specs.declared.Refusal.the-variants.{Room}
+use Rattle.refusals.specs.declared.Outcome.{Outcome}
+use Rattle.refusals.specs.declared.Outcome.the-variants.{Done, Refused as RefusedBy}
+use Rattle.refusals.specs.declared.Written.{Written}
+use Rattle.refusals.specs.declared.Written.the-variants.{Bytes, Refused}
 use Rattle.ring.specs.declared.clock.Tick.{Tick}
 use Rattle.tasks.specs.declared.set.TaskSet.{TaskSet}
 use Rattle.tasks.specs.declared.read.ReadAnswer.{ReadAnswer}
 use Rattle.tasks.specs.Read.{readOf}
-use Rattle.tasks.specs.Write.{pickWritten, leaves}
+use Rattle.tasks.specs.Write.{leaves}
 use Rattle.tasks.proofs.Prefix.{read-looks-at, furthest-bytes}
 use Rattle.plan.specs.declared.plan.Plan.{Plan}
 use Rattle.plan.specs.declared.planner.PlanAnswer.{PlanAnswer}
@@ -47,7 +47,7 @@ determined =
     }
 
 -- a refusal of a text is row 12
-only-room : (t : Bool) (n : ℕ) (r : Refusal) → pickWritten t (Refused Room) (Bytes n) ≡ Refused r → (r ≡ Room) × (t ≡ true)
+only-room : (t : Bool) (n : ℕ) (r : Refusal) → cond t (Refused Room) (Bytes n) ≡ Refused r → (r ≡ Room) × (t ≡ true)
 only-room true n r e = (cc, refl)
 only-room false n r e = let z : _≡_ {A = ℕ} 0 1 = cc in absurd (omega arith)
 

@@ -5,9 +5,9 @@ use Prim.Native.String.{String}
 use mathlib.Core.Bool.{Bool, true, false}
 use mathlib.Core.Path.{_≡_, refl, sym, _∙_, ap}
 use native.Mathlib.Omega.{arith}
-use Rattle.frames.specs.declared.refusal.Refusal.the-variants.{Horizon, Full, Ask}
-use Rattle.frames.specs.declared.refusal.Outcome.{Outcome}
-use Rattle.frames.specs.declared.refusal.Outcome.the-variants.{Done, Refused}
+use Rattle.refusals.specs.declared.Refusal.the-variants.{Horizon, Full, Ask}
+use Rattle.refusals.specs.declared.Outcome.{Outcome}
+use Rattle.refusals.specs.declared.Outcome.the-variants.{Done, Refused}
 use Rattle.tasks.specs.declared.set.TaskSet.{TaskSet}
 use Rattle.tasks.specs.declared.read.ReadAnswer.{ReadAnswer}
 use Rattle.tasks.specs.Rows.{when}
@@ -15,8 +15,8 @@ use Rattle.tasks.proofs.Examples.{bytesOf}
 use Rattle.plan.specs.declared.planner.PlanAnswer.{PlanAnswer}
 use Rattle.plan.specs.Planner.{planOf, planOutcome, fullRow, needed}
 use Rattle.plan.proofs.Made.{plan-outcome, plan-charged}
-use Rattle.frames.specs.Digit.{legal, valueOf, digitOf, allLegal}
-use Rattle.frames.specs.Number.{numberFrom, hex}
+use Rattle.digits.specs.Digit.{legal, valueOf, digitOf, allLegal}
+use Rattle.digits.specs.Number.{numberFrom, hex}
 use Rattle.frames.specs.Table.{kindOf, widthsOf, sum}
 use Rattle.frames.specs.Line.{line, after, closed, same, formed, fieldOf, fields, lineOf}
 use Rattle.tasks.specs.Set.{setOf}

@@ -8,15 +8,17 @@ use native.Mathlib.Omega.{arith}
 use lib.ListN.{length, drop, getD, length-append}
 use lib.Seq.{take-append-seam, drop-append-add, drop-at}
 use borrow.Author.Tests.{lt-ltb, le-ltb}
-use Rattle.frames.specs.Number.{hex}
+use Rattle.digits.specs.Number.{hex}
 use Rattle.frames.specs.Table.{kindOf, widthsOf, sum, lengthOf, placeOf, markOf}
-use Rattle.frames.specs.Line.{LF, lineOf, fields, stored}
+use Rattle.frames.specs.Line.{LF, lineOf, fields}
+use Rattle.digits.specs.Stored.{stored}
 use Rattle.frames.specs.declared.table.Frame.{Frame}
-use Rattle.frames.specs.declared.refusal.Refusal.{Refusal}
-use Rattle.frames.specs.Refused.{numberOf, placeOf as refusedAt}
+use Rattle.refusals.specs.declared.Refusal.{Refusal}
+use Rattle.refusals.specs.Refused.{numberOf, placeOf as refusedAt}
 use Rattle.frames.proofs.Lines.{line-length}
-use Rattle.frames.proofs.Numbers.{hex-length, mark-hex}
-use Rattle.frames.proofs.Stored.{stored-inside}
+use Rattle.digits.proofs.Numbers.{hex-length}
+use Rattle.frames.proofs.Tables.{mark-hex}
+use Rattle.digits.proofs.Stored.{stored-inside}
 use Rattle.tasks.specs.declared.set.TaskSet.{TaskSet}
 use Rattle.tasks.specs.Set.{zeroTask}
 use Rattle.plan.specs.declared.plan.Plan.{Plan}

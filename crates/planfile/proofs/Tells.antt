@@ -3,7 +3,7 @@
 use Prim.Native.Nat.{ℕ, zero, suc, _+_, _*_, _-_, _^_, _<_}
 use mathlib.Core.Path.{_≡_, refl, sym, _∙_, ap}
 use mathlib.Core.List.{List, [], _∷_, _++_}
-use mathlib.Core.Bool.{Bool, true, false}
+use mathlib.Core.Bool.{Bool, true, false, cond}
 use native.Mathlib.Nat.{add-sub-cancel}
 use native.Mathlib.Decide.{decLt}
 use native.Mathlib.Omega.{arith}
@@ -11,7 +11,6 @@ use lib.Dec.{ltb, lit<}
 use lib.ListN.{length, take, drop, getD, length-append}
 use lib.Seq.{take-append-seam, drop-append-seam, take-at, drop-at}
 use borrow.Author.Tests.{ltb-false}
-use Rattle.frames.specs.Digit.{pick}
 use Rattle.frames.specs.Table.{widthsOf, widthOf, lengthOf}
 use Rattle.frames.specs.Line.{lineOf, fieldOf}
 use Rattle.frames.specs.declared.table.Frame.{Frame}
@@ -61,10 +60,10 @@ lines-tell f g k p q (suc n) e i h = go (lines-tell f g k p q n (cut-front (line
         ]
 
 -- the figures of each line, by the place from 0
-server-figures : (plan : Plan) (i : ℕ) → serverLine plan (i + 1) ≡ lineOf Frame.Server ((i + 1) ∷ getD (plan .reserve) i 0 ∷ pick (ltb (getD (plan .reserve) i 0) (plan .slot)) (getD (plan .start) i 0) mark ∷ getD (plan .tasks) i 0 ∷ [])
+server-figures : (plan : Plan) (i : ℕ) → serverLine plan (i + 1) ≡ lineOf Frame.Server ((i + 1) ∷ getD (plan .reserve) i 0 ∷ cond (ltb (getD (plan .reserve) i 0) (plan .slot)) (getD (plan .start) i 0) mark ∷ getD (plan .tasks) i 0 ∷ [])
 unfolding serverLine
 server-figures plan i =
-    ap (λ (k : ℕ). lineOf Frame.Server ((i + 1) ∷ getD (plan .reserve) k 0 ∷ pick (ltb (getD (plan .reserve) k 0) (plan .slot)) (getD (plan .start) k 0) mark ∷ getD (plan .tasks) k 0 ∷ [])) (add-sub-cancel i 1)
+    ap (λ (k : ℕ). lineOf Frame.Server ((i + 1) ∷ getD (plan .reserve) k 0 ∷ cond (ltb (getD (plan .reserve) k 0) (plan .slot)) (getD (plan .start) k 0) mark ∷ getD (plan .tasks) k 0 ∷ [])) (add-sub-cancel i 1)
 
 placed-figures : (set : TaskSet) (plan : Plan) (i : ℕ) → placedLine set plan (i + 1) ≡ lineOf Frame.Placed (getD (set .tasks) i zeroTask .id ∷ getD (plan .server) i 0 ∷ [])
 unfolding placedLine
@@ -77,12 +76,12 @@ processor-figures plan i =
     ap (λ (k : ℕ). lineOf Frame.Processor ((i + 1) ∷ getD (plan .first) k 0 ∷ getD (plan .duration) k 0 ∷ [])) (add-sub-cancel i 1)
 
 -- a ring start or the mark fits eight digits
-pick-fits : (t : Bool) (x : ℕ) → x < 16 ^ 8 → pick t x mark < 16 ^ 8
+pick-fits : (t : Bool) (x : ℕ) → x < 16 ^ 8 → cond t x mark < 16 ^ 8
 pick-fits true x h = h
 pick-fits false x h = lit< tt
 
 -- a ring start that is told, or none on both sides
-start-tells : (t : Bool) (x y : ℕ) → pick t x mark ≡ pick t y mark → (t ≡ false → x ≡ 0) → (t ≡ false → y ≡ 0) → x ≡ y
+start-tells : (t : Bool) (x y : ℕ) → cond t x mark ≡ cond t y mark → (t ≡ false → x ≡ 0) → (t ≡ false → y ≡ 0) → x ≡ y
 start-tells true x y e p q = e
 start-tells false x y e p q = p refl ∙ sym (q refl)
 
@@ -188,7 +187,7 @@ module _ (set₁ set₂ : TaskSet) (plan₁ plan₂ : Plan) (fit₁ : FitFields 
           lines-tell (serverLine plan₁) (serverLine plan₂) (lengthOf Frame.Server + 1) (server-bytes plan₁) (server-bytes plan₂) (plan₂ .servers)
           (ap (lines (serverLine plan₁)) (sym same-servers) ∙ same-server-lines) i h
 
-      server-same : lineOf Frame.Server ((i + 1) ∷ getD (plan₁ .reserve) i 0 ∷ pick (ltb (getD (plan₁ .reserve) i 0) (plan₁ .slot)) (getD (plan₁ .start) i 0) mark ∷ getD (plan₁ .tasks) i 0 ∷ []) ≡ lineOf Frame.Server ((i + 1) ∷ getD (plan₂ .reserve) i 0 ∷ pick (ltb (getD (plan₂ .reserve) i 0) (plan₂ .slot)) (getD (plan₂ .start) i 0) mark ∷ getD (plan₂ .tasks) i 0 ∷ [])
+      server-same : lineOf Frame.Server ((i + 1) ∷ getD (plan₁ .reserve) i 0 ∷ cond (ltb (getD (plan₁ .reserve) i 0) (plan₁ .slot)) (getD (plan₁ .start) i 0) mark ∷ getD (plan₁ .tasks) i 0 ∷ []) ≡ lineOf Frame.Server ((i + 1) ∷ getD (plan₂ .reserve) i 0 ∷ cond (ltb (getD (plan₂ .reserve) i 0) (plan₂ .slot)) (getD (plan₂ .start) i 0) mark ∷ getD (plan₂ .tasks) i 0 ∷ [])
       server-same = sym (server-figures plan₁ i) ∙ server-line ∙ server-figures plan₂ i
 
       same-reserve : getD (plan₁ .reserve) i 0 ≡ getD (plan₂ .reserve) i 0
@@ -202,14 +201,14 @@ module _ (set₁ set₂ : TaskSet) (plan₁ plan₂ : Plan) (fit₁ : FitFields 
       test : ltb (getD (plan₁ .reserve) i 0) (plan₁ .slot) ≡ ltb (getD (plan₂ .reserve) i 0) (plan₂ .slot)
       test = rw (same-reserve, same-slot)
 
-      picked : pick (ltb (getD (plan₁ .reserve) i 0) (plan₁ .slot)) (getD (plan₁ .start) i 0) mark ≡ pick (ltb (getD (plan₂ .reserve) i 0) (plan₂ .slot)) (getD (plan₂ .start) i 0) mark
+      picked : cond (ltb (getD (plan₁ .reserve) i 0) (plan₁ .slot)) (getD (plan₁ .start) i 0) mark ≡ cond (ltb (getD (plan₂ .reserve) i 0) (plan₂ .slot)) (getD (plan₂ .start) i 0) mark
       unfolding widthsOf
       picked = line-tells Frame.Server _ _ server-same 2 (pick-fits (ltb (getD (plan₁ .reserve) i 0) (plan₁ .slot)) _ (fit₁ .start i there)) (pick-fits (ltb (getD (plan₂ .reserve) i 0) (plan₂ .slot)) _ (fit₂ .start i h))
 
       same-start : getD (plan₁ .start) i 0 ≡ getD (plan₂ .start) i 0
       same-start =
           start-tells (ltb (getD (plan₁ .reserve) i 0) (plan₁ .slot)) (getD (plan₁ .start) i 0) (getD (plan₂ .start) i 0)
-          (picked ∙ ap (λ (t : Bool). pick t (getD (plan₂ .start) i 0) mark) (sym test))
+          (picked ∙ ap (λ (t : Bool). cond t (getD (plan₂ .start) i 0) mark) (sym test))
           (λ (w : ltb (getD (plan₁ .reserve) i 0) (plan₁ .slot) ≡ false). fit₁ .no-start i there (ltb-false (getD (plan₁ .reserve) i 0) (plan₁ .slot) w))
           (λ (w : ltb (getD (plan₁ .reserve) i 0) (plan₁ .slot) ≡ false). fit₂ .no-start i h (ltb-false (getD (plan₂ .reserve) i 0) (plan₂ .slot) (sym test ∙ w)))
 

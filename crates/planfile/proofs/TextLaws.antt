@@ -7,9 +7,9 @@ use native.Mathlib.Nat.{suc-mul, mul-le-mul-right}
 use native.Mathlib.Numerals.{add-one}
 use native.Mathlib.Omega.{arith}
 use lib.ListN.{length, length-append}
-use Rattle.frames.specs.Line.{stored}
+use Rattle.digits.specs.Stored.{stored}
 use Rattle.frames.specs.declared.table.Frame.{Frame}
-use Rattle.frames.proofs.Stored.{stored-stored, stored-nil}
+use Rattle.digits.proofs.Stored.{stored-stored, stored-nil}
 use Rattle.tasks.specs.declared.set.TaskSet.{TaskSet}
 use Rattle.plan.specs.declared.plan.Plan.{Plan}
 use Rattle.planfile.specs.Text.{lines, planLine, serverLine, placedLine, processorLine, planText}

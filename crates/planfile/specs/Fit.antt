@@ -2,20 +2,21 @@
 -- Document 01, row 12 of the refusals and "An accepted write changes only the text's bytes at the buffer's start".
 use Prim.Native.Nat.{ℕ, _+_, _≤_}
 use mathlib.Core.List.{List}
+use mathlib.Core.Bool.{cond}
 use mathlib.Core.Path.{_≡_}
 use lib.ListN.{length}
 use lib.Dec.{ltb}
-use Rattle.frames.specs.declared.refusal.Refusal.the-variants.{Room}
-use Rattle.frames.specs.declared.refusal.Written.{Written}
-use Rattle.frames.specs.declared.refusal.Written.the-variants.{Bytes, Refused}
+use Rattle.refusals.specs.declared.Refusal.the-variants.{Room}
+use Rattle.refusals.specs.declared.Written.{Written}
+use Rattle.refusals.specs.declared.Written.the-variants.{Bytes, Refused}
 use Rattle.tasks.specs.declared.set.TaskSet.{TaskSet}
 use Rattle.tasks.specs.Set.{mostTasks}
-use Rattle.tasks.specs.Write.{pickWritten, leaves}
+use Rattle.tasks.specs.Write.{leaves}
 use Rattle.plan.specs.declared.plan.Plan.{Plan}
 
 -- a text of this length into this buffer
 unfoldable pub fitted : (buffer text : List ℕ) → Written
-fitted buffer text = pickWritten (ltb (length buffer) (length text)) (Refused Room) (Bytes (length text))
+fitted buffer text = cond (ltb (length buffer) (length text)) (Refused Room) (Bytes (length text))
 
 -- an answer, and what the buffer holds after it
 pub record Fits (buffer text : List ℕ) (answer : Written) (left : List ℕ) : Type 0 where

@@ -2,13 +2,13 @@
 -- Document 01, "Lines of hexadecimal".
 use Prim.Native.Nat.{ℕ, zero, suc, _+_, _-_, _^_}
 use mathlib.Core.List.{List, [], _∷_, _++_}
+use mathlib.Core.Bool.{cond}
 use lib.ListN.{getD}
 use lib.Dec.{ltb}
-use Rattle.frames.specs.Digit.{pick}
 use Rattle.frames.specs.Line.{lineOf}
-use Rattle.frames.specs.Refused.{numberOf, placeOf}
+use Rattle.refusals.specs.Refused.{numberOf, placeOf}
 use Rattle.frames.specs.declared.table.Frame.{Frame}
-use Rattle.frames.specs.declared.refusal.Refusal.{Refusal}
+use Rattle.refusals.specs.declared.Refusal.{Refusal}
 use Rattle.tasks.specs.declared.set.Task.{Task}
 use Rattle.tasks.specs.declared.set.TaskSet.{TaskSet}
 use Rattle.tasks.specs.Set.{zeroTask}
@@ -33,7 +33,7 @@ planLine plan = lineOf Frame.Plan (plan .whole ∷ plan .ring ∷ plan .servers 
 unfoldable pub serverLine : Plan → ℕ → List ℕ
 serverLine plan q =
     lineOf Frame.Server
-    (q ∷ at (plan .reserve) q ∷ pick (ltb (at (plan .reserve) q) (plan .slot)) (at (plan .start) q) mark ∷ at (plan .tasks) q ∷ [])
+    (q ∷ at (plan .reserve) q ∷ cond (ltb (at (plan .reserve) q) (plan .slot)) (at (plan .start) q) mark ∷ at (plan .tasks) q ∷ [])
 
 unfoldable pub placedLine : TaskSet → Plan → ℕ → List ℕ
 placedLine set plan k = lineOf Frame.Placed (getD (set .tasks) (k - 1) zeroTask .id ∷ at (plan .server) k ∷ [])

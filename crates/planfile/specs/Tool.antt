@@ -2,8 +2,8 @@
 -- Document 01, "Lines of hexadecimal".
 use Prim.Native.Nat.{ℕ}
 use mathlib.Core.List.{List}
-use Rattle.frames.specs.declared.refusal.Outcome.{Outcome}
-use Rattle.frames.specs.declared.refusal.Outcome.the-variants.{Done, Refused}
+use Rattle.refusals.specs.declared.Outcome.{Outcome}
+use Rattle.refusals.specs.declared.Outcome.the-variants.{Done, Refused}
 use Rattle.tasks.specs.declared.set.TaskSet.{TaskSet}
 use Rattle.tasks.specs.declared.read.ReadAnswer.{ReadAnswer}
 use Rattle.tasks.specs.Read.{readOf}

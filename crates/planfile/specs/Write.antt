@@ -2,15 +2,15 @@
 -- Document 01, rows 11 and 12 of the refusals.
 use Prim.Native.Nat.{ℕ}
 use mathlib.Core.List.{List}
-use Rattle.frames.specs.declared.refusal.Refusal.the-variants.{Ask}
-use Rattle.frames.specs.declared.refusal.Written.{Written}
-use Rattle.frames.specs.declared.refusal.Written.the-variants.{Refused}
+use mathlib.Core.Bool.{cond}
+use Rattle.refusals.specs.declared.Refusal.the-variants.{Ask}
+use Rattle.refusals.specs.declared.Written.{Written}
+use Rattle.refusals.specs.declared.Written.the-variants.{Refused}
 use Rattle.tasks.specs.declared.set.TaskSet.{TaskSet}
-use Rattle.tasks.specs.Write.{pickWritten}
 use Rattle.plan.specs.declared.plan.Plan.{Plan}
 use Rattle.plan.specs.Planner.{makes}
 use Rattle.planfile.specs.Text.{planText}
 use Rattle.planfile.specs.Fit.{fitted}
 
 unfoldable pub writePlan : TaskSet → Plan → (buffer : List ℕ) → Written
-writePlan set plan buffer = pickWritten (makes set plan) (fitted buffer (planText set plan)) (Refused Ask)
+writePlan set plan buffer = cond (makes set plan) (fitted buffer (planText set plan)) (Refused Ask)

@@ -1,7 +1,5 @@
 // The two questions asked of a task file. A file that is refused, or whose plan is, refuses the question as it was refused.
 // What is answered stands in specs/Asked.antt. A set is planned once.
-use frames::refusal::Outcome;
-use frames::refusal::Refusal;
 use plan::charge::loss;
 use plan::plan::Plan;
 use plan::planner::make;
@@ -12,6 +10,8 @@ use plan::question::is_processor;
 use plan::question::is_server;
 use plan::question::pass_judged;
 use plan::question::who_stands;
+use refusals::Outcome;
+use refusals::Refusal;
 use ring::clock::Tick;
 use tasks::read::read;
 use tasks::set::TaskSet;

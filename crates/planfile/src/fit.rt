@@ -3,11 +3,11 @@
 use crate::line::put_refusal;
 use crate::text::put_text;
 use crate::text::text_length;
-use frames::refusal::Refusal;
-use frames::refusal::Written;
 use frames::table::Frame;
 use frames::table::length;
 use plan::plan::Plan;
+use refusals::Refusal;
+use refusals::Written;
 use tasks::set::TaskSet;
 ghost use Rattle.planfile.specs.Text.{planText, refusalText};
 ghost use Rattle.planfile.specs.Fit.{Fits, Counted};

@@ -2,16 +2,16 @@
 // What each line holds stands in specs/Text.antt.
 use frames::line::put_line;
 use frames::line::put_mark;
-use frames::refusal::Refusal;
 use frames::table::Frame;
 use frames::table::place;
 use plan::plan::Plan;
+use refusals::Refusal;
 use tasks::set::TaskSet;
 ghost use mathlib.Core.Path.{_≡_};
 ghost use Prim.Native.Nat.{_+_, _<_, _≤_};
 ghost use lib.ListN.{length as bytes};
 ghost use Rattle.frames.specs.Table.{lengthOf};
-ghost use Rattle.frames.specs.Line.{stored};
+ghost use Rattle.digits.specs.Stored.{stored};
 ghost use Rattle.planfile.specs.Text.{planLine, serverLine, placedLine, processorLine, refusalText};
 
 // The 11 line.
@@ -75,8 +75,8 @@ pub fn put_refusal(out: &mut [u8], refusal: Refusal)
     requires { ⌜ bytes (refusalText refusal) ≤ bytes (now out) ⌝ }
     ensures { λ r. ⌜ now (out .exit) ≡ stored (now (out .entry)) 0 (refusalText refusal) ⌝ }
 {
-    let number = frames::refusal::number(refusal);
-    let place = frames::refusal::place(refusal);
+    let number = refusals::number(refusal);
+    let place = refusals::place(refusal);
     let values = [number, place, 0, 0, 0, 0, 0];
     put_line(out, 0, Frame::Refused, values);
 }

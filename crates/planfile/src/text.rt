@@ -12,7 +12,7 @@ ghost use mathlib.Core.Path.{_≡_};
 ghost use Prim.Native.Nat.{_+_, _*_, _≤_};
 ghost use lib.ListN.{length as bytes};
 ghost use Rattle.frames.specs.Table.{lengthOf};
-ghost use Rattle.frames.specs.Line.{stored};
+ghost use Rattle.digits.specs.Stored.{stored};
 ghost use Rattle.tasks.specs.Set.{mostTasks};
 ghost use Rattle.planfile.specs.Text.{lines, serverLine, placedLine, processorLine, planText};
 ghost use Rattle.planfile.specs.Fit.{Counted};

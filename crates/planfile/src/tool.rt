@@ -2,9 +2,9 @@
 // What it answers stands in specs/Tool.antt. A set is planned once.
 use crate::fit::fit_plan;
 use crate::fit::fit_refusal;
-use frames::refusal::Outcome;
-use frames::refusal::Written;
 use plan::planner::make;
+use refusals::Outcome;
+use refusals::Written;
 use tasks::read::read;
 use tasks::set::TaskSet;
 ghost use Rattle.planfile.specs.Fit.{Fits};

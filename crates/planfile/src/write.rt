@@ -1,10 +1,10 @@
 // Writing a plan that is handed in with its set: row 11 unless the planner makes it, then row 12, else the exact text.
 // What is answered stands in specs/Write.antt.
 use crate::fit::fit_plan;
-use frames::refusal::Refusal;
-use frames::refusal::Written;
 use plan::check::makes_plan;
 use plan::plan::Plan;
+use refusals::Refusal;
+use refusals::Written;
 use tasks::set::TaskSet;
 ghost use mathlib.Core.Path.{_≡_};
 ghost use Rattle.tasks.specs.Write.{leaves};

@@ -3,8 +3,8 @@
 use Prim.Native.Nat.{ℕ}
 use mathlib.Core.List.{List, map}
 use mathlib.Core.Path.{_≡_}
-use Rattle.frames.specs.declared.refusal.Refusal.the-variants.{Horizon}
-use Rattle.frames.specs.declared.refusal.Outcome.the-variants.{Done, Refused}
+use Rattle.refusals.specs.declared.Refusal.the-variants.{Horizon}
+use Rattle.refusals.specs.declared.Outcome.the-variants.{Done, Refused}
 use Rattle.demand.specs.Claims.{FakeDiffers}
 use Rattle.demand.proofs.Fake.{fake-differs}
 use Rattle.tasks.proofs.Examples.{bytesOf}

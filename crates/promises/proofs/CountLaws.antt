@@ -2,11 +2,10 @@
 -- Assumes nothing.
 use Prim.Native.Nat.{ℕ, zero, suc, _+_}
 use mathlib.Core.Path.{_≡_, refl, sym, ap, subst}
-use mathlib.Core.Bool.{Bool, true, false, false≢true}
+use mathlib.Core.Bool.{Bool, true, false, false≢true, cond}
 use mathlib.Core.Logic.{_↔_}
 use native.Mathlib.Nat.{add-zero}
 use native.Mathlib.Numerals.{add-one}
-use Rattle.demand.specs.Demand.{pick}
 use Rattle.ring.specs.declared.clock.Tick.{Tick}
 use Rattle.windows.specs.Window.{usableAt, usableIn}
 use Rattle.promises.specs.Counted.{Counted, none, counts, passes}
@@ -27,7 +26,7 @@ module _ (P : Tick → Type 0) (a : ℕ) where
   counts-all all (suc t) = counts (counts-all all t) (all (record { 0 = a + t }))
 
   -- one tick more, by its test
-  counts-next : (b : Bool) {t n : ℕ} → P (record { 0 = a + t }) ↔ (b ≡ true) → Counted P a t n → Counted P a (suc t) (n + pick b 1 0)
+  counts-next : (b : Bool) {t n : ℕ} → P (record { 0 = a + t }) ↔ (b ≡ true) → Counted P a t n → Counted P a (suc t) (n + cond b 1 0)
   counts-next true {t} {n} w c = subst (Counted P a (suc t)) (sym (add-one n)) (counts c (w .1 refl))
   counts-next false {t} {n} w c = subst (Counted P a (suc t)) (sym (add-zero n)) (passes c (λ p. false≢true (w .0 p)))
 

@@ -2,14 +2,13 @@
 -- Assumes nothing.
 use Prim.Native.Nat.{ℕ, zero, suc, _+_, _-_, _≤_, _<_}
 use mathlib.Core.Path.{_≡_, refl, sym, ap, _∙_}
-use mathlib.Core.Bool.{Bool, true}
+use mathlib.Core.Bool.{Bool, true, cond}
 use mathlib.Core.List.{List, [], _∷_, _++_}
 use native.Mathlib.Decide.{decLt}
 use native.Mathlib.Omega.{arith}
 use borrow.Author.Tests.{lt-ltb}
 use lib.ListN.{length, getD, take, List·getD-append}
 use lib.Seq.{getD-at, getD-take}
-use Rattle.frames.specs.Digit.{pick}
 use Rattle.servers.specs.Row.{row}
 use Rattle.servers.proofs.RowLaws.{row-take}
 use Rattle.ring.specs.Reserves.{reserveOf, startOf, processorsOf}
@@ -64,7 +63,7 @@ module _ (set : TaskSet) (plan : Plan) (full : length (set .tasks) ≡ 64) (e : 
   start-at q r =
       printed (ringStart (slotOf set) (setReserves set)) (plan .start) (planMade set .start) (plan .servers) (planMade set .servers) (made .servers) refl
       (made .start) q (r .some) (r .there)
-      ∙ ap (λ (b : Bool). pick b (startOf (slotOf set) (setReserves set) q) 0) (lt-ltb (reserveOf (setReserves set) q) (slotOf set) (r .ring))
+      ∙ ap (λ (b : Bool). cond b (startOf (slotOf set) (setReserves set) q) 0) (lt-ltb (reserveOf (setReserves set) q) (slotOf set) (r .ring))
 
   -- as many processors
   all-processors : plan .ring + plan .whole ≡ planMade set .ring + planMade set .whole

@@ -4,9 +4,9 @@ use Prim.Native.Nat.{ℕ, _+_, _*_}
 use mathlib.Core.List.{List}
 use mathlib.Core.Path.{_≡_, refl, sym, _∙_, ap}
 use native.Mathlib.Omega.{arith}
-use Rattle.frames.specs.Refused.{numberOf, placeOf}
-use Rattle.frames.specs.declared.refusal.Outcome.the-variants.{Done, Refused}
-use Rattle.frames.specs.declared.refusal.Written.{Written}
+use Rattle.refusals.specs.Refused.{numberOf, placeOf}
+use Rattle.refusals.specs.declared.Outcome.the-variants.{Done, Refused}
+use Rattle.refusals.specs.declared.Written.{Written}
 use Rattle.tasks.specs.Write.{leaves}
 use Rattle.planfile.specs.Tool.{answered}
 use Rattle.planfile.proofs.FileClaims.{text-exact, answered-short}

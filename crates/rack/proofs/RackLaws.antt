@@ -7,14 +7,14 @@ use borrow.Author.Tests.{lt-ltb, le-ltb}
 use lib.Dec.{lit≤}
 use lib.ListN.{length, take, getD, set}
 use native.Mathlib.Omega.{arith}
-use Rattle.frames.proofs.Stored.{stored-next}
-use Rattle.frames.specs.Refused.{numberOf}
-use Rattle.frames.specs.Line.{stored}
-use Rattle.frames.specs.declared.refusal.Refusal.{Refusal}
-use Rattle.frames.specs.declared.refusal.Refusal.the-variants.{Line, Order, Count, Twice, Board, Range, Slot, Tight, Horizon, Full, Ask, Room}
-use Rattle.frames.specs.declared.refusal.Outcome.{Outcome}
-use Rattle.frames.specs.declared.refusal.Outcome.the-variants.{Done, Refused}
-use Rattle.frames.specs.declared.refusal.Written.{Written}
+use Rattle.digits.proofs.Stored.{stored-next}
+use Rattle.refusals.specs.Refused.{numberOf}
+use Rattle.digits.specs.Stored.{stored}
+use Rattle.refusals.specs.declared.Refusal.{Refusal}
+use Rattle.refusals.specs.declared.Refusal.the-variants.{Line, Order, Count, Twice, Board, Range, Slot, Tight, Horizon, Full, Ask, Room}
+use Rattle.refusals.specs.declared.Outcome.{Outcome}
+use Rattle.refusals.specs.declared.Outcome.the-variants.{Done, Refused}
+use Rattle.refusals.specs.declared.Written.{Written}
 use Rattle.ring.specs.declared.clock.Tick.{Tick}
 use Rattle.plan.specs.declared.question.WhoAnswer.{WhoAnswer}
 use Rattle.plan.specs.declared.question.PassAnswer.{PassAnswer}

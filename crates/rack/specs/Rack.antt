@@ -2,16 +2,16 @@
 -- Document 01, "Lines of hexadecimal", the two questions, and "Refusal numbers and their order".
 use Prim.Native.Nat.{ℕ, _+_, _*_}
 use mathlib.Core.List.{List, [], _∷_}
-use mathlib.Core.Bool.{Bool, true, false}
+use mathlib.Core.Bool.{Bool, true, false, cond}
 use lib.ListN.{length}
 use lib.Dec.{ltb}
-use Rattle.frames.specs.Line.{stored}
-use Rattle.frames.specs.Refused.{numberOf, placeOf}
-use Rattle.frames.specs.declared.refusal.Refusal.the-variants.{Room}
-use Rattle.frames.specs.declared.refusal.Outcome.{Outcome}
-use Rattle.frames.specs.declared.refusal.Outcome.the-variants.{Done, Refused}
-use Rattle.frames.specs.declared.refusal.Written.{Written}
-use Rattle.frames.specs.declared.refusal.Written.the-variants.{Bytes, Refused as NotWritten}
+use Rattle.digits.specs.Stored.{stored}
+use Rattle.refusals.specs.Refused.{numberOf, placeOf}
+use Rattle.refusals.specs.declared.Refusal.the-variants.{Room}
+use Rattle.refusals.specs.declared.Outcome.{Outcome}
+use Rattle.refusals.specs.declared.Outcome.the-variants.{Done, Refused}
+use Rattle.refusals.specs.declared.Written.{Written}
+use Rattle.refusals.specs.declared.Written.the-variants.{Bytes, Refused as NotWritten}
 use Rattle.tasks.specs.Write.{leaves}
 use Rattle.verdict.specs.declared.answer.Reading.{Reading}
 use Rattle.verdict.specs.declared.answer.Verdict.{Verdict}
@@ -39,13 +39,9 @@ abbrev pub statusOf : Outcome → ℕ
 statusOf Done = 0
 statusOf (Refused r) = numberOf r * 256 + placeOf r
 
-abbrev pub pickOutcome : Bool → Outcome → Outcome → Outcome
-pickOutcome true a b = a
-pickOutcome false a b = b
-
 -- a question's own refusal, then 12 where the lent answer has too few places
 unfoldable pub toldOf : Outcome → (numbers answer : List ℕ) → Outcome
-toldOf Done numbers answer = pickOutcome (ltb (length answer) (length numbers)) (Refused Room) Done
+toldOf Done numbers answer = cond (ltb (length answer) (length numbers)) (Refused Room) Done
 toldOf (Refused r) numbers answer = Refused r
 
 -- the numbers at the answer's start, or the answer as before

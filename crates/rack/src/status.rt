@@ -1,9 +1,9 @@
 // The status of an answer, 0 or a refusal as one number, and the numbers of an answer in lent memory.
-use frames::refusal::Refusal;
-use frames::refusal::number;
+use refusals::Refusal;
+use refusals::number;
 ghost use mathlib.Core.Path.{_≡_};
-ghost use Rattle.frames.specs.Refused.{placeOf};
-ghost use Rattle.frames.specs.declared.refusal.Outcome.the-variants.{Done, Refused};
+ghost use Rattle.refusals.specs.Refused.{placeOf};
+ghost use Rattle.refusals.specs.declared.Outcome.the-variants.{Done, Refused};
 ghost use Rattle.rack.specs.Rack.{statusOf, toldOf, leavesNumbers};
 
 // The place of a refusal, as the byte that it is.

@@ -1,5 +1,5 @@
 // The plan text of a task file, or its 1F line, into lent memory.
-use frames::refusal::Written;
+use refusals::Written;
 ghost use mathlib.Core.Path.{_≡_};
 ghost use Rattle.rack.specs.Rack.{planBytes, planLeaves};
 

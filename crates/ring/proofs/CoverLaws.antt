@@ -3,7 +3,7 @@
 use Prim.Native.Nat.{ℕ, zero, suc, _+_, _≤_, _<_}
 use mathlib.Core.Path.{_≡_, refl, sym, ap, subst, _∙_}
 use mathlib.Core.List.{List}
-use mathlib.Core.Bool.{Bool, true, false}
+use mathlib.Core.Bool.{Bool, true, false, cond, _&&_}
 use mathlib.Core.Logic.{⊎-elim}
 use native.Mathlib.Nat.{le-suc-iff, le-refl}
 use native.Mathlib.Omega.{arith}
@@ -11,8 +11,8 @@ use borrow.Author.Tests.{lt-ltb, le-leb, ltb-true, leb-true}
 use lib.Dec.{ltb, leb}
 use lib.ListN.{length, getD, take, List·getD-eq-default}
 use Rattle.ring.specs.declared.clock.Position.{Position}
-use Rattle.ring.specs.Reserves.{pick, reserveOf, ringTicks, startOf}
-use Rattle.ring.specs.Cover.{both, covers, covererUpTo}
+use Rattle.ring.specs.Reserves.{reserveOf, ringTicks, startOf}
+use Rattle.ring.specs.Cover.{covers, covererUpTo}
 use Rattle.ring.proofs.Cases.{le-or-lt, eq-by-cases, both-true}
 use Rattle.ring.proofs.Starts.{ring-more, ring-same, ring-mono, ring-part}
 
@@ -26,7 +26,7 @@ module _ (S : ℕ) (rs : List ℕ) where
   pub covers-told : (q : ℕ) (at : Position) → covers S rs q at ≡ true → Covers S rs q (at .0)
   unfolding covers
   covers-told q at e =
-      let a = both-true (ltb (reserveOf rs q) S) (both (leb (startOf S rs q) (at .0)) (ltb (at .0) (startOf S rs q + reserveOf rs q))) e in
+      let a = both-true (ltb (reserveOf rs q) S) (leb (startOf S rs q) (at .0) && ltb (at .0) (startOf S rs q + reserveOf rs q)) e in
       let b = both-true (leb (startOf S rs q) (at .0)) (ltb (at .0) (startOf S rs q + reserveOf rs q)) (a .1) in
       record { ring = ltb-true _ _ (a .0); from = leb-true _ _ (b .0); before = ltb-true _ _ (b .1) }
 
@@ -83,7 +83,7 @@ module _ (S : ℕ) (rs : List ℕ) where
   -- ---- the server that covers
 
   module _ (at : Position) where
-    coverer-suc : (n : ℕ) (t : Bool) → covers S rs (suc n) at ≡ t → covererUpTo S rs at (suc n) ≡ pick t (suc n) (covererUpTo S rs at n)
+    coverer-suc : (n : ℕ) (t : Bool) → covers S rs (suc n) at ≡ t → covererUpTo S rs at (suc n) ≡ cond t (suc n) (covererUpTo S rs at n)
     unfolding covererUpTo
     coverer-suc n t e = rw e
 

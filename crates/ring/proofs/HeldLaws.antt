@@ -3,7 +3,7 @@
 use Prim.Native.Nat.{ℕ, zero, suc, min, _+_, _-_, _%_, _≤_, _<_}
 use mathlib.Core.Path.{_≡_, refl, sym, ap, subst, _∙_}
 use mathlib.Core.List.{List}
-use mathlib.Core.Bool.{Bool, true, false}
+use mathlib.Core.Bool.{Bool, true, false, cond}
 use mathlib.Core.Logic.{⊎-elim}
 use native.Mathlib.Nat.{le-refl, le-suc-iff, mod-eq-of-lt, mod-eq-sub-mod, le-antisymm}
 use native.Mathlib.Omega.{arith}
@@ -11,7 +11,7 @@ use borrow.Author.Tests.{eqb-true, eq-eqb}
 use lib.Dec.{ltb, eqb}
 use lib.ListN.{length}
 use Rattle.ring.specs.declared.clock.Tick.{Tick}
-use Rattle.ring.specs.Reserves.{pick, reserveOf, startOf, processorsOf}
+use Rattle.ring.specs.Reserves.{reserveOf, startOf, processorsOf}
 use Rattle.ring.specs.Who.{whoOf}
 use Rattle.ring.specs.Serves.{RingServer, WholeProcessor, ServesOnRing, ServesWhole, Serves, OnBoard, sinceStart}
 use Rattle.ring.specs.Held.{later, countTo, heldAt, held}
@@ -30,7 +30,7 @@ not-true true h = absurd (h refl)
 not-true false h = refl
 
 module _ (test : ℕ → Bool) where
-  count-suc : (n : ℕ) (t : Bool) → test (suc n) ≡ t → countTo test (suc n) ≡ countTo test n + pick t 1 0
+  count-suc : (n : ℕ) (t : Bool) → test (suc n) ≡ t → countTo test (suc n) ≡ countTo test n + cond t 1 0
   unfolding countTo
   count-suc n t e = rw e
 
@@ -87,7 +87,7 @@ module _ (S : ℕ) (rs : List ℕ) (q : ℕ) (h : 1 ≤ S) (some : 1 ≤ q) wher
   held-none x b =
       count-none (λ p. eqb (whoOf S rs p x .server) q) (processorsOf S rs) (λ p a c e. b (p, runs x p a c e))
 
-  pub held-ring : (x : Tick) → RingServer S rs q → heldAt S rs q x ≡ pick (ltb (sinceStart S rs q x) (reserveOf rs q)) 1 0
+  pub held-ring : (x : Tick) → RingServer S rs q → heldAt S rs q x ≡ cond (ltb (sinceStart S rs q x) (reserveOf rs q)) 1 0
   held-ring x s =
       ⊎-elim
       (λ (l : reserveOf rs q ≤ sinceStart S rs q x).
@@ -104,15 +104,15 @@ module _ (S : ℕ) (rs : List ℕ) (q : ℕ) (h : 1 ≤ S) (some : 1 ≤ q) wher
 -- the i below t with (z + i) mod S below R
 unfoldable pub turned : (S R z : ℕ) → ℕ → ℕ
 turned S R z zero = 0
-turned S R z (suc t) = turned S R z t + pick (ltb ((z + t) % S) R) 1 0
+turned S R z (suc t) = turned S R z t + cond (ltb ((z + t) % S) R) 1 0
 
 module _ (S R z : ℕ) (hR : R ≤ S) (hz : z < S) where
-  one-turn : (t v : ℕ) → (z + t) % S ≡ v → turned S R z (suc t) ≡ turned S R z t + pick (ltb v R) 1 0
+  one-turn : (t v : ℕ) → (z + t) % S ≡ v → turned S R z (suc t) ≡ turned S R z t + cond (ltb v R) 1 0
   unfolding turned
   one-turn t v e = rw e
 
   -- min R grows by one up to R
-  min-step : (v : ℕ) → min R v + pick (ltb v R) 1 0 ≡ min R (v + 1)
+  min-step : (v : ℕ) → min R v + cond (ltb v R) 1 0 ≡ min R (v + 1)
   min-step v =
       ⊎-elim (λ (p : R ≤ v). omega (arith, pick-ge 1 0 p)) (λ (p : v < R). omega (arith, pick-lt 1 0 p)) (le-or-lt R v)
 
@@ -150,9 +150,9 @@ module _ (S : ℕ) (rs : List ℕ) (q : ℕ) (x : Tick) (h : 1 ≤ S) where
   unfolding held turned
   ring-turned s zero = refl
   ring-turned s (suc t) =
-      let e : heldAt S rs q (later x t) ≡ pick (ltb ((sinceStart S rs q x + t) % S) (reserveOf rs q)) 1 0 =
+      let e : heldAt S rs q (later x t) ≡ cond (ltb ((sinceStart S rs q x + t) % S) (reserveOf rs q)) 1 0 =
       held-ring S rs q h (s .some) (later x t) s ∙
-      ap (λ (n : ℕ). pick (ltb n (reserveOf rs q)) 1 0) (since-later S h (startOf S rs q) (x .0) t)
+      ap (λ (n : ℕ). cond (ltb n (reserveOf rs q)) 1 0) (since-later S h (startOf S rs q) (x .0) t)
       in
       omega (arith, ring-turned s t)
 

@@ -2,6 +2,7 @@
 -- Assumes nothing.
 use Prim.Native.Nat.{ℕ, zero, suc, _+_, _*_, _≤_, _<_, _^_}
 use mathlib.Core.Path.{_≡_, refl, sym, ap, _∙_}
+use mathlib.Core.Bool.{cond}
 use mathlib.Core.List.{List, [], _∷_, _++_}
 use mathlib.Core.Logic.{⊎-elim}
 use native.Mathlib.Nat.{le-trans, le-refl, mul-le-mul-right}
@@ -12,7 +13,7 @@ use lib.ListN.{length, getD, take, drop, take-append-drop}
 use lib.Seq.{take-suc, take-add, take-take, length-take-le, getD-take}
 use Rattle.wholes.proofs.CeilingLaws.{ceiling-least}
 use Rattle.ring.specs.Laid.{Laid, Reserved}
-use Rattle.ring.specs.Reserves.{pick, ringTicks, wholes, ringProcessors, ringLength}
+use Rattle.ring.specs.Reserves.{ringTicks, wholes, ringProcessors, ringLength}
 use Rattle.ring.proofs.Cases.{le-or-lt, pick-lt, pick-ge}
 
 -- ---- a sum over a list, by the first element and the rest
@@ -38,10 +39,10 @@ module _ (F : List ℕ → ℕ) (g : ℕ → ℕ) (nil : F [] ≡ 0) (cons : (R 
 -- ---- the ticks on the ring, and the whole processors
 
 abbrev ringTerm : ℕ → ℕ → ℕ
-ringTerm S R = pick (ltb R S) R 0
+ringTerm S R = cond (ltb R S) R 0
 
 abbrev wholeTerm : ℕ → ℕ → ℕ
-wholeTerm S R = pick (ltb R S) 0 1
+wholeTerm S R = cond (ltb R S) 0 1
 
 module _ (S : ℕ) where
   pub ring-cons : (R : ℕ) (Rs : List ℕ) → ringTicks S (R ∷ Rs) ≡ ringTerm S R + ringTicks S Rs

@@ -2,10 +2,10 @@
 -- Document 01: "In any S consecutive ticks a server holds exactly R processor ticks, counted from the rota tick by tick".
 use Prim.Native.Nat.{ℕ, zero, suc, _+_}
 use mathlib.Core.List.{List}
-use mathlib.Core.Bool.{Bool}
+use mathlib.Core.Bool.{Bool, cond}
 use lib.Dec.{eqb}
 use Rattle.ring.specs.declared.clock.Tick.{Tick}
-use Rattle.ring.specs.Reserves.{pick, processorsOf}
+use Rattle.ring.specs.Reserves.{processorsOf}
 use Rattle.ring.specs.Who.{whoOf}
 
 -- j ticks later
@@ -15,7 +15,7 @@ later x j = record { 0 = x .0 + j }
 -- how many of the numbers 1 to n pass a test
 unfoldable pub countTo : (ℕ → Bool) → ℕ → ℕ
 countTo test zero = 0
-countTo test (suc n) = countTo test n + pick (test (suc n)) 1 0
+countTo test (suc n) = countTo test n + cond (test (suc n)) 1 0
 
 -- the processors that run server q at a tick
 unfoldable pub heldAt : (S : ℕ) (reserves : List ℕ) (q : ℕ) → Tick → ℕ

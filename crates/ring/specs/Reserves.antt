@@ -5,11 +5,7 @@ use mathlib.Core.List.{List, [], _∷_}
 use lib.ListN.{getD, take}
 use lib.Dec.{ltb}
 use Rattle.wholes.specs.Ceiling.{ceilingOf}
-use mathlib.Core.Bool.{Bool, true, false}
-
-abbrev pub pick : Bool → ℕ → ℕ → ℕ
-pick true a b = a
-pick false a b = b
+use mathlib.Core.Bool.{Bool, true, false, cond}
 
 -- the reserve of server q; servers count from 1
 abbrev pub reserveOf : List ℕ → ℕ → ℕ
@@ -18,12 +14,12 @@ reserveOf reserves q = getD reserves (pred q) 0
 -- the sum of the reserves that stand on the ring: those below a slot
 unfoldable pub ringTicks : (S : ℕ) (reserves : List ℕ) → ℕ
 ringTicks S [] = 0
-ringTicks S (R ∷ Rs) = pick (ltb R S) R 0 + ringTicks S Rs
+ringTicks S (R ∷ Rs) = cond (ltb R S) R 0 + ringTicks S Rs
 
 -- the servers that have a whole processor
 unfoldable pub wholes : (S : ℕ) (reserves : List ℕ) → ℕ
 wholes S [] = 0
-wholes S (R ∷ Rs) = pick (ltb R S) 0 1 + wholes S Rs
+wholes S (R ∷ Rs) = cond (ltb R S) 0 1 + wholes S Rs
 
 -- each ring server starts where the last ended: after all ring reserves of lower number
 abbrev pub startOf : (S : ℕ) (reserves : List ℕ) (q : ℕ) → ℕ

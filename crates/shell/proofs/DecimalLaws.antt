@@ -3,7 +3,7 @@
 use Prim.Native.Nat.{ℕ, zero, suc, _+_, _*_, _-_, _^_, _≤_, _<_, zero-le, suc-le-suc}
 use mathlib.Core.List.{List, [], _∷_}
 use mathlib.Core.Path.{_≡_, refl, sym, _∙_, ap, subst}
-use mathlib.Core.Bool.{Bool, true, false}
+use mathlib.Core.Bool.{Bool, true, false, _&&_}
 use lib.Dec.{leb}
 use lib.ListN.{length, getD, drop, drop-of-length-le}
 use lib.Seq.{drop-cons}
@@ -12,7 +12,7 @@ use mathlib.Core.Logic.{_⊎_, inl, inr, ⊎-elim}
 use native.Mathlib.Omega.{arith}
 use borrow.Author.Tests.{lt-ltb, le-ltb, lt-leb, le-leb}
 use Rattle.shell.specs.declared.number.Number.the-variants.{Of, Wrong}
-use Rattle.shell.specs.Decimal.{both, allDigits, valueFrom, numberFrom, decimalOf}
+use Rattle.shell.specs.Decimal.{allDigits, valueFrom, numberFrom, decimalOf}
 
 -- digits behind a number make it no smaller
 grows : (high : ℕ) (bs : List ℕ) → high ≤ valueFrom high bs
@@ -20,7 +20,7 @@ unfolding valueFrom
 grows high [] = omega arith
 grows high (b ∷ bs) = omega (arith, grows (high * 10 + (b - 48)) bs)
 
-both-false : (d : Bool) → both d false ≡ false
+both-false : (d : Bool) → (d && false) ≡ false
 both-false true = refl
 both-false false = refl
 

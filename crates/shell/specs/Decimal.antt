@@ -2,23 +2,15 @@
 -- The words of the command line that name a processor, a tick, a server or a reserve are read so.
 use Prim.Native.Nat.{ℕ, _+_, _*_, _-_, _^_}
 use mathlib.Core.List.{List, [], _∷_}
-use mathlib.Core.Bool.{Bool, true, false}
+use mathlib.Core.Bool.{Bool, true, false, cond, _&&_}
 use lib.Dec.{leb, ltb}
 use Rattle.shell.specs.declared.number.Number.{Number}
 use Rattle.shell.specs.declared.number.Number.the-variants.{Of, Wrong}
 
-abbrev pub both : Bool → Bool → Bool
-both true b = b
-both false b = false
-
-abbrev pub pickNumber : Bool → Number → Number → Number
-pickNumber true a b = a
-pickNumber false a b = b
-
 -- 0-9 are the bytes 48 to 57
 unfoldable pub allDigits : List ℕ → Bool
 allDigits [] = true
-allDigits (b ∷ bs) = both (both (leb 48 b) (leb b 57)) (allDigits bs)
+allDigits (b ∷ bs) = (leb 48 b && leb b 57) && allDigits bs
 
 -- the value of digits that stand behind a number
 unfoldable pub valueFrom : (high : ℕ) → List ℕ → ℕ
@@ -28,7 +20,7 @@ valueFrom high (b ∷ bs) = valueFrom (high * 10 + (b - 48)) bs
 -- the number of digits that stand behind a number
 unfoldable pub numberFrom : (high : ℕ) → List ℕ → Number
 numberFrom high text =
-    pickNumber (both (allDigits text) (ltb (valueFrom high text) (2 ^ 64))) (Of (valueFrom high text)) Wrong
+    cond (allDigits text && ltb (valueFrom high text) (2 ^ 64)) (Of (valueFrom high text)) Wrong
 
 -- the number that a text stands for
 unfoldable pub decimalOf : List ℕ → Number

@@ -2,11 +2,10 @@
 -- Assumes nothing.
 use Prim.Native.Nat.{_≤_, _<_}
 use mathlib.Core.Path.{_≡_, refl}
-use mathlib.Core.Bool.{Bool, true, false}
+use mathlib.Core.Bool.{Bool, true, false, _||_}
 use native.Mathlib.Omega.{arith}
 use lib.Dec.{leb, ltb, eqb}
 use borrow.Author.Tests.{lt-leb, ltb-false, eqb-false}
-use Rattle.frames.specs.Digit.{either}
 use Rattle.tasks.specs.declared.set.Header.{Header}
 use Rattle.tasks.specs.declared.set.Task.{Task}
 use Rattle.tasks.specs.declared.set.TaskSet.{TaskSet}
@@ -14,20 +13,20 @@ use Rattle.tasks.specs.Set.{mostTasks, members}
 use Rattle.tasks.specs.Rows.{some, countRow, twiceRow, headerOverflows, taskOverflows, askRow}
 
 -- a test beside one that fails
-pub either-false : (a : Bool) → either a false ≡ a
+pub either-false : (a : Bool) → (a || false) ≡ a
 either-false true = refl
 either-false false = refl
 
 -- neither of two tests holds
-pub either-left : (a b : Bool) → either a b ≡ false → a ≡ false
+pub either-left : (a b : Bool) → (a || b) ≡ false → a ≡ false
 either-left true b p = p
 either-left false b p = refl
 
-pub either-right : (a b : Bool) → either a b ≡ false → b ≡ false
+pub either-right : (a b : Bool) → (a || b) ≡ false → b ≡ false
 either-right true b p = cc
 either-right false b p = p
 
-pub either-none : {a b : Bool} → a ≡ false → b ≡ false → either a b ≡ false
+pub either-none : {a b : Bool} → a ≡ false → b ≡ false → (a || b) ≡ false
 either-none p q = rw (p, q)
 
 -- of a header only the slot can be too large
@@ -38,7 +37,7 @@ header-overflow h m a b d e f =
     (either-false (leb 16777216 (h .slot)))
 
 -- of a task only the times can
-pub task-overflow : (t : Task) → t .id < 256 → taskOverflows t ≡ either (ltb 16777215 (t .cost)) (either (ltb 16777215 (t .deadline)) (ltb 16777215 (t .period)))
+pub task-overflow : (t : Task) → t .id < 256 → taskOverflows t ≡ (ltb 16777215 (t .cost) || (ltb 16777215 (t .deadline) || ltb 16777215 (t .period)))
 unfolding taskOverflows
 task-overflow t h = rw (lt-leb 256 (t .id) h)
 
@@ -51,7 +50,7 @@ count-within set p = (some-task, ltb-false mostTasks (set .count) (either-right 
     some-task = omega (arith, eqb-false (set .count) 0 (either-left (eqb (set .count) 0) (ltb mostTasks (set .count)) p))
 
 -- row 11 of a set, by the answers of its parts
-pub ask-rows : (set : TaskSet) {a b c d : Bool} → countRow set ≡ a → twiceRow (members set) ≡ b → headerOverflows (set .header) ≡ c → some taskOverflows (members set) ≡ d → askRow set ≡ either a (either b (either c d))
+pub ask-rows : (set : TaskSet) {a b c d : Bool} → countRow set ≡ a → twiceRow (members set) ≡ b → headerOverflows (set .header) ≡ c → some taskOverflows (members set) ≡ d → askRow set ≡ (a || (b || (c || d)))
 unfolding askRow
 ask-rows set p q r t = rw (p, q, r, t)
 

@@ -5,13 +5,13 @@ use Prim.Native.Char.{code}
 use Prim.Native.String.{String}
 use mathlib.Core.List.{List, [], _∷_, map}
 use mathlib.Core.Path.{_≡_, refl}
-use Rattle.frames.specs.Digit.{legal, valueOf, allLegal}
-use Rattle.frames.specs.Number.{numberFrom}
+use Rattle.digits.specs.Digit.{legal, valueOf, allLegal}
+use Rattle.digits.specs.Number.{numberFrom}
 use Rattle.frames.specs.Table.{kindOf, widthsOf, sum}
 use Rattle.frames.specs.Line.{line, after, closed, same, formed, fieldOf}
-use Rattle.frames.specs.declared.refusal.Refusal.the-variants.{Line, Order, Count, Twice, Board, Range}
-use Rattle.frames.specs.declared.refusal.Outcome.{Outcome}
-use Rattle.frames.specs.declared.refusal.Outcome.the-variants.{Done, Refused}
+use Rattle.refusals.specs.declared.Refusal.the-variants.{Line, Order, Count, Twice, Board, Range}
+use Rattle.refusals.specs.declared.Outcome.{Outcome}
+use Rattle.refusals.specs.declared.Outcome.the-variants.{Done, Refused}
 use Rattle.tasks.specs.Set.{setOf}
 use Rattle.tasks.specs.Rows.{firstFrom, boardRow, rangeRow, figuresOutcome}
 use Rattle.tasks.specs.File.{past, tasksUpTo, seenUpTo, lineRow, orderRow, countLineRow, twiceLineRow, lineOutcome, linesOutcome, headerAt, taskAt, tasksFrom}

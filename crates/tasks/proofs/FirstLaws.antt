@@ -2,10 +2,9 @@
 use Prim.Native.Nat.{ℕ, zero, suc, _+_, _<_}
 use native.Mathlib.Omega.{arith}
 use mathlib.Core.List.{List, [], _∷_}
-use mathlib.Core.Bool.{Bool, true, false}
+use mathlib.Core.Bool.{Bool, true, false, cond}
 use mathlib.Core.Path.{_≡_, refl}
 use lib.ListN.{length, getD}
-use Rattle.frames.specs.Digit.{pick}
 use Rattle.tasks.specs.declared.set.Task.{Task}
 use Rattle.tasks.specs.Rows.{firstFrom}
 
@@ -33,7 +32,7 @@ module _ (p : Task → Bool) (z : Task) where
   first-stops k m [] e = absurd (omega arith)
   first-stops k m (t ∷ ts) e = at (p t) refl e (first-stops (suc k) m ts)
     where
-      at : (b : Bool) → p t ≡ b → pick b (suc k) (firstFrom p (suc (suc k)) ts) ≡ suc m → (firstFrom p (suc (suc k)) ts ≡ suc m → (d : ℕ) × (m ≡ suc k + d) × Stops p z ts d) → (d : ℕ) × (m ≡ k + d) × Stops p z (t ∷ ts) d
+      at : (b : Bool) → p t ≡ b → cond b (suc k) (firstFrom p (suc (suc k)) ts) ≡ suc m → (firstFrom p (suc (suc k)) ts ≡ suc m → (d : ℕ) × (m ≡ suc k + d) × Stops p z ts d) → (d : ℕ) × (m ≡ k + d) × Stops p z (t ∷ ts) d
       at true holds e later = (0, omega arith, record { within = omega arith; holds = holds; earlier = λ j lt. absurd (omega arith) })
       at false fails e later =
           let found : (d : ℕ) × (m ≡ suc k + d) × Stops p z ts d = later e in
@@ -52,12 +51,12 @@ module _ (p : Task → Bool) (z : Task) where
   first-none k [] e j lt = absurd (omega arith)
   first-none k (t ∷ ts) e zero lt = at (p t) e
     where
-      at : (b : Bool) → pick b (suc k) (firstFrom p (suc (suc k)) ts) ≡ 0 → b ≡ false
+      at : (b : Bool) → cond b (suc k) (firstFrom p (suc (suc k)) ts) ≡ 0 → b ≡ false
       at true e = absurd (omega arith)
       at false e = refl
   first-none k (t ∷ ts) e (suc j) lt = first-none (suc k) ts (at (p t) e) j (omega arith)
     where
-      at : (b : Bool) → pick b (suc k) (firstFrom p (suc (suc k)) ts) ≡ 0 → firstFrom p (suc (suc k)) ts ≡ 0
+      at : (b : Bool) → cond b (suc k) (firstFrom p (suc (suc k)) ts) ≡ 0 → firstFrom p (suc (suc k)) ts ≡ 0
       at true e = absurd (omega arith)
       at false e = e
 

@@ -3,16 +3,15 @@ use Prim.Native.Nat.{ℕ, zero, suc, _+_, _≤_, _<_}
 use native.Mathlib.Omega.{arith}
 use native.Mathlib.Numerals.{add-one}
 use mathlib.Core.List.{List, [], _∷_}
-use mathlib.Core.Bool.{Bool, true, false}
+use mathlib.Core.Bool.{Bool, true, false, cond}
 use mathlib.Core.Path.{_≡_, refl}
 use lib.ListN.{length, drop, getD, drop-of-length-le}
 use lib.Seq.{drop-cons, getD-take, length-take-le}
 use Rattle.tasks.specs.declared.set.Task.{Task}
 use Rattle.tasks.specs.declared.set.TaskSet.{TaskSet}
-use Rattle.frames.specs.Digit.{pick}
-use Rattle.frames.specs.declared.refusal.Refusal.{Refusal}
-use Rattle.frames.specs.declared.refusal.Refusal.the-variants.{Board, Range}
-use Rattle.frames.specs.declared.refusal.Outcome.the-variants.{Done, Refused}
+use Rattle.refusals.specs.declared.Refusal.{Refusal}
+use Rattle.refusals.specs.declared.Refusal.the-variants.{Board, Range}
+use Rattle.refusals.specs.declared.Outcome.the-variants.{Done, Refused}
 use Rattle.tasks.specs.Rows.{firstFrom, firstTask, atTask, boardRow, rangeRow, figuresOutcome}
 use Rattle.tasks.specs.Set.{members}
 
@@ -38,7 +37,7 @@ module _ (p : Task → Bool) where
   first-within k [] = omega arith
   first-within k (t ∷ ts) = picked (p t) (first-within (suc k) ts)
     where
-      picked : (b : Bool) → firstFrom p (suc k) ts ≤ suc k + length ts → pick b k (firstFrom p (suc k) ts) ≤ k + suc (length ts)
+      picked : (b : Bool) → firstFrom p (suc k) ts ≤ suc k + length ts → cond b k (firstFrom p (suc k) ts) ≤ k + suc (length ts)
       picked true h = omega arith
       picked false h = omega arith
 

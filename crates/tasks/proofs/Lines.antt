@@ -4,19 +4,18 @@ use native.Mathlib.Omega.{arith}
 use native.Mathlib.Decide.{ℕ-discrete, decLt}
 use native.Mathlib.Nat.{add-zero, add-suc, le-refl, le-trans}
 use mathlib.Core.List.{List, [], _∷_, _++_}
-use mathlib.Core.Bool.{Bool, true, false, not}
+use mathlib.Core.Bool.{Bool, true, false, not, _&&_, _||_}
 use mathlib.Core.Path.{_≡_, refl, sym, _∙_, subst}
 use lib.ListN.{length, length-append}
 use lib.Dec.{eqb}
 use borrow.Author.Tests.{eq-eqb, ne-eqb, not-false}
-use Rattle.frames.specs.Digit.{both, either}
 use Rattle.frames.specs.Line.{formed, fieldOf, closed}
 use Rattle.frames.specs.Table.{widthsOf, sum}
 use Rattle.frames.specs.declared.table.Frame.{Frame}
-use Rattle.frames.specs.declared.refusal.Refusal.{Refusal}
-use Rattle.frames.specs.declared.refusal.Refusal.the-variants.{Line, Order, Count, Twice}
-use Rattle.frames.specs.declared.refusal.Outcome.{Outcome}
-use Rattle.frames.specs.declared.refusal.Outcome.the-variants.{Done, Refused}
+use Rattle.refusals.specs.declared.Refusal.{Refusal}
+use Rattle.refusals.specs.declared.Refusal.the-variants.{Line, Order, Count, Twice}
+use Rattle.refusals.specs.declared.Outcome.{Outcome}
+use Rattle.refusals.specs.declared.Outcome.the-variants.{Done, Refused}
 use Rattle.tasks.specs.declared.set.Task.{Task}
 use Rattle.tasks.specs.Set.{zeroSet}
 use Rattle.tasks.specs.Rows.{firstOf, when, some, figuresOutcome}
@@ -144,12 +143,12 @@ later-header text n header =
 abbrev pub hasId : ℕ → Task → Bool
 hasId id u = eqb (u .id) id
 
-pub some-append : (p : Task → Bool) (xs ys : List Task) → some p (xs ++ ys) ≡ either (some p xs) (some p ys)
+pub some-append : (p : Task → Bool) (xs ys : List Task) → some p (xs ++ ys) ≡ (some p xs || some p ys)
 unfolding some
 some-append p [] ys = refl
 some-append p (x ∷ xs) ys = rw (some-append p xs ys) (swap (p x) (some p xs) (some p ys))
   where
-    swap : (a b c : Bool) → either a (either b c) ≡ either (either a b) c
+    swap : (a b c : Bool) → (a || (b || c)) ≡ ((a || b) || c)
     swap true b c = refl
     swap false b c = refl
 
@@ -166,7 +165,7 @@ shaped-count text (suc n) s =
     rw (shaped-count text n (shaped-less text n (suc n) (omega arith) s), s .tasks n (omega arith)) (omega arith)
 
 -- its ids are those of its tasks
-seen-suc : (text : List ℕ) (id n : ℕ) → seenUpTo text id (suc n) ≡ either (seenUpTo text id n) (both (formed Frame.Task (past n text)) (eqb (fieldOf Frame.Task 0 (past n text)) id))
+seen-suc : (text : List ℕ) (id n : ℕ) → seenUpTo text id (suc n) ≡ (seenUpTo text id n || (formed Frame.Task (past n text) && eqb (fieldOf Frame.Task 0 (past n text)) id))
 unfolding seenUpTo
 seen-suc text id n = refl
 
@@ -182,7 +181,7 @@ some-one : (id : ℕ) (rest : List ℕ) → some (hasId id) (taskAt rest ∷ [])
 unfolding some taskAt
 some-one id rest = last (eqb (fieldOf Frame.Task 0 rest) id)
   where
-    last : (b : Bool) → either b false ≡ b
+    last : (b : Bool) → (b || false) ≡ b
     last true = refl
     last false = refl
 

@@ -4,12 +4,12 @@ use native.Mathlib.Omega.{arith}
 use native.Mathlib.Decide.{ℕ-discrete}
 use native.Mathlib.Nat.{add-zero, add-suc, le-refl}
 use mathlib.Core.List.{List, [], _∷_}
-use mathlib.Core.Bool.{Bool, true, false}
+use mathlib.Core.Bool.{Bool, true, false, cond}
 use mathlib.Core.Path.{_≡_, refl, ap, sym, _∙_, subst}
 use lib.ListN.{length, drop, length-drop}
 use lib.Seq.{drop-drop}
 use lib.Dec.{eqb}
-use Rattle.frames.specs.Line.{after, formed, pickBytes, LF}
+use Rattle.frames.specs.Line.{after, formed, LF}
 use Rattle.frames.specs.Table.{lengthOf, widthsOf, sum}
 use Rattle.frames.specs.declared.table.Frame.{Frame}
 use Rattle.tasks.specs.File.{past}
@@ -42,7 +42,7 @@ unfolding after
 after-le [] = le-refl 0
 after-le (b ∷ bs) = picked (eqb b LF) bs (after bs) (after-le bs)
   where
-    picked : (t : Bool) (xs ys : List ℕ) → length ys ≤ length xs → length (pickBytes t xs ys) ≤ suc (length xs)
+    picked : (t : Bool) (xs ys : List ℕ) → length ys ≤ length xs → length (cond t xs ys) ≤ suc (length xs)
     picked true xs ys h = omega arith
     picked false xs ys h = omega arith
 
@@ -50,7 +50,7 @@ pub after-shorter : (b : ℕ) (bs : List ℕ) → length (after (b ∷ bs)) ≤ 
 unfolding after
 after-shorter b bs = picked (eqb b LF) bs (after bs) (after-le bs)
   where
-    picked : (t : Bool) (xs ys : List ℕ) → length ys ≤ length xs → length (pickBytes t xs ys) ≤ length xs
+    picked : (t : Bool) (xs ys : List ℕ) → length ys ≤ length xs → length (cond t xs ys) ≤ length xs
     picked true xs ys h = le-refl (length xs)
     picked false xs ys h = h
 

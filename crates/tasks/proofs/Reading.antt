@@ -8,10 +8,10 @@ use lib.ListN.{length, drop, replicate, set as put, length-append, drop-of-lengt
 use lib.Seq.{set-at, append-snoc}
 use Rattle.frames.specs.Line.{formed, closed}
 use Rattle.frames.specs.Table.{widthsOf, sum}
-use Rattle.frames.specs.declared.refusal.Refusal.{Refusal}
-use Rattle.frames.specs.declared.refusal.Refusal.the-variants.{Count}
-use Rattle.frames.specs.declared.refusal.Outcome.{Outcome}
-use Rattle.frames.specs.declared.refusal.Outcome.the-variants.{Done, Refused}
+use Rattle.refusals.specs.declared.Refusal.{Refusal}
+use Rattle.refusals.specs.declared.Refusal.the-variants.{Count}
+use Rattle.refusals.specs.declared.Outcome.{Outcome}
+use Rattle.refusals.specs.declared.Outcome.the-variants.{Done, Refused}
 use Rattle.tasks.specs.declared.set.Header.{Header}
 use Rattle.tasks.specs.declared.set.Task.{Task}
 use Rattle.tasks.specs.declared.set.TaskSet.{TaskSet}
@@ -81,8 +81,8 @@ set-more header ts t lt =
 module _ (text : List ℕ) (at n : ℕ) (set : TaskSet) (t : Task) (taken : Taken text n set) (place : at ≡ placeAfter n) (within : at < length text) (e : taskOr (lineOutcome text (n + 2)) (taskAt (drop at text)) ≡ TaskLine.Task t) where
   given : (lineOutcome text (suc (suc n)) ≡ Done) × (t ≡ taskAt (past (suc n) text))
   given =
-      let both : (lineOutcome text (n + 2) ≡ Done) × (t ≡ taskAt (drop at text)) = task-given (lineOutcome text (n + 2)) (taskAt (drop at text)) t e in
-      (ap (lineOutcome text) (sym (add-two n)) ∙ both .0, both .1 ∙ ap taskAt (sym (rest-at text at n set taken place)))
+      let given : (lineOutcome text (n + 2) ≡ Done) × (t ≡ taskAt (drop at text)) = task-given (lineOutcome text (n + 2)) (taskAt (drop at text)) t e in
+      (ap (lineOutcome text) (sym (add-two n)) ∙ given .0, given .1 ∙ ap taskAt (sym (rest-at text at n set taken place)))
 
   one-more : Shaped text (suc n)
   one-more =

@@ -2,7 +2,7 @@
 -- Assumes nothing.
 use Prim.Native.Nat.{ℕ, zero, suc, _+_, _-_, _^_, _≤_, _<_}
 use mathlib.Core.Path.{_≡_, refl, sym, _∙_, ap, ap₂}
-use mathlib.Core.Bool.{Bool, false}
+use mathlib.Core.Bool.{Bool, false, _||_}
 use mathlib.Core.List.{List, [], _∷_, _++_}
 use native.Mathlib.Numerals.{add-one}
 use native.Mathlib.Omega.{arith}
@@ -11,13 +11,12 @@ use native.Mathlib.Nat.{min-le-left}
 use lib.ListN.{length, take, drop, getD, replicate, length-append, length-replicate, length-take}
 use lib.Seq.{take-suc, take-length, drop-length, drop-cons, drop-drop}
 use borrow.Author.Tests.{leb-false, ne-eqb, eqb-true, not-false}
-use Rattle.frames.specs.Digit.{either}
 use Rattle.frames.specs.Table.{widthsOf}
 use Rattle.frames.specs.Line.{after, formed, fieldOf, lineOf}
 use Rattle.frames.specs.declared.table.Frame.{Frame}
-use Rattle.frames.specs.declared.refusal.Refusal.the-variants.{Count, Twice, Range}
-use Rattle.frames.specs.declared.refusal.Outcome.{Outcome}
-use Rattle.frames.specs.declared.refusal.Outcome.the-variants.{Done}
+use Rattle.refusals.specs.declared.Refusal.the-variants.{Count, Twice, Range}
+use Rattle.refusals.specs.declared.Outcome.{Outcome}
+use Rattle.refusals.specs.declared.Outcome.the-variants.{Done}
 use Rattle.frames.proofs.Lines.{line-formed, line-after, field-line, task-not-header}
 use Rattle.tasks.specs.declared.set.Header.{Header}
 use Rattle.tasks.specs.declared.set.Task.{Task}
@@ -39,7 +38,7 @@ use Rattle.tasks.proofs.WriteAsks.{first-some, writer-ask, writer-board
 use Rattle.tasks.proofs.WriteText.{lines-nil, lines-cons, text-size}
 
 -- a figure that is not too large, and the tests behind it
-fits-first : (limit figure : ℕ) (rest : Bool) → either (leb limit figure) rest ≡ false → (figure < limit) × (rest ≡ false)
+fits-first : (limit figure : ℕ) (rest : Bool) → (leb limit figure || rest) ≡ false → (figure < limit) × (rest ≡ false)
 fits-first limit figure rest e = (leb-false limit figure (either-left (leb limit figure) rest e), either-right (leb limit figure) rest e)
 
 -- a header's line gives its figures back

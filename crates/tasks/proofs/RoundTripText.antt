@@ -10,9 +10,9 @@ use borrow.Author.Tests.{lt-leb, le-ltb, ne-eqb}
 use Rattle.frames.specs.Table.{widthsOf}
 use Rattle.frames.specs.Line.{after, formed, fields, fieldOf, fieldsOf, lineOf}
 use Rattle.frames.specs.declared.table.Frame.{Frame}
-use Rattle.frames.specs.declared.refusal.Refusal.{Refusal}
-use Rattle.frames.specs.declared.refusal.Refusal.the-variants.{Count, Twice}
-use Rattle.frames.specs.declared.refusal.Outcome.the-variants.{Done}
+use Rattle.refusals.specs.declared.Refusal.{Refusal}
+use Rattle.refusals.specs.declared.Refusal.the-variants.{Count, Twice}
+use Rattle.refusals.specs.declared.Outcome.the-variants.{Done}
 use Rattle.frames.proofs.Lines.{line-fields, field-below, task-not-header}
 use Rattle.tasks.specs.declared.set.Task.{Task}
 use Rattle.tasks.specs.declared.set.TaskSet.{TaskSet}

@@ -2,7 +2,7 @@
 -- Assumes nothing.
 use Prim.Native.Nat.{ℕ, zero, suc, _+_, _≤_, _<_}
 use mathlib.Core.Path.{_≡_, refl, sym, _∙_, ap}
-use mathlib.Core.Bool.{Bool, false}
+use mathlib.Core.Bool.{Bool, false, _||_}
 use mathlib.Core.List.{List, [], _∷_, _++_}
 use native.Mathlib.Numerals.{add-one}
 use native.Mathlib.Omega.{arith}
@@ -10,7 +10,6 @@ use lib.Dec.{eqb}
 use lib.ListN.{length, take, drop, getD, drop-of-length-le}
 use lib.Seq.{drop-cons, getD-take, length-take-le}
 use borrow.Author.Tests.{ne-eqb, eqb-false}
-use Rattle.frames.specs.Digit.{either}
 use Rattle.tasks.specs.declared.set.Task.{Task}
 use Rattle.tasks.specs.Rows.{some, twiceRow}
 use Rattle.tasks.proofs.Carried.{either-left, either-right, either-none}
@@ -19,7 +18,7 @@ pub some-nil : (p : Task → Bool) → some p [] ≡ false
 unfolding some
 some-nil p = refl
 
-pub some-cons : (p : Task → Bool) (t : Task) (ts : List Task) → some p (t ∷ ts) ≡ either (p t) (some p ts)
+pub some-cons : (p : Task → Bool) (t : Task) (ts : List Task) → some p (t ∷ ts) ≡ (p t || some p ts)
 unfolding some
 some-cons p t ts = refl
 
@@ -31,7 +30,7 @@ pub twice-nil : twiceRow [] ≡ false
 unfolding twiceRow
 twice-nil = refl
 
-pub twice-cons : (t : Task) (ts : List Task) → twiceRow (t ∷ ts) ≡ either (some (sameId t) ts) (twiceRow ts)
+pub twice-cons : (t : Task) (ts : List Task) → twiceRow (t ∷ ts) ≡ (some (sameId t) ts || twiceRow ts)
 unfolding twiceRow
 twice-cons t ts = refl
 
@@ -46,21 +45,21 @@ pub left-none : (ts : List Task) (n i : ℕ) → n ≤ length ts → n ≤ i →
 left-none ts n i fits past = drop-of-length-le (take n ts) {i = i} (omega (arith, length-take-le n ts fits))
 
 -- a test of those left, by the answer at the task there
-pub some-left : (p : Task → Bool) (ts : List Task) (n i : ℕ) (none : Task) (b : Bool) → n ≤ length ts → i < n → p (getD ts i none) ≡ b → some p (drop i (take n ts)) ≡ either b (some p (drop (i + 1) (take n ts)))
+pub some-left : (p : Task → Bool) (ts : List Task) (n i : ℕ) (none : Task) (b : Bool) → n ≤ length ts → i < n → p (getD ts i none) ≡ b → some p (drop i (take n ts)) ≡ (b || some p (drop (i + 1) (take n ts)))
 some-left p ts n i none b fits inside e =
     ap (some p) (left-cons ts n i none fits inside)
     ∙ some-cons p (getD ts i none) (drop (i + 1) (take n ts))
-    ∙ ap (λ (a : Bool). either a (some p (drop (i + 1) (take n ts)))) e
+    ∙ ap (λ (a : Bool). (a || some p (drop (i + 1) (take n ts)))) e
 
 pub some-end : (p : Task → Bool) (ts : List Task) (n i : ℕ) → n ≤ length ts → n ≤ i → some p (drop i (take n ts)) ≡ false
 some-end p ts n i fits past = ap (some p) (left-none ts n i fits past) ∙ some-nil p
 
 -- the same of an id that repeats
-pub twice-left : (ts : List Task) (n i : ℕ) (none : Task) (b : Bool) → n ≤ length ts → i < n → some (sameId (getD ts i none)) (drop (i + 1) (take n ts)) ≡ b → twiceRow (drop i (take n ts)) ≡ either b (twiceRow (drop (i + 1) (take n ts)))
+pub twice-left : (ts : List Task) (n i : ℕ) (none : Task) (b : Bool) → n ≤ length ts → i < n → some (sameId (getD ts i none)) (drop (i + 1) (take n ts)) ≡ b → twiceRow (drop i (take n ts)) ≡ (b || twiceRow (drop (i + 1) (take n ts)))
 twice-left ts n i none b fits inside e =
     ap twiceRow (left-cons ts n i none fits inside)
     ∙ twice-cons (getD ts i none) (drop (i + 1) (take n ts))
-    ∙ ap (λ (a : Bool). either a (twiceRow (drop (i + 1) (take n ts)))) e
+    ∙ ap (λ (a : Bool). (a || twiceRow (drop (i + 1) (take n ts)))) e
 
 pub twice-end : (ts : List Task) (n i : ℕ) → n ≤ length ts → n ≤ i → twiceRow (drop i (take n ts)) ≡ false
 twice-end ts n i fits past = ap twiceRow (left-none ts n i fits past) ∙ twice-nil
@@ -75,7 +74,7 @@ some-at p (t ∷ ts) (suc i) none e h = some-at p ts i none (either-right (p t) 
 pub some-more : (p : Task → Bool) (ts : List Task) (t : Task) → some p ts ≡ false → p t ≡ false → some p (ts ++ (t ∷ [])) ≡ false
 some-more p [] t e f = some-cons p t [] ∙ either-none f (some-nil p)
 some-more p (u ∷ ts) t e f =
-    let g : either (p u) (some p ts) ≡ false = sym (some-cons p u ts) ∙ e in
+    let g : (p u || some p ts) ≡ false = sym (some-cons p u ts) ∙ e in
     some-cons p u (ts ++ (t ∷ [])) ∙ either-none (either-left (p u) (some p ts) g) (some-more p ts t (either-right (p u) (some p ts) g) f)
 
 -- ids that differ, the other way round
@@ -87,7 +86,7 @@ pub twice-before : (ts : List Task) (i : ℕ) (none : Task) → twiceRow ts ≡ 
 twice-before [] i none e h = absurd (omega arith)
 twice-before (t ∷ ts) zero none e h = some-nil (sameId t)
 twice-before (t ∷ ts) (suc i) none e h =
-    let f : either (some (sameId t) ts) (twiceRow ts) ≡ false = sym (twice-cons t ts) ∙ e in
+    let f : (some (sameId t) ts || twiceRow ts) ≡ false = sym (twice-cons t ts) ∙ e in
     some-cons (sameId (getD ts i none)) t (take i ts)
     ∙ either-none (other-way (getD ts i none .id) (t .id) (some-at (sameId t) ts i none (either-left (some (sameId t) ts) (twiceRow ts) f) (omega arith)))
     (twice-before ts i none (either-right (some (sameId t) ts) (twiceRow ts) f) (omega arith))
@@ -96,8 +95,8 @@ twice-before (t ∷ ts) (suc i) none e h =
 pub twice-more : (ts : List Task) (t : Task) → twiceRow ts ≡ false → some (sameId t) ts ≡ false → twiceRow (ts ++ (t ∷ [])) ≡ false
 twice-more [] t e f = twice-cons t [] ∙ either-none (some-nil (sameId t)) twice-nil
 twice-more (u ∷ ts) t e f =
-    let g : either (some (sameId u) ts) (twiceRow ts) ≡ false = sym (twice-cons u ts) ∙ e in
-    let h : either (sameId t u) (some (sameId t) ts) ≡ false = sym (some-cons (sameId t) u ts) ∙ f in
+    let g : (some (sameId u) ts || twiceRow ts) ≡ false = sym (twice-cons u ts) ∙ e in
+    let h : (sameId t u || some (sameId t) ts) ≡ false = sym (some-cons (sameId t) u ts) ∙ f in
     twice-cons u (ts ++ (t ∷ []))
     ∙ either-none
     (some-more (sameId u) ts t (either-left (some (sameId u) ts) (twiceRow ts) g) (other-way (u .id) (t .id) (either-left (sameId t u) (some (sameId t) ts) h)))

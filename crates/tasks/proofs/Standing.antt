@@ -12,8 +12,8 @@ use borrow.Author.Tests.{eq-eqb, ne-eqb}
 use Rattle.frames.specs.Line.{formed, fieldOf}
 use Rattle.frames.specs.Table.{widthOf}
 use Rattle.frames.specs.declared.table.Frame.{Frame}
-use Rattle.frames.specs.declared.refusal.Refusal.the-variants.{Line, Order, Count, Twice}
-use Rattle.frames.specs.declared.refusal.Outcome.the-variants.{Refused}
+use Rattle.refusals.specs.declared.Refusal.the-variants.{Line, Order, Count, Twice}
+use Rattle.refusals.specs.declared.Outcome.the-variants.{Refused}
 use Rattle.frames.proofs.Formed.{field-below, task-not-header}
 use Rattle.tasks.specs.declared.set.Header.{Header}
 use Rattle.tasks.specs.declared.set.Task.{Task}

@@ -10,12 +10,12 @@ use lib.Dec.{ltb}
 use lib.ListN.{length, take, drop}
 use lib.Seq.{take-at, drop-at}
 use borrow.Author.Tests.{ltb-true, ltb-false}
-use Rattle.frames.specs.Line.{stored}
-use Rattle.frames.specs.declared.refusal.Refusal.{Refusal}
-use Rattle.frames.specs.declared.refusal.Refusal.the-variants.{Ask, Room}
-use Rattle.frames.specs.declared.refusal.Written.{Written}
-use Rattle.frames.specs.declared.refusal.Written.the-variants.{Bytes, Refused}
-use Rattle.frames.proofs.Stored.{stored-length}
+use Rattle.digits.specs.Stored.{stored}
+use Rattle.refusals.specs.declared.Refusal.{Refusal}
+use Rattle.refusals.specs.declared.Refusal.the-variants.{Ask, Room}
+use Rattle.refusals.specs.declared.Written.{Written}
+use Rattle.refusals.specs.declared.Written.the-variants.{Bytes, Refused}
+use Rattle.digits.proofs.Stored.{stored-length}
 use Rattle.tasks.specs.declared.set.TaskSet.{TaskSet}
 use Rattle.tasks.specs.Write.{textOf, writerAsks, writeOf, leaves}
 use Rattle.tasks.specs.WriteClaims.{Wrote, WritesExactly, WritesLeave, WriteDetermined}

@@ -2,15 +2,14 @@
 -- Assumes nothing.
 use Prim.Native.Nat.{ℕ, suc, _≤_, _<_}
 use mathlib.Core.Path.{_≡_, refl, sym, _∙_, ap}
-use mathlib.Core.Bool.{Bool, true, false, not}
+use mathlib.Core.Bool.{Bool, true, false, not, cond, _||_}
 use mathlib.Core.List.{List, [], _∷_}
 use lib.Dec.{eqb, eqb·suc-zero}
 use lib.ListN.{length}
 use borrow.Author.Tests.{lt-ltb, le-ltb}
-use Rattle.frames.specs.Digit.{either, pick}
-use Rattle.frames.specs.declared.refusal.Refusal.the-variants.{Ask, Room}
-use Rattle.frames.specs.declared.refusal.Written.{Written}
-use Rattle.frames.specs.declared.refusal.Written.the-variants.{Bytes, Refused}
+use Rattle.refusals.specs.declared.Refusal.the-variants.{Ask, Room}
+use Rattle.refusals.specs.declared.Written.{Written}
+use Rattle.refusals.specs.declared.Written.the-variants.{Bytes, Refused}
 use Rattle.tasks.specs.declared.set.Task.{Task}
 use Rattle.tasks.specs.declared.set.TaskSet.{TaskSet}
 use Rattle.tasks.specs.Set.{members}
@@ -24,12 +23,12 @@ unfolding firstFrom some
 first-some p k [] = refl
 first-some p k (t ∷ ts) = go (p t) (first-some p (suc k) ts)
   where
-    go : (b : Bool) → not (eqb (firstFrom p (suc (suc k)) ts) 0) ≡ some p ts → not (eqb (pick b (suc k) (firstFrom p (suc (suc k)) ts)) 0) ≡ either b (some p ts)
+    go : (b : Bool) → not (eqb (firstFrom p (suc (suc k)) ts) 0) ≡ some p ts → not (eqb (cond b (suc k) (firstFrom p (suc (suc k)) ts)) 0) ≡ (b || some p ts)
     go true e = ap not (eqb·suc-zero k)
     go false e = e
 
 -- row 11 of the writer, by the answers of its parts
-pub writer-rows : (set : TaskSet) {a b c : Bool} → askRow set ≡ a → boardRow (set .header) ≡ b → some rangeRow (members set) ≡ c → writerAsks set ≡ either a (either b c)
+pub writer-rows : (set : TaskSet) {a b c : Bool} → askRow set ≡ a → boardRow (set .header) ≡ b → some rangeRow (members set) ≡ c → writerAsks set ≡ (a || (b || c))
 unfolding writerAsks
 writer-rows set p q r = rw (p, q, r)
 

@@ -8,10 +8,11 @@ use native.Mathlib.Omega.{arith}
 use lib.ListN.{length, take, getD, length-append}
 use lib.Seq.{take-suc, length-take-le}
 use Rattle.frames.specs.Table.{widthsOf, lengthOf}
-use Rattle.frames.specs.Line.{lineOf, fields, stored}
+use Rattle.frames.specs.Line.{lineOf, fields}
+use Rattle.digits.specs.Stored.{stored}
 use Rattle.frames.specs.declared.table.Frame.{Frame}
 use Rattle.frames.proofs.Lines.{line-length}
-use Rattle.frames.proofs.Stored.{stored-stored}
+use Rattle.digits.proofs.Stored.{stored-stored}
 use Rattle.tasks.specs.declared.set.Task.{Task}
 use Rattle.tasks.specs.declared.set.TaskSet.{TaskSet}
 use Rattle.tasks.specs.Set.{members}

@@ -2,16 +2,15 @@
 -- Document 01, "Lines of hexadecimal" and rows 1 to 4 of the refusals.
 use Prim.Native.Nat.{ℕ, zero, suc, pred, _+_}
 use mathlib.Core.List.{List, [], _∷_, _++_}
-use mathlib.Core.Bool.{Bool, true, false, not}
+use mathlib.Core.Bool.{Bool, true, false, not, cond, _&&_, _||_}
 use lib.ListN.{length}
 use lib.Dec.{eqb}
-use Rattle.frames.specs.Digit.{both, either, pick}
 use Rattle.frames.specs.Line.{after, formed, fieldOf}
 use Rattle.frames.specs.declared.table.Frame.{Frame}
-use Rattle.frames.specs.declared.refusal.Refusal.{Refusal}
-use Rattle.frames.specs.declared.refusal.Refusal.the-variants.{Line, Order, Count, Twice}
-use Rattle.frames.specs.declared.refusal.Outcome.{Outcome}
-use Rattle.frames.specs.declared.refusal.Outcome.the-variants.{Done}
+use Rattle.refusals.specs.declared.Refusal.{Refusal}
+use Rattle.refusals.specs.declared.Refusal.the-variants.{Line, Order, Count, Twice}
+use Rattle.refusals.specs.declared.Outcome.{Outcome}
+use Rattle.refusals.specs.declared.Outcome.the-variants.{Done}
 use Rattle.tasks.specs.declared.set.Header.{Header}
 use Rattle.tasks.specs.declared.set.Task.{Task}
 use Rattle.tasks.specs.Set.{mostTasks}
@@ -43,7 +42,7 @@ isTask text k = formed Frame.Task (from text k)
 -- the 02 lines among the first n lines, and in the whole file, which has no more lines than bytes
 unfoldable pub tasksUpTo : List ℕ → ℕ → ℕ
 tasksUpTo text zero = 0
-tasksUpTo text (suc n) = tasksUpTo text n + pick (isTask text (suc n)) 1 0
+tasksUpTo text (suc n) = tasksUpTo text n + cond (isTask text (suc n)) 1 0
 
 abbrev pub tasksIn : List ℕ → ℕ
 tasksIn text = tasksUpTo text (length text)
@@ -54,11 +53,11 @@ idAt text k = fieldOf Frame.Task 0 (from text k)
 -- whether an 02 line among the first n lines has this id
 unfoldable pub seenUpTo : List ℕ → ℕ → ℕ → Bool
 seenUpTo text id zero = false
-seenUpTo text id (suc n) = either (seenUpTo text id n) (both (isTask text (suc n)) (eqb (idAt text (suc n)) id))
+seenUpTo text id (suc n) = seenUpTo text id n || (isTask text (suc n) && eqb (idAt text (suc n)) id)
 
 -- 1 LINE: a line is not kind 01 or 02 at its exact length in legal digits, or lacks its LF
 unfoldable pub lineRow : List ℕ → ℕ → Bool
-lineRow text k = both (present text k) (not (either (isHeader text k) (isTask text k)))
+lineRow text k = present text k && not (isHeader text k || isTask text k)
 
 abbrev pub firstLine : Bool → Bool → Bool → Bool
 firstLine true at-one at-later = at-one
@@ -71,11 +70,11 @@ orderRow text k = firstLine (eqb k 1) (not (isHeader text k)) (isHeader text k)
 -- 3 COUNT: no 02 line (place 2), or a 65th
 unfoldable pub countLineRow : List ℕ → ℕ → Bool
 countLineRow text k =
-    either (both (eqb k 2) (eqb (tasksIn text) 0)) (both (isTask text k) (eqb (tasksUpTo text (pred k)) mostTasks))
+    (eqb k 2 && eqb (tasksIn text) 0) || (isTask text k && eqb (tasksUpTo text (pred k)) mostTasks)
 
 -- 4 TWICE: an id repeats
 unfoldable pub twiceLineRow : List ℕ → ℕ → Bool
-twiceLineRow text k = both (isTask text k) (seenUpTo text (idAt text k) (pred k))
+twiceLineRow text k = isTask text k && seenUpTo text (idAt text k) (pred k)
 
 -- at one line the lowest number wins
 unfoldable pub lineOutcome : List ℕ → ℕ → Outcome

@@ -2,16 +2,16 @@
 -- Document 01, "Lines of hexadecimal" and rows 11 and 12 of the refusals.
 use Prim.Native.Nat.{ℕ}
 use mathlib.Core.List.{List, [], _∷_, _++_}
-use mathlib.Core.Bool.{Bool, true, false}
+use mathlib.Core.Bool.{Bool, true, false, cond, _||_}
 use lib.ListN.{length}
 use lib.Dec.{ltb}
-use Rattle.frames.specs.Digit.{either}
-use Rattle.frames.specs.Line.{lineOf, stored}
+use Rattle.frames.specs.Line.{lineOf}
+use Rattle.digits.specs.Stored.{stored}
 use Rattle.frames.specs.declared.table.Frame.{Frame}
-use Rattle.frames.specs.declared.refusal.Refusal.{Refusal}
-use Rattle.frames.specs.declared.refusal.Refusal.the-variants.{Ask, Room}
-use Rattle.frames.specs.declared.refusal.Written.{Written}
-use Rattle.frames.specs.declared.refusal.Written.the-variants.{Bytes, Refused}
+use Rattle.refusals.specs.declared.Refusal.{Refusal}
+use Rattle.refusals.specs.declared.Refusal.the-variants.{Ask, Room}
+use Rattle.refusals.specs.declared.Written.{Written}
+use Rattle.refusals.specs.declared.Written.the-variants.{Bytes, Refused}
 use Rattle.tasks.specs.declared.set.Header.{Header}
 use Rattle.tasks.specs.declared.set.Task.{Task}
 use Rattle.tasks.specs.declared.set.TaskSet.{TaskSet}
@@ -35,17 +35,13 @@ textOf set = lineOf Frame.Header (headerValues (set .header)) ++ taskLines (memb
 
 -- 11 ASK of the task writer: also for a set that breaks row 5 or 6
 unfoldable pub writerAsks : TaskSet → Bool
-writerAsks set = either (askRow set) (either (boardRow (set .header)) (some rangeRow (members set)))
-
-abbrev pub pickWritten : Bool → Written → Written → Written
-pickWritten true a b = a
-pickWritten false a b = b
+writerAsks set = askRow set || (boardRow (set .header) || some rangeRow (members set))
 
 -- 11, then 12; else the text's length
 unfoldable pub writeOf : TaskSet → (buffer : List ℕ) → Written
 writeOf set buffer =
-    pickWritten (writerAsks set) (Refused Ask)
-    (pickWritten (ltb (length buffer) (length (textOf set))) (Refused Room) (Bytes (length (textOf set))))
+    cond (writerAsks set) (Refused Ask)
+    (cond (ltb (length buffer) (length (textOf set))) (Refused Room) (Bytes (length (textOf set))))
 
 -- an accepted write changes the text's bytes at the buffer's start, a refused one nothing
 abbrev pub leaves : Written → (buffer text : List ℕ) → List ℕ

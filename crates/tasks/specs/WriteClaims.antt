@@ -6,11 +6,11 @@ use mathlib.Core.Logic.{_⊎_, _↔_}
 use mathlib.Core.Bool.{true, false}
 use mathlib.Core.List.{List}
 use lib.ListN.{length, take, drop}
-use Rattle.frames.specs.declared.refusal.Refusal.{Refusal}
-use Rattle.frames.specs.declared.refusal.Refusal.the-variants.{Ask, Room}
-use Rattle.frames.specs.declared.refusal.Outcome.the-variants.{Done}
-use Rattle.frames.specs.declared.refusal.Written.{Written}
-use Rattle.frames.specs.declared.refusal.Written.the-variants.{Bytes, Refused}
+use Rattle.refusals.specs.declared.Refusal.{Refusal}
+use Rattle.refusals.specs.declared.Refusal.the-variants.{Ask, Room}
+use Rattle.refusals.specs.declared.Outcome.the-variants.{Done}
+use Rattle.refusals.specs.declared.Written.{Written}
+use Rattle.refusals.specs.declared.Written.the-variants.{Bytes, Refused}
 use Rattle.tasks.specs.declared.set.TaskSet.{TaskSet}
 use Rattle.tasks.specs.Set.{mostTasks, members, setOf}
 use Rattle.tasks.specs.Read.{answer, readOf}

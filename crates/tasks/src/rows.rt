@@ -3,8 +3,8 @@
 use crate::set::Header;
 use crate::set::Task;
 use crate::set::TaskSet;
-use frames::refusal::Outcome;
-use frames::refusal::Refusal;
+use refusals::Outcome;
+use refusals::Refusal;
 ghost use mathlib.Core.Path.{_≡_};
 ghost use Prim.Native.Nat.{_≤_};
 ghost use Rattle.tasks.specs.Set.{members, mostTasks};

@@ -1,16 +1,16 @@
 // Reads every task file of data/, good and damaged, writes it again where it was read, and prints each answer.
 // The gate holds what it prints to the file stdout, which was made by the independent program of tests/.
-use frames::refusal::Outcome;
-use frames::refusal::Refusal;
-use frames::refusal::Written;
 use libc::STDOUT_FILENO;
+use refusals::Outcome;
+use refusals::Refusal;
+use refusals::Written;
 use tasks::set::TaskSet;
 
 fn say_refusal(refusal: Refusal) {
     io::write_all(STDOUT_FILENO, b"refusal ");
-    io::print_decimal(STDOUT_FILENO, frames::refusal::number(refusal));
+    io::print_decimal(STDOUT_FILENO, refusals::number(refusal));
     io::write_all(STDOUT_FILENO, b" at ");
-    io::print_decimal(STDOUT_FILENO, frames::refusal::place(refusal));
+    io::print_decimal(STDOUT_FILENO, refusals::place(refusal));
     io::write_all(STDOUT_FILENO, b"\n");
 }
 

@@ -3,10 +3,9 @@ use Prim.Native.Nat.{ℕ, zero, suc, _≤_, _<_}
 use native.Mathlib.Omega.{arith}
 use mathlib.Core.Path.{_≡_, refl, sym, ap, _∙_}
 use mathlib.Core.Logic.{_⊎_, inl, inr, ⊎-elim}
-use mathlib.Core.Bool.{Bool, true, false, false≢true}
+use mathlib.Core.Bool.{Bool, true, false, false≢true, cond}
 use native.Mathlib.Nat.{le-suc-iff}
 use native.Mathlib.Decide.{decLt}
-use Rattle.demand.specs.Demand.{pick}
 use Rattle.verdict.specs.Search.{lastUpTo, firstUpTo, orElse}
 use Rattle.verdict.specs.Search.{NoneIn, Last, First}
 
@@ -38,7 +37,7 @@ last-view p zero = inl (refl, λ x a b. absurd (omega arith))
 last-view p (suc n) = by (p (suc n)) refl (last-view p n)
   where
     by : (b : Bool) → p (suc n) ≡ b → ((lastUpTo p n ≡ 0) × NoneIn p 0 n) ⊎ Last p n (lastUpTo p n)
-        → ((pick b (suc n) (lastUpTo p n) ≡ 0) × NoneIn p 0 (suc n)) ⊎ Last p (suc n) (pick b (suc n) (lastUpTo p n))
+        → ((cond b (suc n) (lastUpTo p n) ≡ 0) × NoneIn p 0 (suc n)) ⊎ Last p (suc n) (cond b (suc n) (lastUpTo p n))
     by true e v = inr (record { there = omega arith; within = omega arith; has = e; after = λ x a b. absurd (omega arith) })
     by false e (inl v) = inl (v .0, none-more (v .1) e)
     by false e (inr v) = inr (record { there = v .there; within = omega arith; has = v .has; after = none-more (v .after) e })
@@ -75,7 +74,7 @@ first-view p zero = inl (refl, λ x a b. absurd (omega arith))
 first-view p (suc n) = by (firstUpTo p n) (p (suc n)) refl (first-view p n)
   where
     by : (t : ℕ) (b : Bool) → p (suc n) ≡ b → ((t ≡ 0) × NoneIn p 0 n) ⊎ ((t ≤ n) × First p t)
-        → ((orElse t (pick b (suc n) 0) ≡ 0) × NoneIn p 0 (suc n)) ⊎ ((orElse t (pick b (suc n) 0) ≤ suc n) × First p (orElse t (pick b (suc n) 0)))
+        → ((orElse t (cond b (suc n) 0) ≡ 0) × NoneIn p 0 (suc n)) ⊎ ((orElse t (cond b (suc n) 0) ≤ suc n) × First p (orElse t (cond b (suc n) 0)))
     by zero true e (inl v) = inr (omega arith, record { there = omega arith; has = e; before = λ x a b. v .1 x a (omega arith) })
     by zero false e (inl v) = inl (refl, none-more (v .1) e)
     by zero b e (inr v) = let h : 1 ≤ 0 = v .1 .there in absurd (omega arith)

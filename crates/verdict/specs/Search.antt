@@ -2,17 +2,17 @@
 -- Every search of the tool is stated by these, so that the way of searching can be replaced.
 use Prim.Native.Nat.{ℕ, zero, suc, _+_, _^_, _≤_, _<_}
 use mathlib.Core.List.{List}
-use mathlib.Core.Bool.{Bool, true, false}
+use mathlib.Core.Bool.{Bool, true, false, cond}
 use mathlib.Core.Path.{_≡_}
 use lib.Dec.{ltb}
 use Rattle.demand.specs.Load.{Load}
-use Rattle.demand.specs.Demand.{pick, demand}
+use Rattle.demand.specs.Demand.{demand}
 use Rattle.demand.specs.Supply.{supplyPast}
 
 -- the largest t in 1..n with p t, or 0
 unfoldable pub lastUpTo : (ℕ → Bool) → ℕ → ℕ
 lastUpTo p zero = 0
-lastUpTo p (suc n) = pick (p (suc n)) (suc n) (lastUpTo p n)
+lastUpTo p (suc n) = cond (p (suc n)) (suc n) (lastUpTo p n)
 
 -- the first number, or the second where the first is 0
 abbrev pub orElse : ℕ → ℕ → ℕ
@@ -22,7 +22,7 @@ orElse (suc a) b = suc a
 -- the smallest t in 1..n with p t, or 0
 unfoldable pub firstUpTo : (ℕ → Bool) → ℕ → ℕ
 firstUpTo p zero = 0
-firstUpTo p (suc n) = orElse (firstUpTo p n) (pick (p (suc n)) (suc n) 0)
+firstUpTo p (suc n) = orElse (firstUpTo p n) (cond (p (suc n)) (suc n) 0)
 
 -- no number above a, up to b, has p
 abbrev pub NoneIn : (ℕ → Bool) → (a b : ℕ) → Type 0

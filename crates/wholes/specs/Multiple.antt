@@ -2,7 +2,7 @@
 -- Document 01: "The horizon H is the least common multiple of S and every T of the file, at most 10,000,000".
 use Prim.Native.Nat.{ℕ, _*_, _/_, _≤_, _<_, _∣_}
 use mathlib.Core.List.{List, [], _∷_}
-use mathlib.Core.Bool.{Bool, true, false}
+use mathlib.Core.Bool.{Bool, true, false, cond}
 use lib.Dec.{leb}
 use lib.ListN.{length, getD}
 use Rattle.wholes.specs.Measure.{commonMeasure}
@@ -33,13 +33,9 @@ unfoldable pub leastMultipleOf : ℕ → List ℕ → ℕ
 leastMultipleOf a [] = a
 leastMultipleOf a (b ∷ bs) = leastMultipleOf (leastMultiple a b) bs
 
-abbrev pub pickMultiple : Bool → Multiple → Multiple → Multiple
-pickMultiple true a b = a
-pickMultiple false a b = b
-
 -- m itself where it is at most the limit
 unfoldable pub within : (limit m : ℕ) → Multiple
-within limit m = pickMultiple (leb m limit) (Within m) Past
+within limit m = cond (leb m limit) (Within m) Past
 
 -- every number of the list is at least 1
 abbrev pub AllPositive : List ℕ → Type 0

@@ -2,15 +2,14 @@
 -- Assumes nothing.
 use Prim.Native.Nat.{ℕ, _+_, _-_, _/_, _%_, _≤_, _<_}
 use mathlib.Core.Path.{_≡_, refl, ap, sym, _∙_}
-use mathlib.Core.Bool.{Bool, true, false}
+use mathlib.Core.Bool.{Bool, true, false, cond, _&&_}
 use mathlib.Core.Logic.{⊎-elim}
 use native.Mathlib.Nat.{mod-lt, mod-eq-of-lt, mod-add-mod, add-mod-right, add-mul-mod-self-right, div-add-mod'}
 use native.Mathlib.Omega.{arith}
 use borrow.Author.Tests.{le-leb, leb-true}
-use lib.Dec.{leb}
-use Rattle.demand.specs.Demand.{pick}
+use lib.Dec.{leb, ltb}
 use Rattle.demand.proofs.Cases.{le-or-lt}
-use Rattle.windows.specs.Window.{both, since, usableAt}
+use Rattle.windows.specs.Window.{since, usableAt}
 use Rattle.windows.specs.Claims.{SinceIsRight, UsableMeans}
 
 since-below : (S start x : ℕ) → 1 ≤ S → since S start x < S
@@ -27,22 +26,20 @@ since-reaches S start x h =
 pub since-is-right : SinceIsRight
 since-is-right = record { below = since-below; reaches = since-reaches }
 
-both-made : (p q : Bool) → p ≡ true → q ≡ true → both p q ≡ true
-unfolding both
-both-made p q a b = ap (λ (u : Bool). both u q) a ∙ b
+both-made : (p q : Bool) → p ≡ true → q ≡ true → (p && q) ≡ true
+both-made p q a b = ap (λ (u : Bool). (u && q)) a ∙ b
 
-both-told : (p q : Bool) → both p q ≡ true → (p ≡ true) × (q ≡ true)
-unfolding both
+both-told : (p q : Bool) → (p && q) ≡ true → (p ≡ true) × (q ≡ true)
 both-told true q e = (refl, e)
 both-told false q e = let z : _≡_ {A = ℕ} 0 1 = cc in absurd (omega arith)
 
 usable-told : (S L R start x : ℕ) → usableAt S L R start x ≡ true → (L ≤ since S start x) × (since S start x < R)
 unfolding usableAt
-usable-told S L R start x e = let b = both-told _ _ e in omega (arith, leb-true)
+usable-told S L R start x e = let b = both-told (leb L (since S start x)) (ltb (since S start x) R) e in omega (arith, leb-true)
 
 usable-made : (S L R start x : ℕ) → L ≤ since S start x → since S start x < R → usableAt S L R start x ≡ true
 unfolding usableAt
-usable-made S L R start x p q = both-made _ _ (omega (arith, le-leb)) (omega (arith, le-leb))
+usable-made S L R start x p q = both-made (leb L (since S start x)) (ltb (since S start x) R) (omega (arith, le-leb)) (omega (arith, le-leb))
 
 pub usable-means : UsableMeans
 usable-means S L R start x = (usable-told S L R start x, λ w. usable-made S L R start x (w .0) (w .1))
@@ -93,8 +90,8 @@ usable-past S L R start x h g =
     ap (leb (S - R + L)) (from-end S R start x)
 
 -- where the loss eats the reserve up, no tick is usable
-pub usable-never : (S L R start x : ℕ) → R ≤ L → pick (usableAt S L R start x) 1 0 ≡ 0
+pub usable-never : (S L R start x : ℕ) → R ≤ L → _≡_ {A = ℕ} (cond (usableAt S L R start x) 1 0) 0
 usable-never S L R start x h =
-    ap (λ (q : Bool). pick q 1 0)
+    ap (λ (q : Bool). cond q 1 0)
     (never-true (usableAt S L R start x)
     (λ (e : usableAt S L R start x ≡ true). let w = usable-told S L R start x e in omega arith))

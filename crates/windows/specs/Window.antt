@@ -2,14 +2,10 @@
 -- Document 01, "From tasks to servers to ring": usable ticks, a cut reserve, a smaller reserve for a whole-processor server.
 use Prim.Native.Nat.{ℕ, zero, suc, _+_, _-_, _%_, _≤_}
 use mathlib.Core.List.{List}
-use mathlib.Core.Bool.{Bool, true, false}
+use mathlib.Core.Bool.{Bool, true, false, cond, _&&_}
 use lib.Dec.{leb, ltb}
-use Rattle.demand.specs.Demand.{pick, demand}
+use Rattle.demand.specs.Demand.{demand}
 use Rattle.demand.specs.Load.{Load}
-
-unfoldable pub both : Bool → Bool → Bool
-both true b = b
-both false b = false
 
 -- how many ticks ago the reserve's latest start was, at tick x: (x − start) mod S
 unfoldable pub since : (S start x : ℕ) → ℕ
@@ -17,12 +13,12 @@ since S start x = (x + (S - start % S)) % S
 
 -- tick x lies in the reserve, and at least L positions of the reserve have passed
 unfoldable pub usableAt : (S L R start x : ℕ) → Bool
-usableAt S L R start x = both (leb L (since S start x)) (ltb (since S start x) R)
+usableAt S L R start x = leb L (since S start x) && ltb (since S start x) R
 
 -- the usable ticks among the t ticks from a on
 unfoldable pub usableIn : (S L R start a t : ℕ) → ℕ
 usableIn S L R start a zero = 0
-usableIn S L R start a (suc t) = usableIn S L R start a t + pick (usableAt S L R start (a + t)) 1 0
+usableIn S L R start a (suc t) = usableIn S L R start a t + cond (usableAt S L R start (a + t)) 1 0
 
 -- from the second slot on, in every window, any start and length, the usable ticks cover the demand for that length
 abbrev pub Covered : List Load → (S L R start : ℕ) → Type 0

@@ -6,8 +6,8 @@ use mathlib.Core.List.{List}
 use native.Mathlib.Omega.{arith}
 use lib.ListN.{length, take, getD, set, length-set}
 use lib.Seq.{take-all}
-use Rattle.frames.specs.Line.{stored}
-use Rattle.frames.proofs.Stored.{stored-nil, stored-next}
+use Rattle.digits.specs.Stored.{stored}
+use Rattle.digits.proofs.Stored.{stored-nil, stored-next}
 use Rattle.frames.proofs.line.put_bytes.Statement.{statement}
 use Rattle.frames.proofs.line.put_bytes.Tie as tie
 

@@ -7,10 +7,11 @@ use native.Mathlib.Omega.{arith}
 use lib.ListN.{length, take, getD}
 use lib.Seq.{take-all}
 use Rattle.frames.specs.Table.{sum, widthsOf}
-use Rattle.frames.specs.Line.{stored, fields}
-use Rattle.frames.specs.Number.{hex}
+use Rattle.frames.specs.Line.{fields}
+use Rattle.digits.specs.Stored.{stored}
+use Rattle.digits.specs.Number.{hex}
 use Rattle.frames.proofs.Fields.{start-next, start-within, fields-next}
-use Rattle.frames.proofs.Stored.{stored-nil}
+use Rattle.digits.proofs.Stored.{stored-nil}
 use Rattle.frames.proofs.Tables.{fields-seven}
 use Rattle.frames.proofs.line.put_fields.Statement.{statement}
 use Rattle.frames.proofs.line.put_fields.Tie as tie

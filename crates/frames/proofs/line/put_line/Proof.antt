@@ -7,7 +7,8 @@ use native.Mathlib.Omega.{arith}
 use lib.ListN.{length}
 use Rattle.frames.specs.declared.table.Row.{Row}
 use Rattle.frames.specs.Table.{rowOf, widthsOf}
-use Rattle.frames.specs.Line.{fields, stored}
+use Rattle.frames.specs.Line.{fields}
+use Rattle.digits.specs.Stored.{stored}
 use Rattle.frames.proofs.Tables.{kind-length}
 use Rattle.frames.proofs.Lines.{line-stored}
 use borrow.Author.Needs.{needs}

@@ -2,7 +2,7 @@
 -- Assumes nothing.
 use mathlib.Core.Path.{_∙_, ap}
 use borrow.Author.Needs.{needs}
-use Rattle.frames.specs.Line.{stored}
+use Rattle.digits.specs.Stored.{stored}
 use Rattle.planfile.proofs.LineLaws.{plan-filled}
 use Rattle.planfile.proofs.line.put_plan.Statement.{statement}
 use Rattle.planfile.proofs.line.put_plan.Tie as tie

@@ -1,7 +1,7 @@
 -- The line of a processor's three figures; the fields that it lacks write nothing.
 -- Assumes nothing.
 use mathlib.Core.Path.{_∙_, ap}
-use Rattle.frames.specs.Line.{stored}
+use Rattle.digits.specs.Stored.{stored}
 use Rattle.planfile.proofs.LineLaws.{processor-filled}
 use borrow.Author.Needs.{needs}
 use Rattle.planfile.proofs.line.put_processor.Statement.{statement}

@@ -2,7 +2,7 @@
 -- Assumes nothing.
 use mathlib.Core.Path.{_∙_, ap}
 use native.Mathlib.Omega.{arith}
-use Rattle.frames.specs.Line.{stored}
+use Rattle.digits.specs.Stored.{stored}
 use Rattle.planfile.proofs.LineLaws.{refused-size, refusal-bytes, refusal-filled}
 use borrow.Author.Needs.{needs}
 use Rattle.planfile.proofs.line.put_refusal.Statement.{statement}

@@ -5,7 +5,7 @@ use mathlib.Core.Path.{_∙_, ap}
 use mathlib.Core.List.{List}
 use native.Mathlib.Omega.{arith}
 use Rattle.frames.specs.Table.{widthsOf, sum, markOf}
-use Rattle.frames.specs.Line.{stored}
+use Rattle.digits.specs.Stored.{stored}
 use Rattle.planfile.proofs.LineLaws.{server-size, start-place, server-ring, server-over}
 use borrow.Author.Needs.{needs}
 use Rattle.planfile.proofs.line.put_server.Statement.{statement}

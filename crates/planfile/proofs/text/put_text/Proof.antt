@@ -6,7 +6,7 @@ use mathlib.Core.List.{List}
 use native.Mathlib.Omega.{arith}
 use lib.ListN.{length}
 use Rattle.frames.specs.Table.{lengthOf}
-use Rattle.frames.specs.Line.{stored}
+use Rattle.digits.specs.Stored.{stored}
 use Rattle.frames.specs.declared.table.Frame.{Frame}
 use Rattle.planfile.specs.Text.{lines, serverLine, placedLine, processorLine}
 use Rattle.planfile.proofs.LineLaws.{plan-size, server-size, placed-size, processor-size}

@@ -1,5 +1,5 @@
 -- `rack::questions::rack_pass` meets its contract: the verdict as numbers, or the question's refusal. Assumes nothing.
-use Rattle.frames.specs.declared.refusal.Outcome.the-variants.{Done, Refused}
+use Rattle.refusals.specs.declared.Outcome.the-variants.{Done, Refused}
 use Rattle.rack.proofs.RackLaws.{pass-told, told-refused}
 use borrow.Author.Needs.{needs}
 use Rattle.rack.proofs.questions.rack_pass.Statement.{statement}

@@ -1,6 +1,6 @@
 -- `rack::questions::rack_who` meets its contract: the question's answer as numbers, or its refusal. Assumes nothing.
 use mathlib.Core.List.{[], _∷_}
-use Rattle.frames.specs.declared.refusal.Outcome.the-variants.{Done, Refused}
+use Rattle.refusals.specs.declared.Outcome.the-variants.{Done, Refused}
 use Rattle.rack.proofs.RackLaws.{who-told, told-refused}
 use borrow.Author.Needs.{needs}
 use Rattle.rack.proofs.questions.rack_who.Statement.{statement}

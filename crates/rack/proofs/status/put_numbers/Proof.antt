@@ -6,8 +6,8 @@ use borrow.Author.Needs.{needs}
 use native.Mathlib.Omega.{arith}
 use lib.ListN.{length, take, getD, set, length-set}
 use lib.Seq.{take-all}
-use Rattle.frames.specs.Line.{stored}
-use Rattle.frames.proofs.Stored.{stored-nil}
+use Rattle.digits.specs.Stored.{stored}
+use Rattle.digits.proofs.Stored.{stored-nil}
 use Rattle.rack.proofs.RackLaws.{told-room, told-stored, front-next}
 use Rattle.rack.proofs.status.put_numbers.Statement.{statement}
 use Rattle.rack.proofs.status.put_numbers.Tie as tie

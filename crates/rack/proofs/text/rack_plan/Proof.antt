@@ -1,6 +1,6 @@
 -- `rack::text::rack_plan` meets its contract: what the tool answered, as a length. Assumes nothing.
 use Rattle.rack.proofs.RackLaws.{plan-told}
-use Rattle.frames.specs.declared.refusal.Written.the-variants.{Bytes, Refused}
+use Rattle.refusals.specs.declared.Written.the-variants.{Bytes, Refused}
 use borrow.Author.Needs.{needs}
 use Rattle.rack.proofs.text.rack_plan.Statement.{statement}
 use Rattle.rack.proofs.text.rack_plan.Tie as tie

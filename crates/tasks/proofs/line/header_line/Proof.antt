@@ -7,7 +7,7 @@ use denote.Ref.{now}
 use borrow.Author.Tests.{not-true, not-false}
 use Rattle.frames.specs.Line.{formed}
 use Rattle.frames.specs.declared.table.Frame.{Frame}
-use Rattle.frames.specs.declared.refusal.Outcome.{Outcome}
+use Rattle.refusals.specs.declared.Outcome.{Outcome}
 use Rattle.tasks.specs.declared.line.HeaderLine.{HeaderLine}
 use Rattle.tasks.specs.File.{headerAt}
 use Rattle.tasks.specs.Shape.{headerOr}

@@ -8,8 +8,8 @@ use denote.Ref.{now}
 use lib.ListN.{drop}
 use Rattle.frames.specs.Line.{formed}
 use Rattle.frames.specs.declared.table.Frame.{Frame}
-use Rattle.frames.specs.declared.refusal.Refusal.the-variants.{Twice}
-use Rattle.frames.specs.declared.refusal.Outcome.{Outcome}
+use Rattle.refusals.specs.declared.Refusal.the-variants.{Twice}
+use Rattle.refusals.specs.declared.Outcome.{Outcome}
 use Rattle.tasks.specs.declared.set.Task.{Task}
 use Rattle.tasks.specs.declared.set.TaskSet.{TaskSet}
 use Rattle.tasks.specs.declared.line.TaskLine.{TaskLine}

@@ -2,7 +2,7 @@
 use native.Mathlib.Omega.{arith}
 use mathlib.Core.Path.{_≡_, sym, _∙_, ap}
 use lib.ListN.{length-take}
-use Rattle.frames.specs.declared.refusal.Refusal.the-variants.{Range}
+use Rattle.refusals.specs.declared.Refusal.the-variants.{Range}
 use Rattle.tasks.specs.declared.set.TaskSet.{TaskSet}
 use Rattle.tasks.specs.Set.{members}
 use Rattle.tasks.specs.Rows.{boardRow, rangeRow, figuresOutcome, atTask}

@@ -2,7 +2,7 @@
 -- Assumes nothing.
 use mathlib.Core.Path.{_∙_, ap}
 use borrow.Author.Needs.{needs}
-use Rattle.frames.specs.Line.{stored}
+use Rattle.digits.specs.Stored.{stored}
 use Rattle.tasks.proofs.WriteText.{task-line}
 use Rattle.tasks.proofs.write.put_task.Statement.{statement}
 use Rattle.tasks.proofs.write.put_task.Tie as tie

@@ -5,9 +5,10 @@ use mathlib.Core.Path.{_≡_, refl, sym, _∙_, ap}
 use mathlib.Core.List.{List}
 use native.Mathlib.Omega.{arith}
 use lib.ListN.{length, length-map, take, getD}
-use Rattle.frames.specs.Line.{lineOf, stored}
+use Rattle.frames.specs.Line.{lineOf}
+use Rattle.digits.specs.Stored.{stored}
 use Rattle.frames.specs.declared.table.Frame.{Frame}
-use Rattle.frames.proofs.Stored.{stored-nil}
+use Rattle.digits.proofs.Stored.{stored-nil}
 use Rattle.tasks.specs.Set.{members, zeroTask}
 use Rattle.tasks.specs.Write.{taskValues, taskLines}
 use Rattle.tasks.proofs.WriteText.{header-size, task-size, lines-at, lines-nil, lines-stored, text-bytes, text-stored}

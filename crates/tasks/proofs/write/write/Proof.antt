@@ -6,8 +6,8 @@ use native.Mathlib.Omega.{arith}
 use mathlib.Core.Bool.{false}
 use mathlib.Core.Path.{_≡_, refl, sym, _∙_, ap}
 use lib.ListN.{length, length-map}
-use Rattle.frames.specs.declared.refusal.Refusal.the-variants.{Ask, Room}
-use Rattle.frames.specs.declared.refusal.Written.the-variants.{Bytes, Refused}
+use Rattle.refusals.specs.declared.Refusal.the-variants.{Ask, Room}
+use Rattle.refusals.specs.declared.Written.the-variants.{Bytes, Refused}
 use Rattle.tasks.specs.Set.{mostTasks}
 use Rattle.tasks.specs.Write.{textOf, writerAsks}
 use Rattle.tasks.proofs.Carried.{ask-count, count-within}

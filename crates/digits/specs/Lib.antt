@@ -1,0 +1,3 @@
+pub mod Digit
+pub mod Number
+pub mod Stored

@@ -1,0 +1,67 @@
+// The refusals of document 01 as one enum, each with what its place needs.
+// `Outcome` answers for what is done or refused, `Written` for a text of so many bytes at a buffer's start.
+ghost use mathlib.Core.Path.{_≡_};
+ghost use Rattle.refusals.specs.Refused.{numberOf, placeOf};
+
+pub enum Refusal {
+    Line(u8),
+    Order(u8),
+    Count(u8),
+    Twice(u8),
+    Board,
+    Range(u8),
+    Slot(u8),
+    Tight(u8),
+    Horizon,
+    Full(u8),
+    Ask,
+    Room,
+}
+
+pub enum Outcome {
+    Done,
+    Refused(Refusal),
+}
+
+pub enum Written {
+    Bytes(usize),
+    Refused(Refusal),
+}
+
+pub fn number(refusal: Refusal) -> u64
+    ensures { λ r. ⌜ r ≡ numberOf refusal ⌝ }
+{
+    match refusal {
+        Refusal::Line(_) => 1,
+        Refusal::Order(_) => 2,
+        Refusal::Count(_) => 3,
+        Refusal::Twice(_) => 4,
+        Refusal::Board => 5,
+        Refusal::Range(_) => 6,
+        Refusal::Slot(_) => 7,
+        Refusal::Tight(_) => 8,
+        Refusal::Horizon => 9,
+        Refusal::Full(_) => 10,
+        Refusal::Ask => 11,
+        Refusal::Room => 12,
+    }
+}
+
+pub fn place(refusal: Refusal) -> u64
+    ensures { λ r. ⌜ r ≡ placeOf refusal ⌝ }
+{
+    match refusal {
+        Refusal::Line(k) => k as u64,
+        Refusal::Order(k) => k as u64,
+        Refusal::Count(k) => k as u64,
+        Refusal::Twice(k) => k as u64,
+        Refusal::Board => 0,
+        Refusal::Range(k) => k as u64,
+        Refusal::Slot(k) => k as u64,
+        Refusal::Tight(k) => k as u64,
+        Refusal::Horizon => 0,
+        Refusal::Full(k) => k as u64,
+        Refusal::Ask => 0,
+        Refusal::Room => 0,
+    }
+}
