@@ -1,0 +1,53 @@
+// Task files for the tests: sets that mostly have a plan, and files damaged in a few places.
+use crate::oracle::{Set, Task};
+use crate::random::Random;
+
+// A set that mostly has a plan: periods over a small horizon, a slot that divides it.
+pub fn good(random: &mut Random) -> Set {
+    let horizon = random.one(&[240, 360, 720, 2520]);
+    let divisors: Vec<u64> = (2..=horizon).filter(|d| horizon % d == 0).collect();
+    let periods: Vec<u64> = divisors.iter().copied().filter(|d| *d >= 10).collect();
+    let s = random.one(&divisors[..divisors.len().min(8)]);
+    let overhead = |random: &mut Random, most: u64| if random.next() % 3 == 0 { random.within(0, most) } else { 0 };
+    let mut set = Set {
+        m: random.within(1, 64),
+        s,
+        relj: overhead(random, 2),
+        relo: overhead(random, 1),
+        ctswo: overhead(random, 1),
+        resd: overhead(random, 2),
+        cpmdo: overhead(random, 1),
+        tasks: vec![],
+    };
+    let mut ids: Vec<u64> = (0..=255).collect();
+    for _ in 0..random.within(1, 24) {
+        let t = random.one(&periods);
+        let d = random.within(s.min(t).max(1), t);
+        let share = random.within(1, 8);
+        let c = random.within(1, (d / share).max(1));
+        let id = ids.swap_remove(random.within(0, ids.len() as u64 - 1) as usize);
+        set.tasks.push(Task { id, c, d, t });
+    }
+    set
+}
+
+pub fn damaged(random: &mut Random, file: &mut Vec<u8>) {
+    for _ in 0..random.within(1, 3) {
+        if file.is_empty() {
+            return;
+        }
+        let at = random.within(0, file.len() as u64 - 1) as usize;
+        match random.next() % 6 {
+            0 => file[at] = random.next() as u8,
+            1 => file[at] = b"0123456789ABCDEFabcdef\n\r\0"[random.within(0, 24) as usize],
+            2 => drop(file.remove(at)),
+            3 => file.insert(at, b"0123456789ABCDEF\n"[random.within(0, 16) as usize]),
+            4 => file.truncate(at),
+            _ => {
+                let line = file[at..].iter().position(|b| *b == b'\n').map_or(file.len(), |n| at + n + 1);
+                let copy: Vec<u8> = file[at..line].to_vec();
+                file.extend(copy);
+            }
+        }
+    }
+}
