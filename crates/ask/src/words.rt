@@ -3,7 +3,7 @@
 use libc::STDOUT_FILENO;
 use planfile::asked::pass_in;
 use planfile::asked::who_in;
-use planfile::fit::fit_refusal;
+use plantext::fit::fit_refusal;
 use refusals::Outcome;
 use refusals::Refusal;
 use refusals::Written;

@@ -30,7 +30,7 @@ use Rattle.plan.specs.Planner.{Clear, makes, planOutcome, planOf, isDone, neede
 use Rattle.plan.proofs.AgreeLaws.{agree-self}
 use Rattle.plan.proofs.Clears.{charged-clear}
 use Rattle.plan.proofs.Made.{plan-outcome, plan-is, outcome-clear, made-needs}
-use Rattle.planfile.specs.Fit.{Counted}
+use Rattle.plantext.specs.Fit.{Counted}
 
 module _ (set : TaskSet) (done : planOutcome set ≡ Done) where
   clear : Clear set

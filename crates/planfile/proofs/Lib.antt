@@ -1,10 +1,3 @@
-pub mod LineLaws
-pub mod TextLaws
-pub mod FitLaws
+pub mod WriteLaws
 pub mod AcceptLaws
 pub mod ToolLaws
-pub mod FileClaims
-pub mod Examples
-pub mod Horizons
-pub mod Tells
-pub mod FieldLaws

@@ -26,7 +26,7 @@ use Rattle.plan.specs.Charge.{loadsOfSet, lossOf}
 use Rattle.plan.specs.Plan.{setPlacement, setReserves}
 use Rattle.plan.specs.Planner.{makes, planOf}
 use Rattle.plan.specs.Question.{whoRuns, doesPass, isProcessor, isServer, allowed}
-use Rattle.planfile.specs.Text.{planText, refusalText}
+use Rattle.plantext.specs.Text.{planText, refusalText}
 use Rattle.planfile.specs.Tool.{planned, answered}
 use Rattle.planfile.specs.Asked.{refusedWho, whoOfSet, whoIn, refusedPass, passOfSet, passIn}
 

@@ -9,7 +9,7 @@ use Rattle.tasks.specs.declared.read.ReadAnswer.{ReadAnswer}
 use Rattle.tasks.specs.Read.{readOf}
 use Rattle.plan.specs.declared.planner.PlanAnswer.{PlanAnswer}
 use Rattle.plan.specs.Planner.{planOf}
-use Rattle.planfile.specs.Text.{planText, refusalText}
+use Rattle.plantext.specs.Text.{planText, refusalText}
 
 abbrev pub printed : Outcome → (text : List ℕ) → List ℕ
 printed Done text = text

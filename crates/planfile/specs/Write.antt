@@ -9,8 +9,8 @@ use Rattle.refusals.specs.declared.Written.the-variants.{Refused}
 use Rattle.tasks.specs.declared.set.TaskSet.{TaskSet}
 use Rattle.plan.specs.declared.plan.Plan.{Plan}
 use Rattle.plan.specs.Planner.{makes}
-use Rattle.planfile.specs.Text.{planText}
-use Rattle.planfile.specs.Fit.{fitted}
+use Rattle.plantext.specs.Text.{planText}
+use Rattle.plantext.specs.Fit.{fitted}
 
 unfoldable pub writePlan : TaskSet → Plan → (buffer : List ℕ) → Written
 writePlan set plan buffer = cond (makes set plan) (fitted buffer (planText set plan)) (Refused Ask)

@@ -1,13 +1,13 @@
 // The whole tool, from the bytes of a task file to the bytes of its answer: a plan, or one 1F line.
 // What it answers stands in specs/Tool.antt. A set is planned once.
-use crate::fit::fit_plan;
-use crate::fit::fit_refusal;
 use plan::planner::make;
+use plantext::fit::fit_plan;
+use plantext::fit::fit_refusal;
 use refusals::Outcome;
 use refusals::Written;
 use tasks::read::read;
 use tasks::set::TaskSet;
-ghost use Rattle.planfile.specs.Fit.{Fits};
+ghost use Rattle.plantext.specs.Fit.{Fits};
 ghost use Rattle.planfile.specs.Tool.{planned, answered};
 
 // A set's plan, or the planner's refusal.

@@ -1,14 +1,14 @@
 // Writing a plan that is handed in with its set: row 11 unless the planner makes it, then row 12, else the exact text.
 // What is answered stands in specs/Write.antt.
-use crate::fit::fit_plan;
 use plan::check::makes_plan;
 use plan::plan::Plan;
+use plantext::fit::fit_plan;
 use refusals::Refusal;
 use refusals::Written;
 use tasks::set::TaskSet;
 ghost use mathlib.Core.Path.{_≡_};
 ghost use Rattle.tasks.specs.Write.{leaves};
-ghost use Rattle.planfile.specs.Text.{planText};
+ghost use Rattle.plantext.specs.Text.{planText};
 ghost use Rattle.planfile.specs.Write.{writePlan};
 
 pub fn write_plan(set: TaskSet, plan: Plan, out: &mut [u8]) -> Written

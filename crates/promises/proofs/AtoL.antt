@@ -12,8 +12,8 @@ use Rattle.tasks.specs.Read.{readOf}
 use Rattle.plan.specs.Rows.{horizonOf}
 use Rattle.plan.specs.Planner.{planOf}
 use Rattle.planfile.specs.Tool.{answered}
-use Rattle.planfile.proofs.Examples.{Example, examples, answerOf, examples-answered}
-use Rattle.planfile.proofs.Horizons.{fileJ, fileK, J-taken, K-refused}
+use Rattle.promises.proofs.Examples.{Example, examples, answerOf, examples-answered}
+use Rattle.promises.proofs.Horizons.{fileJ, fileK, J-taken, K-refused}
 
 pub record AtoL : Type 0 where
   pub table : map (λ (e : Example). answerOf (e .asked)) examples ≡ map (λ (e : Example). e .given) examples

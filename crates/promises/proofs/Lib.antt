@@ -5,4 +5,6 @@ pub mod AcceptLaws
 pub mod PrintLaws
 pub mod Theorems
 pub mod Worked
+pub mod Examples
+pub mod Horizons
 pub mod AtoL

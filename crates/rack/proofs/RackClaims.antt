@@ -9,7 +9,7 @@ use Rattle.refusals.specs.declared.Outcome.the-variants.{Done, Refused}
 use Rattle.refusals.specs.declared.Written.{Written}
 use Rattle.tasks.specs.Write.{leaves}
 use Rattle.planfile.specs.Tool.{answered}
-use Rattle.planfile.proofs.FileClaims.{text-exact, answered-short}
+use Rattle.planfile_claims.proofs.Claims.{text-exact, answered-short}
 use Rattle.rack.specs.Rack.{bytesOf, planBytes, planLeaves}
 use Rattle.rack.proofs.RackLaws.{number-row}
 use Rattle.rack.specs.Claims.{PlanSuffices, PlanTooShort, Determined, ZeroIsDone}

@@ -18,7 +18,7 @@ use Rattle.refusals.specs.declared.Written.{Written}
 use Rattle.ring.specs.declared.clock.Tick.{Tick}
 use Rattle.plan.specs.declared.question.WhoAnswer.{WhoAnswer}
 use Rattle.plan.specs.declared.question.PassAnswer.{PassAnswer}
-use Rattle.planfile.specs.Fit.{Fits}
+use Rattle.plantext.specs.Fit.{Fits}
 use Rattle.planfile.specs.Tool.{answered}
 use Rattle.planfile.specs.Asked.{whoIn, passIn}
 use Rattle.rack.specs.Rack.{bytesOf, planBytes, planLeaves, statusOf, toldOf, leavesNumbers, whoNumbers, whoTold, verdictNumbers, passNumbers, passTold}

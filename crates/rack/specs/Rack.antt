@@ -18,7 +18,7 @@ use Rattle.verdict.specs.declared.answer.Verdict.{Verdict}
 use Rattle.verdict.specs.declared.answer.Verdict.the-variants.{Yes, No}
 use Rattle.plan.specs.declared.question.WhoAnswer.{WhoAnswer}
 use Rattle.plan.specs.declared.question.PassAnswer.{PassAnswer}
-use Rattle.planfile.specs.Fit.{fitted}
+use Rattle.plantext.specs.Fit.{fitted}
 use Rattle.planfile.specs.Tool.{answered}
 use Rattle.planfile.specs.Asked.{whoIn, passIn}
 

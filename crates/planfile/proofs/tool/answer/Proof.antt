@@ -1,6 +1,6 @@
 -- The reader's answer taken apart: what its set's plan comes to, or its refusal's line.
 -- Assumes nothing.
-use Rattle.planfile.proofs.FitLaws.{fits-as}
+use Rattle.plantext.proofs.FitLaws.{fits-as}
 use Rattle.planfile.proofs.ToolLaws.{answered-done, answered-refused}
 use borrow.Author.Needs.{needs}
 use Rattle.planfile.proofs.tool.answer.Statement.{statement}

@@ -1,6 +1,6 @@
 -- The planner's answer taken apart: its plan's text, or its refusal's line.
 -- Assumes nothing.
-use Rattle.planfile.proofs.FitLaws.{fits-as}
+use Rattle.plantext.proofs.FitLaws.{fits-as}
 use Rattle.planfile.proofs.AcceptLaws.{makes-counted, answer-makes}
 use Rattle.planfile.proofs.ToolLaws.{planned-done, planned-refused}
 use borrow.Author.Needs.{needs}

@@ -1,7 +1,7 @@
 -- Row 11 unless the planner makes the plan, then the text as it fits.
 -- Assumes nothing.
 use mathlib.Core.Path.{sym, _∙_}
-use Rattle.planfile.proofs.FitLaws.{write-fits, write-asks}
+use Rattle.planfile.proofs.WriteLaws.{write-fits, write-asks}
 use Rattle.planfile.proofs.AcceptLaws.{makes-counted}
 use borrow.Author.Tests.{not-true, not-false}
 use borrow.Author.Needs.{needs}

@@ -1,0 +1,111 @@
+-- The claims of specs/Claims.antt, proved.
+-- Assumes nothing.
+use Prim.Native.Nat.{ℕ, _+_, _≤_}
+use mathlib.Core.Path.{_≡_, refl, sym, _∙_, ap}
+use mathlib.Core.List.{List, _++_}
+use mathlib.Core.Bool.{Bool, true, false, cond}
+use native.Mathlib.Nat.{zero-add}
+use native.Mathlib.Omega.{arith}
+use lib.Dec.{ltb}
+use lib.ListN.{length, take, drop}
+use borrow.Author.Tests.{ltb-true}
+use Rattle.digits.specs.Stored.{stored}
+use Rattle.refusals.specs.declared.Refusal.{Refusal}
+use Rattle.refusals.specs.declared.Refusal.the-variants.{Room}
+use Rattle.refusals.specs.declared.Outcome.{Outcome}
+use Rattle.refusals.specs.declared.Outcome.the-variants.{Done, Refused as RefusedBy}
+use Rattle.refusals.specs.declared.Written.{Written}
+use Rattle.refusals.specs.declared.Written.the-variants.{Bytes, Refused}
+use Rattle.ring.specs.declared.clock.Tick.{Tick}
+use Rattle.tasks.specs.declared.set.TaskSet.{TaskSet}
+use Rattle.tasks.specs.declared.read.ReadAnswer.{ReadAnswer}
+use Rattle.tasks.specs.Read.{readOf}
+use Rattle.tasks.specs.Write.{leaves}
+use Rattle.tasks.proofs.Prefix.{read-looks-at, furthest-bytes}
+use Rattle.plan.specs.declared.plan.Plan.{Plan}
+use Rattle.plan.specs.declared.planner.PlanAnswer.{PlanAnswer}
+use Rattle.plan.specs.Plan.{planMade}
+use Rattle.plan.specs.Planner.{planOutcome, planOf}
+use Rattle.plan.proofs.Made.{plan-outcome, plan-is}
+use Rattle.plantext.specs.Text.{planText}
+use Rattle.plantext.specs.Fit.{fitted, Fits, Counted}
+use Rattle.planfile.specs.Tool.{printed, planned, answered}
+use Rattle.planfile.specs.Asked.{whoOfSet, passOfSet, unlessWho, unlessPass, whoIn, passIn}
+use Rattle.planfile_claims.specs.Claims.{Determined, TextExact, RefusedStoresNothing, PrefixEnough, AnsweredShort, TextTells, TextTellsPlan}
+use Rattle.planfile_claims.proofs.TellLaws.{same-count, told}
+use Rattle.planfile_claims.proofs.FieldLaws.{fit-fields}
+use Rattle.plantext.proofs.LineLaws.{refusal-bytes}
+use Rattle.plantext.proofs.TextLaws.{text-bytes}
+use Rattle.plantext.proofs.FitLaws.{fitted-room, fitted-bytes}
+use Rattle.planfile.proofs.AcceptLaws.{made-counted}
+
+pub determined : Determined
+determined =
+    record {
+      write = λ set plan buffer f g. (f .0 ∙ sym (g .0), f .1 ∙ sym (g .1));
+      answer = λ text buffer f g. (f .answered ∙ sym (g .answered), f .holds ∙ sym (g .holds));
+      who = λ text p x f g. f ∙ sym g;
+      pass = λ text q R f g. f ∙ sym g;
+    }
+
+-- a refusal of a text is row 12
+only-room : (t : Bool) (n : ℕ) (r : Refusal) → cond t (Refused Room) (Bytes n) ≡ Refused r → (r ≡ Room) × (t ≡ true)
+only-room true n r e = (cc, refl)
+only-room false n r e = let z : _≡_ {A = ℕ} 0 1 = cc in absurd (omega arith)
+
+pub text-exact : TextExact
+unfolding stored fitted
+text-exact =
+    record {
+      bytes = λ buffer text h. (fitted-bytes buffer text h, ap (λ (w : Written). leaves w buffer text) (fitted-bytes buffer text h) ∙ ap (λ (n : ℕ). text ++ drop n buffer) (zero-add (length text)));
+      room = fitted-room;
+      room-only = λ buffer text r e. let only = only-room (ltb (length buffer) (length text)) (length text) r e in (only .0, ltb-true (length buffer) (length text) (only .1));
+    }
+
+pub refused-stores-nothing : RefusedStoresNothing
+refused-stores-nothing =
+    record {
+      write = λ set plan buffer r f. f .1 ∙ ap (λ (w : Written). leaves w buffer (planText set plan)) (sym (f .0));
+      answer = λ text buffer r f. f .holds ∙ ap (λ (w : Written). leaves w buffer (answered text)) (sym (f .answered));
+    }
+
+-- a file's first bytes are read as the file is
+same-read : (n : ℕ) (text : List ℕ) → 1534 ≤ n → readOf (take n text) ≡ readOf text
+same-read n text h = read-looks-at n text (omega (arith, furthest-bytes))
+
+pub prefix-enough : PrefixEnough
+unfolding answered whoIn passIn
+prefix-enough =
+    record {
+      answer = λ n text h. ap (λ (a : ReadAnswer). printed (a .outcome) (planned (a .set))) (same-read n text h);
+      who = λ n text h p x. ap (λ (a : ReadAnswer). unlessWho (a .outcome) (whoOfSet (a .set) p x)) (same-read n text h);
+      pass = λ n text h q R. ap (λ (a : ReadAnswer). unlessPass (a .outcome) (passOfSet (a .set) q R)) (same-read n text h);
+    }
+
+-- a text that counts no more than 64 of each
+text-short : (set : TaskSet) (plan : Plan) → Counted set plan → length (planText set plan) ≤ 2647
+text-short set plan few = omega (arith, text-bytes set plan, few .servers, few .tasks, few .processors)
+
+printed-short : (o : Outcome) (text : List ℕ) → (o ≡ Done → length text ≤ 2647) → length (printed o text) ≤ 2647
+printed-short Done text h = h refl
+printed-short (RefusedBy r) text h = omega (arith, refusal-bytes r)
+
+planned-short : (set : TaskSet) → length (planned set) ≤ 2647
+unfolding planned
+planned-short set = printed-short (planOf set .outcome) (planText set (planOf set .plan)) made
+  where
+    made : planOf set .outcome ≡ Done → length (planText set (planOf set .plan)) ≤ 2647
+    made e =
+        let done : planOutcome set ≡ Done = sym (plan-outcome set) ∙ e in
+        rw (plan-is set done) (text-short set (planMade set) (made-counted set done))
+
+pub answered-short : AnsweredShort
+unfolding answered
+answered-short text = printed-short (readOf text .outcome) (planned (readOf text .set)) (λ e. planned-short (readOf text .set))
+
+pub text-tells : TextTells
+text-tells set₁ set₂ plan₁ plan₂ fit₁ fit₂ e = (same-count set₁ set₂ plan₁ plan₂ fit₁ fit₂ e, told set₁ set₂ plan₁ plan₂ fit₁ fit₂ e)
+
+pub text-tells-plan : TextTellsPlan
+text-tells-plan set₁ set₂ plan₁ plan₂ full₁ full₂ m₁ m₂ e =
+    text-tells set₁ set₂ plan₁ plan₂ (fit-fields set₁ plan₁ full₁ m₁) (fit-fields set₂ plan₂ full₂ m₂) e

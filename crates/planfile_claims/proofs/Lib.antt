@@ -1,0 +1,3 @@
+pub mod TellLaws
+pub mod FieldLaws
+pub mod Claims

@@ -1,0 +1,101 @@
+-- What is promised of the texts and of the whole tool, each claim as a type. The proofs stand under the same names in proofs/.
+-- Document 01, "Lines of hexadecimal", rows 11 and 12 of the refusals and "How tight each promise is".
+use Prim.Native.Nat.{ℕ, _+_, _^_, _≤_, _<_}
+use mathlib.Core.List.{List, _++_}
+use mathlib.Core.Bool.{true}
+use mathlib.Core.Path.{_≡_}
+use lib.ListN.{length, take, drop, getD}
+use Rattle.refusals.specs.declared.Refusal.{Refusal}
+use Rattle.refusals.specs.declared.Refusal.the-variants.{Room}
+use Rattle.refusals.specs.declared.Written.{Written}
+use Rattle.refusals.specs.declared.Written.the-variants.{Bytes, Refused}
+use Rattle.ring.specs.declared.clock.Tick.{Tick}
+use Rattle.tasks.specs.declared.set.TaskSet.{TaskSet}
+use Rattle.tasks.specs.Write.{leaves}
+use Rattle.plan.specs.declared.plan.Plan.{Plan}
+use Rattle.plan.specs.declared.question.WhoAnswer.{WhoAnswer}
+use Rattle.plan.specs.declared.question.PassAnswer.{PassAnswer}
+use Rattle.plan.specs.Planner.{makes}
+use Rattle.plantext.specs.Text.{planText}
+use Rattle.plantext.specs.Fit.{fitted, Fits}
+use Rattle.planfile.specs.Write.{writePlan}
+use Rattle.planfile.specs.Tool.{answered}
+use Rattle.planfile.specs.Asked.{whoIn, passIn}
+
+-- what the plan writer's contract says of its answer and of the buffer
+abbrev pub Writes : TaskSet → Plan → (buffer : List ℕ) → Written → (left : List ℕ) → Type 0
+Writes set plan buffer w left =
+    (w ≡ writePlan set plan buffer) × (left ≡ leaves (writePlan set plan buffer) buffer (planText set plan))
+
+-- Two results that keep a promise coincide: the answers, and what the buffers hold.
+pub record Determined : Type 0 where
+  pub write : (set : TaskSet) (plan : Plan) (buffer : List ℕ) {w v : Written} {l k : List ℕ} →
+      Writes set plan buffer w l → Writes set plan buffer v k → (w ≡ v) × (l ≡ k)
+  pub answer : (text buffer : List ℕ) {w v : Written} {l k : List ℕ} →
+      Fits buffer (answered text) w l → Fits buffer (answered text) v k → (w ≡ v) × (l ≡ k)
+  pub who : (text : List ℕ) (p : ℕ) (x : Tick) {a b : WhoAnswer} → a ≡ whoIn text p x → b ≡ whoIn text p x → a ≡ b
+  pub pass : (text : List ℕ) (q R : ℕ) {a b : PassAnswer} → a ≡ passIn text q R → b ≡ passIn text q R → a ≡ b
+
+-- An accepted write changes the text's bytes at the buffer's start and no others; row 12 is given exactly when the buffer is shorter than the text.
+pub record TextExact : Type 0 where
+  pub bytes : (buffer text : List ℕ) → length text ≤ length buffer →
+      (fitted buffer text ≡ Bytes (length text)) × (leaves (fitted buffer text) buffer text ≡ text ++ drop (length text) buffer)
+  pub room : (buffer text : List ℕ) → length buffer < length text → fitted buffer text ≡ Refused Room
+  pub room-only : (buffer text : List ℕ) (r : Refusal) → fitted buffer text ≡ Refused r → (r ≡ Room) × (length buffer < length text)
+
+-- A refused write stores nothing.
+pub record RefusedStoresNothing : Type 0 where
+  pub write : (set : TaskSet) (plan : Plan) (buffer : List ℕ) (r : Refusal) {left : List ℕ} → Writes set plan buffer (Refused r) left → left ≡ buffer
+  pub answer : (text buffer : List ℕ) (r : Refusal) {left : List ℕ} → Fits buffer (answered text) (Refused r) left → left ≡ buffer
+
+-- The tool and the questions look no further than 1534 bytes into a file.
+pub record PrefixEnough : Type 0 where
+  pub answer : (n : ℕ) (text : List ℕ) → 1534 ≤ n → answered (take n text) ≡ answered text
+  pub who : (n : ℕ) (text : List ℕ) → 1534 ≤ n → (p : ℕ) (x : Tick) → whoIn (take n text) p x ≡ whoIn text p x
+  pub pass : (n : ℕ) (text : List ℕ) → 1534 ≤ n → (q R : ℕ) → passIn (take n text) q R ≡ passIn text q R
+
+-- The longest answer has 2,647 bytes, so a caller who lends as many never meets row 12.
+abbrev pub AnsweredShort : Type 0
+AnsweredShort = (text : List ℕ) → length (answered text) ≤ 2647
+
+-- the figures of a plan fit their fields, and a server on a whole processor has no ring start
+pub record FitFields (set : TaskSet) (plan : Plan) : Type 0 where
+  pub whole : plan .whole < 16 ^ 2
+  pub ring : plan .ring < 16 ^ 2
+  pub servers : plan .servers < 16 ^ 2
+  pub slot : plan .slot < 16 ^ 6
+  pub idle : plan .idle < 16 ^ 8
+  pub reserve : (i : ℕ) → i < plan .servers → getD (plan .reserve) i 0 < 16 ^ 6
+  pub start : (i : ℕ) → i < plan .servers → getD (plan .start) i 0 < 16 ^ 8
+  pub no-start : (i : ℕ) → i < plan .servers → plan .slot ≤ getD (plan .reserve) i 0 → getD (plan .start) i 0 ≡ 0
+  pub tasks : (i : ℕ) → i < plan .servers → getD (plan .tasks) i 0 < 16 ^ 2
+  pub server : (i : ℕ) → i < set .count → getD (plan .server) i 0 < 16 ^ 2
+  pub first : (i : ℕ) → i < plan .ring + plan .whole → getD (plan .first) i 0 < 16 ^ 2
+  pub duration : (i : ℕ) → i < plan .ring + plan .whole → getD (plan .duration) i 0 < 16 ^ 6
+
+-- two plans of so many tasks have the same figures, wherever they are used
+pub record SameUsed (count : ℕ) (a b : Plan) : Type 0 where
+  pub whole : a .whole ≡ b .whole
+  pub ring : a .ring ≡ b .ring
+  pub servers : a .servers ≡ b .servers
+  pub slot : a .slot ≡ b .slot
+  pub idle : a .idle ≡ b .idle
+  pub reserve : (i : ℕ) → i < b .servers → getD (a .reserve) i 0 ≡ getD (b .reserve) i 0
+  pub start : (i : ℕ) → i < b .servers → getD (a .start) i 0 ≡ getD (b .start) i 0
+  pub tasks : (i : ℕ) → i < b .servers → getD (a .tasks) i 0 ≡ getD (b .tasks) i 0
+  pub server : (i : ℕ) → i < count → getD (a .server) i 0 ≡ getD (b .server) i 0
+  pub first : (i : ℕ) → i < b .ring + b .whole → getD (a .first) i 0 ≡ getD (b .first) i 0
+  pub duration : (i : ℕ) → i < b .ring + b .whole → getD (a .duration) i 0 ≡ getD (b .duration) i 0
+
+-- Two plans whose figures fit their fields have the same text only where they are the same plan, of as many tasks.
+abbrev pub TextTells : Type 0
+TextTells =
+    (set₁ set₂ : TaskSet) (plan₁ plan₂ : Plan) → FitFields set₁ plan₁ → FitFields set₂ plan₂
+    → planText set₁ plan₁ ≡ planText set₂ plan₂ → (set₁ .count ≡ set₂ .count) × SameUsed (set₂ .count) plan₁ plan₂
+
+-- Two accepted plans with the same text are the same plan. A set has room for 64 tasks, by its type.
+abbrev pub TextTellsPlan : Type 0
+TextTellsPlan =
+    (set₁ set₂ : TaskSet) (plan₁ plan₂ : Plan) → length (set₁ .tasks) ≡ 64 → length (set₂ .tasks) ≡ 64
+    → makes set₁ plan₁ ≡ true → makes set₂ plan₂ ≡ true
+    → planText set₁ plan₁ ≡ planText set₂ plan₂ → (set₁ .count ≡ set₂ .count) × SameUsed (set₂ .count) plan₁ plan₂

@@ -1,0 +1,30 @@
+-- The line of a refusal's number and place; the fields that it lacks write nothing.
+-- Assumes nothing.
+use mathlib.Core.Path.{_∙_, ap}
+use native.Mathlib.Omega.{arith}
+use Rattle.digits.specs.Stored.{stored}
+use Rattle.plantext.proofs.LineLaws.{refused-size, refusal-bytes, refusal-filled}
+use borrow.Author.Needs.{needs}
+use Rattle.plantext.proofs.line.put_refusal.Statement.{statement}
+use Rattle.plantext.proofs.line.put_refusal.Tie as tie
+
+number-requires : tie.Need-number-requires
+number-requires c κs = search needs
+
+place-requires : tie.Need-place-requires
+place-requires c κs = search needs
+
+put-line-requires : tie.Need-put-line-requires
+put-line-requires c κs = omega (arith, refused-size, refusal-bytes (c .before .before .before .before .args .refusal), c .before .before .before .before .pre)
+
+same-length : tie.Need-same-length
+same-length c = search needs
+
+returns : tie.Need-returns
+returns c =
+    let a = c .before .before .before .before .before .before .before .args in
+    c .before .before .put-line .ensures ∙ ap (stored (a .out .now) 0) (refusal-filled (a .refusal) _ _ (c .before .before .before .before .before .number .ensures) (c .before .before .before .before .place .ensures))
+
+pub put-refusal-spec : {M : Type 1} → statement M
+put-refusal-spec =
+    tie.close (tie.spec number-requires place-requires put-line-requires same-length returns)

@@ -1,0 +1,4 @@
+// The text of a plan and the line of a refusal, into a lent buffer.
+pub mod fit; // fit.rt: a text into a lent buffer
+pub mod line; // line.rt: one line of a plan, and the line of a refusal
+pub mod text; // text.rt: the text of a plan, its lines one after the other

@@ -1,0 +1,106 @@
+-- Examples J and K of document 01: a horizon of 10,000,000 is taken, and one of 11,000,000 is refused with 9.
+-- Row 9 is computed; the plan of so long a horizon is not.
+use Prim.Native.Nat.{ℕ}
+use Prim.Native.String.{String}
+use mathlib.Core.Bool.{Bool, true, false}
+use mathlib.Core.Path.{_≡_, refl, sym, _∙_, ap}
+use native.Mathlib.Omega.{arith}
+use Rattle.refusals.specs.declared.Refusal.the-variants.{Horizon, Full, Ask}
+use Rattle.refusals.specs.declared.Outcome.{Outcome}
+use Rattle.refusals.specs.declared.Outcome.the-variants.{Done, Refused}
+use Rattle.tasks.specs.declared.set.TaskSet.{TaskSet}
+use Rattle.tasks.specs.declared.read.ReadAnswer.{ReadAnswer}
+use Rattle.tasks.specs.Rows.{when}
+use Rattle.tasks.proofs.Examples.{bytesOf}
+use Rattle.plan.specs.declared.planner.PlanAnswer.{PlanAnswer}
+use Rattle.plan.specs.Planner.{planOf, planOutcome, fullRow, needed}
+use Rattle.plan.proofs.Made.{plan-outcome, plan-charged}
+use Rattle.digits.specs.Digit.{legal, valueOf, digitOf, allLegal}
+use Rattle.digits.specs.Number.{numberFrom, hex}
+use Rattle.frames.specs.Table.{kindOf, widthsOf, sum}
+use Rattle.frames.specs.Line.{line, after, closed, same, formed, fieldOf, fields, lineOf}
+use Rattle.tasks.specs.Set.{setOf}
+use Rattle.tasks.specs.Rows.{some, firstFrom, countRow, twiceRow, boardRow, rangeRow, figuresOutcome, headerOverflows, taskOverflows, askRow}
+use Rattle.tasks.specs.File.{past, tasksUpTo, seenUpTo, lineRow, orderRow, countLineRow, twiceLineRow, lineOutcome, linesOutcome, headerAt, taskAt, tasksFrom}
+use Rattle.tasks.specs.Read.{fileSet, readOutcome, readOf}
+use Rattle.wholes.specs.Measure.{measureIn, commonMeasure}
+use Rattle.wholes.specs.Multiple.{leastMultiple, leastMultipleOf}
+use Rattle.demand.specs.Charging.{effectiveDeadline, effectiveCost}
+use Rattle.plan.specs.Charge.{loadOf}
+use Rattle.plan.specs.Rows.{slotRow, tightRow, horizonOf, horizonRow, chargedOutcome}
+use Rattle.plantext.specs.Text.{refusalText}
+use Rattle.planfile.specs.Tool.{answered}
+use Rattle.planfile.proofs.ToolLaws.{answered-done, planned-refused}
+
+-- S 128, T 1,000,000 and 78,125
+abbrev pub fileJ : String
+fileJ = "014000008000000000000000000000\n02010000010F42400F4240\n020200000101312D01312D\n"
+
+-- S 11, T 1,000,000
+abbrev pub fileK : String
+fileK = "014000000B00000000000000000000\n02010000010F42400F4240\n"
+
+setOfFile : String → TaskSet
+setOfFile file = readOf (bytesOf file) .set
+
+K-read : readOf (bytesOf fileK) .outcome ≡ Done
+unfolding legal valueOf allLegal numberFrom kindOf widthsOf sum line after closed same formed fieldOf setOf some firstFrom countRow twiceRow boardRow rangeRow figuresOutcome headerOverflows taskOverflows askRow past tasksUpTo seenUpTo lineRow orderRow countLineRow twiceLineRow lineOutcome linesOutcome headerAt taskAt tasksFrom fileSet readOutcome readOf
+K-read = refl
+
+K-carried : askRow (setOfFile fileK) ≡ false
+unfolding setOfFile legal valueOf allLegal numberFrom kindOf widthsOf sum line after closed same formed fieldOf setOf some firstFrom countRow twiceRow boardRow rangeRow figuresOutcome headerOverflows taskOverflows askRow past tasksUpTo seenUpTo lineRow orderRow countLineRow twiceLineRow lineOutcome linesOutcome headerAt taskAt tasksFrom fileSet readOutcome readOf
+K-carried = refl
+
+K-horizon : chargedOutcome (setOfFile fileK) ≡ Refused Horizon
+unfolding setOfFile legal valueOf allLegal numberFrom kindOf widthsOf sum line after closed same formed fieldOf setOf some firstFrom countRow twiceRow boardRow rangeRow figuresOutcome headerOverflows taskOverflows askRow past tasksUpTo seenUpTo lineRow orderRow countLineRow twiceLineRow lineOutcome linesOutcome headerAt taskAt tasksFrom fileSet readOutcome readOf measureIn commonMeasure leastMultiple leastMultipleOf effectiveDeadline effectiveCost loadOf slotRow tightRow horizonOf horizonRow chargedOutcome
+K-horizon = refl
+
+K-line : refusalText Horizon ≡ bytesOf "1F0900\n"
+unfolding refusalText lineOf fields kindOf widthsOf hex digitOf
+K-line = refl
+
+-- K: from the bytes of the file to the line of refusal 9
+pub K-refused : answered (bytesOf fileK) ≡ bytesOf "1F0900\n"
+unfolding setOfFile
+K-refused =
+    sym (answered-done (bytesOf fileK) (readOf (bytesOf fileK)) refl K-read)
+    ∙ sym (planned-refused (setOfFile fileK) (planOf (setOfFile fileK)) refl Horizon refused)
+    ∙ K-line
+  where
+    refused : planOf (setOfFile fileK) .outcome ≡ Refused Horizon
+    refused = sym (ap (λ (a : PlanAnswer). a .outcome) (plan-charged (setOfFile fileK) K-carried K-horizon))
+
+J-read : readOf (bytesOf fileJ) .outcome ≡ Done
+unfolding legal valueOf allLegal numberFrom kindOf widthsOf sum line after closed same formed fieldOf setOf some firstFrom countRow twiceRow boardRow rangeRow figuresOutcome headerOverflows taskOverflows askRow past tasksUpTo seenUpTo lineRow orderRow countLineRow twiceLineRow lineOutcome linesOutcome headerAt taskAt tasksFrom fileSet readOutcome readOf
+J-read = refl
+
+J-carried : askRow (setOfFile fileJ) ≡ false
+unfolding setOfFile legal valueOf allLegal numberFrom kindOf widthsOf sum line after closed same formed fieldOf setOf some firstFrom countRow twiceRow boardRow rangeRow figuresOutcome headerOverflows taskOverflows askRow past tasksUpTo seenUpTo lineRow orderRow countLineRow twiceLineRow lineOutcome linesOutcome headerAt taskAt tasksFrom fileSet readOutcome readOf
+J-carried = refl
+
+J-charged : chargedOutcome (setOfFile fileJ) ≡ Done
+unfolding setOfFile legal valueOf allLegal numberFrom kindOf widthsOf sum line after closed same formed fieldOf setOf some firstFrom countRow twiceRow boardRow rangeRow figuresOutcome headerOverflows taskOverflows askRow past tasksUpTo seenUpTo lineRow orderRow countLineRow twiceLineRow lineOutcome linesOutcome headerAt taskAt tasksFrom fileSet readOutcome readOf measureIn commonMeasure leastMultiple leastMultipleOf effectiveDeadline effectiveCost loadOf slotRow tightRow horizonOf horizonRow chargedOutcome
+J-charged = refl
+
+J-longest : horizonOf (setOfFile fileJ) ≡ 10000000
+unfolding setOfFile legal valueOf allLegal numberFrom kindOf widthsOf sum line after closed same formed fieldOf setOf some firstFrom countRow twiceRow boardRow rangeRow figuresOutcome headerOverflows taskOverflows askRow past tasksUpTo seenUpTo lineRow orderRow countLineRow twiceLineRow lineOutcome linesOutcome headerAt taskAt tasksFrom fileSet readOutcome readOf measureIn commonMeasure leastMultiple leastMultipleOf effectiveDeadline effectiveCost loadOf slotRow tightRow horizonOf horizonRow chargedOutcome
+J-longest = refl
+
+-- what is left of the planner's outcome is row 10, which is no refusal 9
+not-horizon : (t : Bool) (n : ℕ) → when t (Full n) ≡ Refused Horizon → ⊥
+not-horizon true n e = let z : _≡_ {A = ℕ} 0 1 = cc in omega arith
+not-horizon false n e = let z : _≡_ {A = ℕ} 0 1 = cc in omega arith
+
+row-ten : (set : TaskSet) → askRow set ≡ false → chargedOutcome set ≡ Done → planOutcome set ≡ when (fullRow set) (Full (needed set))
+unfolding planOutcome
+row-ten set p q = rw (p, q)
+
+-- J: the file is read, its horizon is 10,000,000, and it has no refusal 9
+pub J-taken : (readOf (bytesOf fileJ) .outcome ≡ Done) × (horizonOf (readOf (bytesOf fileJ) .set) ≡ 10000000) × (planOf (readOf (bytesOf fileJ) .set) .outcome ≡ Refused Horizon → ⊥)
+unfolding setOfFile
+J-taken = (
+  J-read,
+  J-longest,
+  λ (e : planOf (setOfFile fileJ) .outcome ≡ Refused Horizon).
+      not-horizon (fullRow (setOfFile fileJ)) (needed (setOfFile fileJ)) (sym (row-ten (setOfFile fileJ) J-carried J-charged) ∙ sym (plan-outcome (setOfFile fileJ)) ∙ e),
+)
