@@ -9,20 +9,21 @@ use native.Mathlib.Numerals.{add-one}
 use native.Mathlib.Omega.{arith}
 use lib.Arith.{le-zero}
 use lib.ListN.{length, getD, length-append}
+use Rattle.laws.proofs.Orders.{le-or-lt}
+use Rattle.laws.proofs.Choices.{cond-leb, cond-leb-not}
 use Rattle.demand.specs.Load.{Load, Sound, Every, Loaded, loadAt, loadsOf}
 use Rattle.demand.specs.Demand.{jobs, demand}
 use Rattle.demand.specs.Steps.{Step}
-use Rattle.demand.proofs.Cases.{le-or-lt, pick-le, pick-lt}
 
 -- ---- the jobs of one load
 
 pub jobs-due : {d t : ℕ} (T : ℕ) → d ≤ t → jobs d T t ≡ (t - d) / T + 1
 unfolding jobs
-jobs-due {d} {t} T h = pick-le ((t - d) / T + 1) 0 h
+jobs-due {d} {t} T h = cond-leb ((t - d) / T + 1) 0 h
 
 pub jobs-none : {d t : ℕ} (T : ℕ) → t < d → jobs d T t ≡ 0
 unfolding jobs
-jobs-none {d} {t} T h = pick-lt ((t - d) / T + 1) 0 h
+jobs-none {d} {t} T h = cond-leb-not ((t - d) / T + 1) 0 h
 
 -- what one division computes
 pub jobs-code : (d T t : ℕ) → 1 ≤ T → d ≤ T → jobs d T t ≡ (t + T - d) / T

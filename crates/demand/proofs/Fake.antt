@@ -6,11 +6,11 @@ use mathlib.Core.Logic.{_↔_, ⊎-elim}
 use native.Mathlib.Nat.{le-trans, mul-comm, mul-add, sub-add-cancel}
 use native.Mathlib.Omega.{arith}
 use lib.Arith.{digits-div}
+use Rattle.laws.proofs.Orders.{by-slots, le-or-lt}
 use Rattle.demand.specs.Demand.{jobs, demand}
 use Rattle.demand.specs.Supply.{supplyPast, supply}
 use Rattle.demand.specs.Passes.{Passes, fake, FakePasses}
 use Rattle.demand.specs.Claims.{FakeAgrees, FakeDiffers, FakeRises}
-use Rattle.demand.proofs.Cases.{le-or-lt, by-slots}
 use Rattle.demand.proofs.Demand.{jobs-code, demand-mono}
 use Rattle.demand.proofs.Supply.{supply-slots, supply-part}
 

@@ -5,10 +5,10 @@ use mathlib.Core.Path.{_≡_, subst}
 use mathlib.Core.Logic.{⊎-elim}
 use native.Mathlib.Nat.{le-refl, le-trans, le-of-eq, add-le-add}
 use native.Mathlib.Omega.{arith}
+use Rattle.laws.proofs.Orders.{le-or-lt}
 use Rattle.demand.specs.Demand.{demand}
 use Rattle.demand.specs.Supply.{gap, supply}
 use Rattle.demand.specs.Claims.{HorizonDecides, LoadsDecide}
-use Rattle.demand.proofs.Cases.{le-or-lt}
 use Rattle.demand.proofs.Demand.{demand-turn}
 use Rattle.demand.proofs.Supply.{supply-gap, supply-more}
 

@@ -1,4 +1,3 @@
-pub mod Cases
 pub mod Supply
 pub mod Demand
 pub mod Literal

@@ -6,12 +6,12 @@ use mathlib.Core.Logic.{_⊎_, inl, inr, ⊎-elim}
 use mathlib.Core.List.{List, [], _∷_}
 use native.Mathlib.Nat.{le-trans, le-of-eq, le-suc, le-antisymm, div-add-mod', mul-mod-left, add-sub-cancel-left}
 use native.Mathlib.Omega.{arith}
+use Rattle.laws.proofs.Orders.{eq-or-ne, le-or-lt}
 use Rattle.demand.specs.Load.{Load, Sound, Every}
 use Rattle.demand.specs.Demand.{demand}
 use Rattle.demand.specs.Supply.{gap, supply}
 use Rattle.demand.specs.Steps.{StepOf, Some, Step}
 use Rattle.demand.specs.Claims.{StepsDecide}
-use Rattle.demand.proofs.Cases.{le-or-lt, eq-or-ne}
 use Rattle.demand.proofs.Demand.{demand-zero, demand-stays}
 use Rattle.demand.proofs.Supply.{supply-gap, supply-mono}
 

@@ -8,8 +8,9 @@ use native.Mathlib.Nat.{add-assoc, add-le-add, mul-le-mul-left, sub-le, sub-le-s
 use native.Mathlib.Omega.{arith}
 use lib.Arith.{digits-div, digits-mod}
 use lib.Dec.{leb}
+use Rattle.laws.proofs.Orders.{by-slots, eq-or-ne, le-or-lt}
+use Rattle.laws.proofs.Choices.{cond-eqb, cond-eqb-not, cond-leb, cond-leb-not}
 use Rattle.demand.specs.Supply.{Ring, Allowed, gap, supplyPast, supply}
-use Rattle.demand.proofs.Cases.{le-or-lt, eq-or-ne, by-slots, pick-le, pick-lt, pick-eq, pick-ne}
 
 -- supply by k whole slots and x ticks
 pub supply-slots : (S f k : ℕ) {x : ℕ} → x < S → supplyPast S f (k * S + x) ≡ k * (S - f) + (x - f)
@@ -33,11 +34,11 @@ ring-of S L R n a = ⊎-elim (λ (r : Ring S L R). r) (λ (e : R ≡ S). absurd 
 -- the gap of a whole processor, and of a ring reserve
 pub gap-whole : (S L R : ℕ) → R ≡ S → gap S L R ≡ 0
 unfolding gap
-gap-whole S L R e = pick-eq 0 (S - R + L) e
+gap-whole S L R e = cond-eqb 0 (S - R + L) e
 
 pub gap-part : (S L R : ℕ) → (R ≡ S → ⊥) → gap S L R ≡ S - R + L
 unfolding gap
-gap-part S L R h = pick-ne 0 (S - R + L) h
+gap-part S L R h = cond-eqb-not 0 (S - R + L) h
 
 pub gap-ring : (S L R : ℕ) → R < S → gap S L R ≡ S - R + L
 gap-ring S L R h = gap-part S L R (λ (e : R ≡ S). omega arith)
@@ -50,11 +51,11 @@ gap-below S L R a h =
 -- supply of a whole processor, and of any other reserve
 pub supply-all : (S L R t : ℕ) → R ≡ S → supply S L R t ≡ t
 unfolding supply
-supply-all S L R t e = pick-eq t (supplyPast S (S - R + L) t) e
+supply-all S L R t e = cond-eqb t (supplyPast S (S - R + L) t) e
 
 pub supply-part : (S L R t : ℕ) → (R ≡ S → ⊥) → supply S L R t ≡ supplyPast S (S - R + L) t
 unfolding supply
-supply-part S L R t h = pick-ne t (supplyPast S (S - R + L) t) h
+supply-part S L R t h = cond-eqb-not t (supplyPast S (S - R + L) t) h
 
 -- the form computed is the literal form: a whole processor has the gap 0
 pub supply-gap : (S L R t : ℕ) → 1 ≤ S → supply S L R t ≡ supplyPast S (gap S L R) t
@@ -66,11 +67,11 @@ supply-gap S L R t h =
 
 step-inside : (a f x : ℕ) → a + (x + 1 - f) ≡ a + (x - f) + cond (leb f x) 1 0
 step-inside a f x =
-    ⊎-elim (λ (p : f ≤ x). omega (arith, pick-le 1 0 p)) (λ (p : x < f). omega (arith, pick-lt 1 0 p)) (le-or-lt f x)
+    ⊎-elim (λ (p : f ≤ x). omega (arith, cond-leb 1 0 p)) (λ (p : x < f). omega (arith, cond-leb-not 1 0 p)) (le-or-lt f x)
 
 step-over : (a S f x : ℕ) → x + 1 ≡ S → a + (S - f) ≡ a + (x - f) + cond (leb f x) 1 0
 step-over a S f x e =
-    ⊎-elim (λ (p : f ≤ x). omega (arith, pick-le 1 0 p)) (λ (p : x < f). omega (arith, pick-lt 1 0 p)) (le-or-lt f x)
+    ⊎-elim (λ (p : f ≤ x). omega (arith, cond-leb 1 0 p)) (λ (p : x < f). omega (arith, cond-leb-not 1 0 p)) (le-or-lt f x)
 
 one-more : (k u f : ℕ) → (k + 1) * u + (0 - f) ≡ k * u + u
 one-more k u f = omega arith

@@ -2,24 +2,25 @@
 -- Assumes nothing.
 use Prim.Native.Nat.{ℕ, _+_, _-_, _≤_, _<_}
 use mathlib.Core.Path.{_≡_, refl, _∙_, ap}
-use mathlib.Core.Bool.{Bool, true, false, _&&_, _||_}
+use mathlib.Core.Bool.{true, false, _&&_, and-true, or-false}
 use mathlib.Core.List.{List, [], _∷_, _++_}
 use mathlib.Core.Logic.{_⊎_, inl, inr, ⊎-elim}
 use native.Mathlib.Omega.{arith}
 use lib.Dec.{leb, eqb}
 use lib.ListN.{take, drop, take-append-drop}
 use borrow.Author.Tests.{leb-true, le-leb, lt-leb, lt-ltb, le-ltb, ne-eqb}
+use Rattle.laws.proofs.Tests.{and-both, and-left, and-right, or-either}
+use Rattle.laws.proofs.Orders.{le-or-lt}
 use Rattle.digits.specs.Digit.{legal, valueOf, digitOf, allLegal}
-use Rattle.digits.proofs.Tests.{both-left, both-right, both-true, either-true, below-or-not}
 
 -- the legal bytes
 pub legal-range : (b : ℕ) → legal b ≡ true → ((48 ≤ b) × (b ≤ 57)) ⊎ ((65 ≤ b) × (b ≤ 70))
 unfolding legal
 legal-range b p =
     ⊎-elim
-    (λ (q : (leb 48 b && leb b 57) ≡ true). inl (leb-true 48 b (both-left (leb 48 b) (leb b 57) q), leb-true b 57 (both-right (leb 48 b) (leb b 57) q)))
-    (λ (q : (leb 65 b && leb b 70) ≡ true). inr (leb-true 65 b (both-left (leb 65 b) (leb b 70) q), leb-true b 70 (both-right (leb 65 b) (leb b 70) q)))
-    (either-true (leb 48 b && leb b 57) (leb 65 b && leb b 70) p)
+    (λ (q : (leb 48 b && leb b 57) ≡ true). inl (leb-true 48 b (and-left (leb 48 b) (leb b 57) q), leb-true b 57 (and-right (leb 48 b) (leb b 57) q)))
+    (λ (q : (leb 65 b && leb b 70) ≡ true). inr (leb-true 65 b (and-left (leb 65 b) (leb b 70) q), leb-true b 70 (and-right (leb 65 b) (leb b 70) q)))
+    (or-either (leb 48 b && leb b 57) (leb 65 b && leb b 70) p)
 
 -- a legal digit is at least 48, so it is never the LF
 pub legal-low : (b : ℕ) → legal b ≡ true → 48 ≤ b
@@ -31,11 +32,7 @@ legal-not-LF b p = ne-eqb b 10 (λ (e : b ≡ 10). omega (arith, legal-low b p))
 -- the test of a byte by its two cases
 pub legal-to-nine : (b : ℕ) → b ≤ 57 → legal b ≡ leb 48 b
 unfolding legal
-legal-to-nine b p = rw (le-leb b 57 p, lt-leb 65 b (omega arith)) (alone (leb 48 b))
-  where
-    alone : (t : Bool) → ((t && true) || false) ≡ t
-    alone true = refl
-    alone false = refl
+legal-to-nine b p = rw (le-leb b 57 p, lt-leb 65 b (omega arith)) (or-false (leb 48 b && true) ∙ and-true (leb 48 b))
 
 pub legal-past-nine : (b : ℕ) → 57 < b → legal b ≡ (leb 65 b && leb b 70)
 unfolding legal
@@ -70,9 +67,9 @@ digit-letter v p = rw (le-ltb v 10 p)
 pub value-digit : (v : ℕ) → v < 16 → valueOf (digitOf v) ≡ v
 value-digit v p =
     ⊎-elim
-    (λ (q : v < 10). ap valueOf (digit-figure v q) ∙ omega (arith, value-figure (48 + v) (omega arith)))
     (λ (q : 10 ≤ v). ap valueOf (digit-letter v q) ∙ omega (arith, value-letter (55 + v) (omega arith)))
-    (below-or-not v 10)
+    (λ (q : v < 10). ap valueOf (digit-figure v q) ∙ omega (arith, value-figure (48 + v) (omega arith)))
+    (le-or-lt 10 v)
 
 pub digit-value : (b : ℕ) → legal b ≡ true → digitOf (valueOf b) ≡ b
 digit-value b p =
@@ -85,9 +82,9 @@ digit-value b p =
 pub digit-legal : (v : ℕ) → v < 16 → legal (digitOf v) ≡ true
 digit-legal v p =
     ⊎-elim
-    (λ (q : v < 10). ap legal (digit-figure v q) ∙ legal-figure (48 + v) (omega arith) (omega arith))
     (λ (q : 10 ≤ v). ap legal (digit-letter v q) ∙ legal-letter (55 + v) (omega arith) (omega arith))
-    (below-or-not v 10)
+    (λ (q : v < 10). ap legal (digit-figure v q) ∙ legal-figure (48 + v) (omega arith) (omega arith))
+    (le-or-lt 10 v)
 
 pub value-below : (b : ℕ) → legal b ≡ true → valueOf b < 16
 value-below b p =
@@ -99,11 +96,11 @@ value-below b p =
 -- a text of legal digits, byte by byte and part by part
 pub legal-head : (b : ℕ) (bs : List ℕ) → allLegal (b ∷ bs) ≡ true → legal b ≡ true
 unfolding allLegal
-legal-head b bs p = both-left (legal b) (allLegal bs) p
+legal-head b bs p = and-left (legal b) (allLegal bs) p
 
 pub legal-tail : (b : ℕ) (bs : List ℕ) → allLegal (b ∷ bs) ≡ true → allLegal bs ≡ true
 unfolding allLegal
-legal-tail b bs p = both-right (legal b) (allLegal bs) p
+legal-tail b bs p = and-right (legal b) (allLegal bs) p
 
 pub legal-cons : (b : ℕ) (bs : List ℕ) → legal b ≡ true → allLegal (b ∷ bs) ≡ allLegal bs
 unfolding allLegal
@@ -116,7 +113,7 @@ legal-append (x ∷ xs) b p q = legal-cons x (xs ++ b) (legal-head x xs p) ∙ l
 pub legal-left : (a b : List ℕ) → allLegal (a ++ b) ≡ true → allLegal a ≡ true
 unfolding allLegal
 legal-left [] b p = refl
-legal-left (x ∷ xs) b p = both-true (legal-head x (xs ++ b) p) (legal-left xs b (legal-tail x (xs ++ b) p))
+legal-left (x ∷ xs) b p = and-both (legal-head x (xs ++ b) p) (legal-left xs b (legal-tail x (xs ++ b) p))
 
 pub legal-right : (a b : List ℕ) → allLegal (a ++ b) ≡ true → allLegal b ≡ true
 legal-right [] b p = p

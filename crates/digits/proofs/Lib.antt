@@ -1,4 +1,3 @@
 pub mod Digits
 pub mod Numbers
 pub mod Stored
-pub mod Tests

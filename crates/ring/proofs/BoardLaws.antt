@@ -6,13 +6,13 @@ use mathlib.Core.List.{List}
 use mathlib.Core.Logic.{inl, inr, ⊎-elim, _↔_}
 use native.Mathlib.Nat.{le-trans, le-of-eq}
 use native.Mathlib.Omega.{arith}
+use Rattle.laws.proofs.Orders.{le-or-lt}
 use Rattle.ring.specs.declared.clock.Tick.{Tick}
 use Rattle.ring.specs.Reserves.{reserveOf, ringTicks, startOf, ringProcessors, ringLength}
 use Rattle.ring.specs.Phase.{phase}
 use Rattle.ring.specs.Who.{wholeServer}
 use Rattle.ring.specs.Serves.{RingServer, WholeProcessor, ServesOnRing, ServesWhole, OnBoard, UsableOnRing, Usable, sinceStart}
 use Rattle.ring.specs.Claims.{Board}
-use Rattle.ring.proofs.Cases.{le-or-lt}
 use Rattle.ring.proofs.Starts.{ring-holds}
 use Rattle.ring.proofs.CoverLaws.{Covers, covers-is, none-past}
 use Rattle.ring.proofs.WholeLaws.{whole-has}

@@ -10,10 +10,11 @@ use native.Mathlib.Omega.{arith}
 use borrow.Author.Tests.{lt-ltb, le-leb, ltb-true, leb-true}
 use lib.Dec.{ltb, leb}
 use lib.ListN.{length, getD, take, List·getD-eq-default}
+use Rattle.laws.proofs.Tests.{and-parts, true-false}
+use Rattle.laws.proofs.Orders.{eq-by-cases, le-or-lt}
 use Rattle.ring.specs.declared.clock.Position.{Position}
 use Rattle.ring.specs.Reserves.{reserveOf, ringTicks, startOf}
 use Rattle.ring.specs.Cover.{covers, covererUpTo}
-use Rattle.ring.proofs.Cases.{le-or-lt, eq-by-cases, both-true}
 use Rattle.ring.proofs.Starts.{ring-more, ring-same, ring-mono, ring-part}
 
 -- what the test `covers` tests
@@ -26,8 +27,8 @@ module _ (S : ℕ) (rs : List ℕ) where
   pub covers-told : (q : ℕ) (at : Position) → covers S rs q at ≡ true → Covers S rs q (at .0)
   unfolding covers
   covers-told q at e =
-      let a = both-true (ltb (reserveOf rs q) S) (leb (startOf S rs q) (at .0) && ltb (at .0) (startOf S rs q + reserveOf rs q)) e in
-      let b = both-true (leb (startOf S rs q) (at .0)) (ltb (at .0) (startOf S rs q + reserveOf rs q)) (a .1) in
+      let a = and-parts (ltb (reserveOf rs q) S) (leb (startOf S rs q) (at .0) && ltb (at .0) (startOf S rs q + reserveOf rs q)) e in
+      let b = and-parts (leb (startOf S rs q) (at .0)) (ltb (at .0) (startOf S rs q + reserveOf rs q)) (a .1) in
       record { ring = ltb-true _ _ (a .0); from = leb-true _ _ (b .0); before = ltb-true _ _ (b .1) }
 
   pub covers-is : (q : ℕ) (at : Position) → Covers S rs q (at .0) → covers S rs q at ≡ true
@@ -100,9 +101,7 @@ module _ (S : ℕ) (rs : List ℕ) where
             ⊎-elim
             (λ (p : q ≤ n). fewer p)
             (λ (p : q ≡ suc n).
-            let t : true ≡ false = sym (covers-is q at c) ∙ ap (λ (k : ℕ). covers S rs k at) p ∙ e in
-            let z : _≡_ {A = ℕ} 0 1 = cc in
-            absurd (omega arith))
+            true-false (sym (covers-is q at c) ∙ ap (λ (k : ℕ). covers S rs k at) p ∙ e))
             (le-suc-iff .0 l)
 
     -- and a coverer that is there covers

@@ -8,6 +8,7 @@ use native.Mathlib.Nat.{le-refl, zero-mul}
 use native.Mathlib.Omega.{arith}
 use lib.ListN.{length, getD, take}
 use lib.Seq.{take-length}
+use Rattle.laws.proofs.Orders.{le-or-lt}
 use Rattle.ring.specs.declared.clock.Position.{Position}
 use Rattle.ring.specs.declared.cover.Stand.{Stand}
 use Rattle.ring.specs.Reserves.{reserveOf, ringTicks, startOf, ringProcessors, ringLength, idlePositions}
@@ -15,7 +16,6 @@ use Rattle.ring.specs.Cover.{covererUpTo}
 use Rattle.ring.specs.Who.{firstOf}
 use Rattle.ring.specs.Serves.{RingServer}
 use Rattle.ring.specs.Claims.{CoveredOnce, CoveredNever, FilledRing, First}
-use Rattle.ring.proofs.Cases.{le-or-lt}
 use Rattle.ring.proofs.Starts.{ring-more, ring-mono, ring-holds, ring-least, ring-tight}
 use Rattle.ring.proofs.CoverLaws.{Covers, covers-told, covers-is, covers-there, covers-before, no-overlap, none-past, found, coverer-is, coverer-none}
 use Rattle.ring.proofs.StandLaws.{stand-covered}

@@ -10,24 +10,19 @@ use native.Mathlib.Omega.{arith}
 use borrow.Author.Tests.{eqb-true, eq-eqb}
 use lib.Dec.{ltb, eqb}
 use lib.ListN.{length}
+use Rattle.laws.proofs.Tests.{never-true}
+use Rattle.laws.proofs.Orders.{le-or-lt}
+use Rattle.laws.proofs.Choices.{cond-ltb, cond-ltb-not}
 use Rattle.ring.specs.declared.clock.Tick.{Tick}
 use Rattle.ring.specs.Reserves.{reserveOf, startOf, processorsOf}
 use Rattle.ring.specs.Who.{whoOf}
 use Rattle.ring.specs.Serves.{RingServer, WholeProcessor, ServesOnRing, ServesWhole, Serves, OnBoard, sinceStart}
 use Rattle.ring.specs.Held.{later, countTo, heldAt, held}
-use Rattle.ring.proofs.Cases.{le-or-lt, pick-lt, pick-ge}
 use Rattle.ring.proofs.PhaseLaws.{since-below, since-later}
 use Rattle.ring.proofs.ServeLaws.{one-processor, named-served, served-named}
 use Rattle.ring.proofs.BoardLaws.{board-ring, board-whole}
 
 -- ---- counting
-
-true-false : (t : Bool) → t ≡ true → t ≡ false → ⊥
-true-false t a b = let z : _≡_ {A = ℕ} 0 1 = cc in omega arith
-
-not-true : (t : Bool) → (t ≡ true → ⊥) → t ≡ false
-not-true true h = absurd (h refl)
-not-true false h = refl
 
 module _ (test : ℕ → Bool) where
   count-suc : (n : ℕ) (t : Bool) → test (suc n) ≡ t → countTo test (suc n) ≡ countTo test n + cond t 1 0
@@ -39,7 +34,7 @@ module _ (test : ℕ → Bool) where
   unfolding countTo
   count-none zero f = refl
   count-none (suc n) f =
-      let e = not-true (test (suc n)) (f (suc n) (omega arith) (le-refl (suc n))) in
+      let e = never-true (test (suc n)) (f (suc n) (omega arith) (le-refl (suc n))) in
       count-suc n false e ∙ omega (arith, count-none n (λ p a b. f p a (omega arith)))
 
   -- where exactly one passes it is 1
@@ -48,7 +43,7 @@ module _ (test : ℕ → Bool) where
   count-one (suc n) q a b e f =
       ⊎-elim
       (λ (l : q ≤ n).
-      let t = not-true (test (suc n)) (λ g. let k = f (suc n) (omega arith) (le-refl (suc n)) g in omega arith) in
+      let t = never-true (test (suc n)) (λ g. let k = f (suc n) (omega arith) (le-refl (suc n)) g in omega arith) in
       count-suc n false t ∙ omega (arith, count-one n q a l e (λ p c d. f p c (omega arith))))
       (λ (l : q ≡ suc n).
       let t : test (suc n) ≡ true = subst (λ (k : ℕ). test k ≡ true) l e in
@@ -91,9 +86,9 @@ module _ (S : ℕ) (rs : List ℕ) (q : ℕ) (h : 1 ≤ S) (some : 1 ≤ q) wher
   held-ring x s =
       ⊎-elim
       (λ (l : reserveOf rs q ≤ sinceStart S rs q x).
-      held-none x (λ b. let k = board-ring S rs x h q s .0 b in omega arith) ∙ sym (pick-ge 1 0 l))
+      held-none x (λ b. let k = board-ring S rs x h q s .0 b in omega arith) ∙ sym (cond-ltb-not 1 0 l))
       (λ (l : sinceStart S rs q x < reserveOf rs q).
-      held-one x (board-ring S rs x h q s .1 l) ∙ sym (pick-lt 1 0 l))
+      held-one x (board-ring S rs x h q s .1 l) ∙ sym (cond-ltb 1 0 l))
       (le-or-lt (reserveOf rs q) (sinceStart S rs q x))
 
   pub held-whole : (x : Tick) → WholeProcessor S rs q → heldAt S rs q x ≡ 1
@@ -114,7 +109,7 @@ module _ (S R z : ℕ) (hR : R ≤ S) (hz : z < S) where
   -- min R grows by one up to R
   min-step : (v : ℕ) → min R v + cond (ltb v R) 1 0 ≡ min R (v + 1)
   min-step v =
-      ⊎-elim (λ (p : R ≤ v). omega (arith, pick-ge 1 0 p)) (λ (p : v < R). omega (arith, pick-lt 1 0 p)) (le-or-lt R v)
+      ⊎-elim (λ (p : R ≤ v). omega (arith, cond-ltb-not 1 0 p)) (λ (p : v < R). omega (arith, cond-ltb 1 0 p)) (le-or-lt R v)
 
   -- up to the slot's end
   to-end : (t : ℕ) → z + t ≤ S → turned S R z t + min R z ≡ min R (z + t)

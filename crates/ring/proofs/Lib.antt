@@ -1,5 +1,4 @@
 -- The laws of the ring: starts, cover, the phase rule and who runs, for the proofs here and for callers.
-pub mod Cases
 pub mod Starts
 pub mod CoverLaws
 pub mod StandLaws

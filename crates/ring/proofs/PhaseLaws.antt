@@ -6,10 +6,10 @@ use mathlib.Core.Logic.{_⊎_, inl, inr, ⊎-elim}
 use native.Mathlib.Nat.{one-le-mul, mod-lt, mod-eq-of-lt, mod-eq-sub-mod, mod-add-mod, add-mod-mod, add-mul-mod-self-right, add-mul-div-right, div-add-mod', div-lt-iff-lt-mul, zero-add, mul-le-mul-right}
 use native.Mathlib.Omega.{arith}
 use lib.Arith.{digits-div, digits-mod, mod-mul}
+use Rattle.laws.proofs.Orders.{le-or-lt}
 use Rattle.ring.specs.declared.clock.Tick.{Tick}
 use Rattle.ring.specs.Phase.{phase}
 use Rattle.ring.specs.Held.{later}
-use Rattle.ring.proofs.Cases.{le-or-lt}
 
 -- ---- turns on a circle of r
 

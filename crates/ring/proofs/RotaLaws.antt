@@ -10,6 +10,8 @@ use native.Mathlib.Omega.{arith}
 use borrow.Author.Tests.{le-leb, lt-leb}
 use lib.ListN.{length, getD, take, drop, length-drop}
 use lib.Seq.{getD-drop}
+use Rattle.laws.proofs.Orders.{le-or-lt}
+use Rattle.laws.proofs.Choices.{cond-ltb, cond-ltb-not}
 use Rattle.ring.specs.declared.clock.Tick.{Tick}
 use Rattle.ring.specs.declared.cover.Stand.{Stand}
 use Rattle.ring.specs.Laid.{Reserved}
@@ -19,7 +21,6 @@ use Rattle.ring.specs.Cover.{standAt}
 use Rattle.ring.specs.Who.{wholeServer, whoOf, firstOf}
 use Rattle.ring.specs.Held.{later}
 use Rattle.ring.specs.Rota.{ringFrom, fresh, afterLast, following, nextTick, unrolled}
-use Rattle.ring.proofs.Cases.{le-or-lt, pick-lt, pick-ge}
 use Rattle.ring.proofs.Starts.{ring-nil, ring-cons, ring-more, ring-part, ring-split, ring-between, ring-holds, ring-least}
 use Rattle.ring.proofs.CoverLaws.{Covers, covers-there}
 use Rattle.ring.proofs.StandLaws.{stand-covered, stand-idle}
@@ -38,14 +39,14 @@ module _ (S : ℕ) where
   ring-first (R ∷ Rs) q h =
       ⊎-elim
       (λ (w : S ≤ R).
-      let f = ring-first Rs (suc q) (omega (arith, ring-cons S R Rs, pick-ge R 0 w)) in (
+      let f = ring-first Rs (suc q) (omega (arith, ring-cons S R Rs, cond-ltb-not R 0 w)) in (
         suc (f .0),
         omega (arith, f .1),
-        pick-ge q (ringFrom S Rs (suc q)) w ∙ omega (arith, f .2),
+        cond-ltb-not q (ringFrom S Rs (suc q)) w ∙ omega (arith, f .2),
         f .3,
-        omega (arith, ring-cons S R (take (f .0) Rs), pick-ge R 0 w, f .4),
+        omega (arith, ring-cons S R (take (f .0) Rs), cond-ltb-not R 0 w, f .4),
       ))
-      (λ (w : R < S). (0, omega arith, pick-lt q (ringFrom S Rs (suc q)) w ∙ omega arith, w, ring-nil S))
+      (λ (w : R < S). (0, omega arith, cond-ltb q (ringFrom S Rs (suc q)) w ∙ omega arith, w, ring-nil S))
       (le-or-lt S R)
 
   -- where none does, none
@@ -55,9 +56,9 @@ module _ (S : ℕ) where
   ring-none (R ∷ Rs) q f h =
       ⊎-elim
       (λ (w : S ≤ R).
-      pick-ge q (ringFrom S Rs (suc q)) w ∙
-      ring-none Rs (suc q) (λ i l. f (suc i) (omega arith)) (omega (arith, ring-cons S R Rs, pick-ge R 0 w)))
-      (λ (w : R < S). absurd (omega (arith, ring-cons S R Rs, pick-lt R 0 w, f 0 (omega arith))))
+      cond-ltb-not q (ringFrom S Rs (suc q)) w ∙
+      ring-none Rs (suc q) (λ i l. f (suc i) (omega arith)) (omega (arith, ring-cons S R Rs, cond-ltb-not R 0 w)))
+      (λ (w : R < S). absurd (omega (arith, ring-cons S R Rs, cond-ltb R 0 w, f 0 (omega arith))))
       (le-or-lt S R)
 
 module _ (S : ℕ) (rs : List ℕ) (res : Reserved S rs) where

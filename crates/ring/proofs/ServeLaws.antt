@@ -9,6 +9,7 @@ use native.Mathlib.Numerals.{sub-one}
 use native.Mathlib.Omega.{arith}
 use lib.ListN.{length, getD, take}
 use lib.Seq.{take-length}
+use Rattle.laws.proofs.Orders.{le-or-lt}
 use Rattle.ring.specs.declared.clock.Tick.{Tick}
 use Rattle.ring.specs.declared.clock.Position.{Position}
 use Rattle.ring.specs.declared.cover.Stand.{Stand}
@@ -19,7 +20,6 @@ use Rattle.ring.specs.Who.{wholeServer, whoOf}
 use Rattle.ring.specs.Serves.{ServesOnRing, ServesWhole, Serves}
 use Rattle.ring.specs.Held.{later}
 use Rattle.ring.specs.Claims.{Answers, Stays}
-use Rattle.ring.proofs.Cases.{le-or-lt}
 use Rattle.ring.proofs.Starts.{ring-more, ring-part, ring-holds}
 use Rattle.ring.proofs.CoverLaws.{Covers, covers-told, covers-is, covers-there, no-overlap, found, coverer-is, coverer-covers}
 use Rattle.ring.proofs.StandLaws.{stand-covered, stand-idle, stand-server}

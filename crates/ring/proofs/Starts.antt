@@ -11,10 +11,11 @@ use native.Mathlib.Omega.{arith}
 use lib.Dec.{ltb}
 use lib.ListN.{length, getD, take, drop, take-append-drop}
 use lib.Seq.{take-suc, take-add, take-take, length-take-le, getD-take}
+use Rattle.laws.proofs.Orders.{le-or-lt}
+use Rattle.laws.proofs.Choices.{cond-ltb, cond-ltb-not}
 use Rattle.wholes.proofs.CeilingLaws.{ceiling-least}
 use Rattle.ring.specs.Laid.{Laid, Reserved}
 use Rattle.ring.specs.Reserves.{ringTicks, wholes, ringProcessors, ringLength}
-use Rattle.ring.proofs.Cases.{le-or-lt, pick-lt, pick-ge}
 
 -- ---- a sum over a list, by the first element and the rest
 
@@ -65,12 +66,12 @@ module _ (S : ℕ) where
     -- a ring server starts where those before it end, and ends its reserve later
     pub ring-more : (i : ℕ) → i < length rs → getD rs i 0 < S → ringTicks S (take (suc i) rs) ≡ ringTicks S (take i rs) + getD rs i 0
     ring-more i h l =
-        omega (arith, sum-next (ringTicks S) (ringTerm S) ring-nil ring-cons rs i h, pick-lt (getD rs i 0) 0 l)
+        omega (arith, sum-next (ringTicks S) (ringTerm S) ring-nil ring-cons rs i h, cond-ltb (getD rs i 0) 0 l)
 
     -- a whole processor's server takes no position
     pub ring-same : (i : ℕ) → i < length rs → S ≤ getD rs i 0 → ringTicks S (take (suc i) rs) ≡ ringTicks S (take i rs)
     ring-same i h l =
-        omega (arith, sum-next (ringTicks S) (ringTerm S) ring-nil ring-cons rs i h, pick-ge (getD rs i 0) 0 l)
+        omega (arith, sum-next (ringTicks S) (ringTerm S) ring-nil ring-cons rs i h, cond-ltb-not (getD rs i 0) 0 l)
 
     pub ring-mono : {i j : ℕ} → i ≤ j → ringTicks S (take i rs) ≤ ringTicks S (take j rs)
     ring-mono h = sum-mono (ringTicks S) (ringTerm S) ring-nil ring-cons rs h
@@ -89,15 +90,15 @@ module _ (S : ℕ) where
 
     pub wholes-same : (i : ℕ) → i < length rs → getD rs i 0 < S → wholes S (take (suc i) rs) ≡ wholes S (take i rs)
     wholes-same i h l =
-        omega (arith, sum-next (wholes S) (wholeTerm S) wholes-nil wholes-cons rs i h, pick-lt 0 1 l)
+        omega (arith, sum-next (wholes S) (wholeTerm S) wholes-nil wholes-cons rs i h, cond-ltb 0 1 l)
 
     pub wholes-more : (i : ℕ) → i < length rs → S ≤ getD rs i 0 → wholes S (take (suc i) rs) ≡ wholes S (take i rs) + 1
     wholes-more i h l =
-        omega (arith, sum-next (wholes S) (wholeTerm S) wholes-nil wholes-cons rs i h, pick-ge 0 1 l)
+        omega (arith, sum-next (wholes S) (wholeTerm S) wholes-nil wholes-cons rs i h, cond-ltb-not 0 1 l)
 
   term-below : (R : ℕ) → ringTerm S R ≤ S
   term-below R =
-      ⊎-elim (λ (p : S ≤ R). omega (arith, pick-ge R 0 p)) (λ (p : R < S). omega (arith, pick-lt R 0 p)) (le-or-lt S R)
+      ⊎-elim (λ (p : S ≤ R). omega (arith, cond-ltb-not R 0 p)) (λ (p : R < S). omega (arith, cond-ltb R 0 p)) (le-or-lt S R)
 
   -- each server has at most a slot of the ring
   ring-below : (xs : List ℕ) → ringTicks S xs ≤ length xs * S
@@ -106,7 +107,7 @@ module _ (S : ℕ) where
 
   whole-below : (R : ℕ) → wholeTerm S R ≤ 1
   whole-below R =
-      ⊎-elim (λ (p : S ≤ R). omega (arith, pick-ge 0 1 p)) (λ (p : R < S). omega (arith, pick-lt 0 1 p)) (le-or-lt S R)
+      ⊎-elim (λ (p : S ≤ R). omega (arith, cond-ltb-not 0 1 p)) (λ (p : R < S). omega (arith, cond-ltb 0 1 p)) (le-or-lt S R)
 
   -- at most as many whole processors as servers
   pub wholes-below : (xs : List ℕ) → wholes S xs ≤ length xs

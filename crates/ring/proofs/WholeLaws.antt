@@ -8,27 +8,28 @@ use native.Mathlib.Numerals.{add-one}
 use native.Mathlib.Omega.{arith}
 use lib.ListN.{length, getD, take, drop, drop-of-length-le}
 use lib.Seq.{drop-cons, getD-take}
+use Rattle.laws.proofs.Orders.{le-or-lt}
+use Rattle.laws.proofs.Choices.{cond-ltb, cond-ltb-not}
 use Rattle.ring.specs.Laid.{Laid}
 use Rattle.ring.specs.Reserves.{wholes}
 use Rattle.ring.specs.Who.{wholeFrom}
-use Rattle.ring.proofs.Cases.{le-or-lt, pick-lt, pick-ge}
 use Rattle.ring.proofs.Starts.{taken-length, wholes-cons, wholes-nil}
 
 module _ (S : ℕ) where
   -- a ring server is passed over
   pub whole-past : (R : ℕ) (Rs : List ℕ) (q k : ℕ) → R < S → wholeFrom S (R ∷ Rs) q k ≡ wholeFrom S Rs (suc q) k
   unfolding wholeFrom
-  whole-past R Rs q zero h = pick-lt (wholeFrom S Rs (suc q) zero) q h
-  whole-past R Rs q (suc k) h = pick-lt (wholeFrom S Rs (suc q) (suc k)) (wholeFrom S Rs (suc q) k) h
+  whole-past R Rs q zero h = cond-ltb (wholeFrom S Rs (suc q) zero) q h
+  whole-past R Rs q (suc k) h = cond-ltb (wholeFrom S Rs (suc q) (suc k)) (wholeFrom S Rs (suc q) k) h
 
   -- a server with a whole processor is the one asked for, or one less is asked of the rest
   pub whole-here : (R : ℕ) (Rs : List ℕ) (q : ℕ) → S ≤ R → wholeFrom S (R ∷ Rs) q zero ≡ q
   unfolding wholeFrom
-  whole-here R Rs q h = pick-ge (wholeFrom S Rs (suc q) zero) q h
+  whole-here R Rs q h = cond-ltb-not (wholeFrom S Rs (suc q) zero) q h
 
   pub whole-next : (R : ℕ) (Rs : List ℕ) (q k : ℕ) → S ≤ R → wholeFrom S (R ∷ Rs) q (suc k) ≡ wholeFrom S Rs (suc q) k
   unfolding wholeFrom
-  whole-next R Rs q k h = pick-ge (wholeFrom S Rs (suc q) (suc k)) (wholeFrom S Rs (suc q) k) h
+  whole-next R Rs q k h = cond-ltb-not (wholeFrom S Rs (suc q) (suc k)) (wholeFrom S Rs (suc q) k) h
 
   pub whole-nil : (q k : ℕ) → wholeFrom S [] q k ≡ 0
   unfolding wholeFrom
@@ -42,7 +43,7 @@ module _ (S : ℕ) where
       ⊎-elim
       (λ (w : S ≤ R). own R Rs q k w h (λ j. whole-at Rs (suc q) j))
       (λ (w : R < S).
-      let f = whole-at Rs (suc q) k (omega (arith, wholes-cons S R Rs, pick-lt 0 1 w)) in (
+      let f = whole-at Rs (suc q) k (omega (arith, wholes-cons S R Rs, cond-ltb 0 1 w)) in (
         suc (f .0),
         omega (arith, f .1),
         whole-past R Rs q k w ∙ omega (arith, f .2),
@@ -55,7 +56,7 @@ module _ (S : ℕ) where
           (i : ℕ) × (i < length (R ∷ Rs)) × (wholeFrom S (R ∷ Rs) q k ≡ q + i) × (S ≤ getD (R ∷ Rs) i 0)
       own R Rs q zero w h more = (0, omega arith, whole-here R Rs q w ∙ omega arith, w)
       own R Rs q (suc k) w h more =
-          let f = more k (omega (arith, wholes-cons S R Rs, pick-ge 0 1 w)) in
+          let f = more k (omega (arith, wholes-cons S R Rs, cond-ltb-not 0 1 w)) in
           (suc (f .0), omega (arith, f .1), whole-next R Rs q k w ∙ omega (arith, f .2), f .3)
 
   -- each server with a slot has a whole processor
@@ -63,18 +64,18 @@ module _ (S : ℕ) where
       (k : ℕ) × (k < wholes S rs) × (wholeFrom S rs q k ≡ q + i)
   whole-has [] q i h l = absurd (omega arith)
   whole-has (R ∷ Rs) q zero h l =
-      (0, omega (arith, wholes-cons S R Rs, pick-ge 0 1 l), whole-here R Rs q l ∙ omega arith)
+      (0, omega (arith, wholes-cons S R Rs, cond-ltb-not 0 1 l), whole-here R Rs q l ∙ omega arith)
   whole-has (R ∷ Rs) q (suc i) h l =
       let f = whole-has Rs (suc q) i (omega arith) l in
       ⊎-elim
       (λ (w : S ≤ R). (
         suc (f .0),
-        omega (arith, wholes-cons S R Rs, pick-ge 0 1 w, f .1),
+        omega (arith, wholes-cons S R Rs, cond-ltb-not 0 1 w, f .1),
         whole-next R Rs q (f .0) w ∙ omega (arith, f .2),
       ))
       (λ (w : R < S). (
         f .0,
-        omega (arith, wholes-cons S R Rs, pick-lt 0 1 w, f .1),
+        omega (arith, wholes-cons S R Rs, cond-ltb 0 1 w, f .1),
         whole-past R Rs q (f .0) w ∙ omega (arith, f .2),
       ))
       (le-or-lt S R)
@@ -86,7 +87,7 @@ module _ (S : ℕ) where
       ⊎-elim
       (λ (w : S ≤ R). own R Rs q k k′ w h h′ e (λ j j′. whole-once Rs (suc q) j j′))
       (λ (w : R < S).
-      whole-once Rs (suc q) k k′ (omega (arith, wholes-cons S R Rs, pick-lt 0 1 w)) (omega (arith, wholes-cons S R Rs, pick-lt 0 1 w))
+      whole-once Rs (suc q) k k′ (omega (arith, wholes-cons S R Rs, cond-ltb 0 1 w)) (omega (arith, wholes-cons S R Rs, cond-ltb 0 1 w))
       (sym (whole-past R Rs q k w) ∙ e ∙ whole-past R Rs q k′ w))
       (le-or-lt S R)
     where
@@ -95,14 +96,14 @@ module _ (S : ℕ) where
           ((j j′ : ℕ) → j < wholes S Rs → j′ < wholes S Rs → wholeFrom S Rs (suc q) j ≡ wholeFrom S Rs (suc q) j′ → j ≡ j′) → k ≡ k′
       own R Rs q zero zero w h h′ e more = refl
       own R Rs q zero (suc k′) w h h′ e more =
-          let f = whole-at Rs (suc q) k′ (omega (arith, wholes-cons S R Rs, pick-ge 0 1 w)) in
+          let f = whole-at Rs (suc q) k′ (omega (arith, wholes-cons S R Rs, cond-ltb-not 0 1 w)) in
           absurd (omega (arith, e, whole-here R Rs q w, whole-next R Rs q k′ w, f .2))
       own R Rs q (suc k) zero w h h′ e more =
-          let f = whole-at Rs (suc q) k (omega (arith, wholes-cons S R Rs, pick-ge 0 1 w)) in
+          let f = whole-at Rs (suc q) k (omega (arith, wholes-cons S R Rs, cond-ltb-not 0 1 w)) in
           absurd (omega (arith, e, whole-here R Rs q w, whole-next R Rs q k w, f .2))
       own R Rs q (suc k) (suc k′) w h h′ e more =
           ap suc
-          (more k k′ (omega (arith, wholes-cons S R Rs, pick-ge 0 1 w)) (omega (arith, wholes-cons S R Rs, pick-ge 0 1 w))
+          (more k k′ (omega (arith, wholes-cons S R Rs, cond-ltb-not 0 1 w)) (omega (arith, wholes-cons S R Rs, cond-ltb-not 0 1 w))
           (sym (whole-next R Rs q k w) ∙ e ∙ whole-next R Rs q k′ w))
 
 -- the same along the first n of a slice

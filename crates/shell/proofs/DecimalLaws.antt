@@ -1,16 +1,18 @@
 -- Laws of numbers in decimal, by the next byte: no digit, a digit that takes the number past 2^64, a digit that goes behind it.
 -- Assumes nothing.
-use Prim.Native.Nat.{ℕ, zero, suc, _+_, _*_, _-_, _^_, _≤_, _<_, zero-le, suc-le-suc}
+use Prim.Native.Nat.{ℕ, suc, _+_, _*_, _-_, _^_, _≤_, _<_}
 use mathlib.Core.List.{List, [], _∷_}
 use mathlib.Core.Path.{_≡_, refl, sym, _∙_, ap, subst}
-use mathlib.Core.Bool.{Bool, true, false, _&&_}
+use mathlib.Core.Bool.{and-false}
 use lib.Dec.{leb}
 use lib.ListN.{length, getD, drop, drop-of-length-le}
 use lib.Seq.{drop-cons}
 use native.Mathlib.Numerals.{add-one}
-use mathlib.Core.Logic.{_⊎_, inl, inr, ⊎-elim}
+use mathlib.Core.Logic.{⊎-elim}
 use native.Mathlib.Omega.{arith}
 use borrow.Author.Tests.{lt-ltb, le-ltb, lt-leb, le-leb}
+use Rattle.laws.proofs.Tests.{clash}
+use Rattle.laws.proofs.Orders.{le-or-lt}
 use Rattle.shell.specs.declared.number.Number.the-variants.{Of, Wrong}
 use Rattle.shell.specs.Decimal.{allDigits, valueFrom, numberFrom, decimalOf}
 
@@ -20,33 +22,21 @@ unfolding valueFrom
 grows high [] = omega arith
 grows high (b ∷ bs) = omega (arith, grows (high * 10 + (b - 48)) bs)
 
-both-false : (d : Bool) → (d && false) ≡ false
-both-false true = refl
-both-false false = refl
-
 -- what is 2^64 or more stays wrong
 pub too-large : (high : ℕ) (bs : List ℕ) → 2 ^ 64 ≤ high → numberFrom high bs ≡ Wrong
 unfolding numberFrom
 too-large high bs h =
-    rw (le-ltb (valueFrom high bs) (2 ^ 64) (omega (arith, grows high bs)), both-false (allDigits bs))
+    rw (le-ltb (valueFrom high bs) (2 ^ 64) (omega (arith, grows high bs)), and-false (allDigits bs))
 
 pub no-more : (high : ℕ) → high < 2 ^ 64 → numberFrom high [] ≡ Of high
 unfolding numberFrom allDigits valueFrom
 no-more high h = rw (lt-ltb high (2 ^ 64) h)
 
-le-or-lt : (a b : ℕ) → (a ≤ b) ⊎ (b < a)
-le-or-lt zero b = inl zero-le
-le-or-lt (suc a) zero = inr (suc-le-suc zero-le)
-le-or-lt (suc a) (suc b) = ⊎-elim (λ p. inl (suc-le-suc p)) (λ q. inr (suc-le-suc q)) (le-or-lt a b)
-
 of-same : {m n : ℕ} → Of m ≡ Of n → m ≡ n
 of-same e = cc
 
 no-number : {A : Type 0} {n : ℕ} → Wrong ≡ Of n → A
-no-number e = zero-one cc
-  where
-    zero-one : {A : Type 0} → _≡_ {A = ℕ} 0 1 → A
-    zero-one z = absurd (omega arith)
+no-number e = clash (cc)
 
 -- by the next byte
 module _ (high b : ℕ) where
@@ -56,7 +46,7 @@ module _ (high b : ℕ) where
 
   pub above-digits : (bs : List ℕ) → 57 < b → numberFrom high (b ∷ bs) ≡ Wrong
   unfolding numberFrom allDigits
-  above-digits bs h = rw (lt-leb b 57 h, both-false (leb 48 b))
+  above-digits bs h = rw (lt-leb b 57 h, and-false (leb 48 b))
 
   pub digit-behind : (bs : List ℕ) → 48 ≤ b → b ≤ 57 → numberFrom high (b ∷ bs) ≡ numberFrom (high * 10 + (b - 48)) bs
   unfolding numberFrom allDigits valueFrom

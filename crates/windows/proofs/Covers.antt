@@ -6,10 +6,10 @@ use mathlib.Core.List.{List, _∷_}
 use mathlib.Core.Logic.{inl, ⊎-elim}
 use native.Mathlib.Nat.{le-trans, le-of-eq}
 use native.Mathlib.Omega.{arith}
+use Rattle.laws.proofs.Orders.{le-or-lt}
 use Rattle.demand.specs.Load.{Load, Sound, Every}
 use Rattle.demand.specs.Demand.{demand}
 use Rattle.demand.specs.Supply.{supply, supplyPast}
-use Rattle.demand.proofs.Cases.{le-or-lt}
 use Rattle.demand.proofs.Demand.{demand-zero}
 use Rattle.demand.proofs.Supply.{supply-all, supply-part}
 use Rattle.demand.proofs.Reserve.{loss-never-passes}

@@ -6,11 +6,11 @@ use mathlib.Core.List.{List, [], _∷_}
 use mathlib.Core.Logic.{_⊎_, inl, inr, ⊎-elim}
 use native.Mathlib.Nat.{le-refl, le-suc-iff, one-le-mul, dvd-mul-right, dvd-mul-left-of-dvd}
 use native.Mathlib.Omega.{arith}
+use Rattle.laws.proofs.Orders.{le-or-lt}
 use Rattle.demand.specs.Load.{Load, Sound, Every}
 use Rattle.demand.specs.Demand.{demand}
 use Rattle.demand.specs.Supply.{supply}
 use Rattle.demand.specs.Passes.{Passes}
-use Rattle.demand.proofs.Cases.{le-or-lt}
 use Rattle.demand.proofs.Horizon.{loads-decide}
 
 -- up to n the one is within the other, or a length says no

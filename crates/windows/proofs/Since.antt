@@ -2,13 +2,14 @@
 -- Assumes nothing.
 use Prim.Native.Nat.{ℕ, _+_, _-_, _/_, _%_, _≤_, _<_}
 use mathlib.Core.Path.{_≡_, refl, ap, sym, _∙_}
-use mathlib.Core.Bool.{Bool, true, false, cond, _&&_}
+use mathlib.Core.Bool.{Bool, true, cond}
 use mathlib.Core.Logic.{⊎-elim}
 use native.Mathlib.Nat.{mod-lt, mod-eq-of-lt, mod-add-mod, add-mod-right, add-mul-mod-self-right, div-add-mod'}
 use native.Mathlib.Omega.{arith}
-use borrow.Author.Tests.{le-leb, leb-true}
+use borrow.Author.Tests.{le-leb, lt-ltb, leb-true}
 use lib.Dec.{leb, ltb}
-use Rattle.demand.proofs.Cases.{le-or-lt}
+use Rattle.laws.proofs.Tests.{and-parts, and-both, same-test, never-true}
+use Rattle.laws.proofs.Orders.{le-or-lt}
 use Rattle.windows.specs.Window.{since, usableAt}
 use Rattle.windows.specs.Claims.{SinceIsRight, UsableMeans}
 
@@ -26,33 +27,16 @@ since-reaches S start x h =
 pub since-is-right : SinceIsRight
 since-is-right = record { below = since-below; reaches = since-reaches }
 
-both-made : (p q : Bool) → p ≡ true → q ≡ true → (p && q) ≡ true
-both-made p q a b = ap (λ (u : Bool). (u && q)) a ∙ b
-
-both-told : (p q : Bool) → (p && q) ≡ true → (p ≡ true) × (q ≡ true)
-both-told true q e = (refl, e)
-both-told false q e = let z : _≡_ {A = ℕ} 0 1 = cc in absurd (omega arith)
-
 usable-told : (S L R start x : ℕ) → usableAt S L R start x ≡ true → (L ≤ since S start x) × (since S start x < R)
 unfolding usableAt
-usable-told S L R start x e = let b = both-told (leb L (since S start x)) (ltb (since S start x) R) e in omega (arith, leb-true)
+usable-told S L R start x e = let b = and-parts (leb L (since S start x)) (ltb (since S start x) R) e in omega (arith, leb-true)
 
 usable-made : (S L R start x : ℕ) → L ≤ since S start x → since S start x < R → usableAt S L R start x ≡ true
 unfolding usableAt
-usable-made S L R start x p q = both-made (leb L (since S start x)) (ltb (since S start x) R) (omega (arith, le-leb)) (omega (arith, le-leb))
+usable-made S L R start x p q = and-both (le-leb L (since S start x) p) (lt-ltb (since S start x) R q)
 
 pub usable-means : UsableMeans
 usable-means S L R start x = (usable-told S L R start x, λ w. usable-made S L R start x (w .0) (w .1))
-
--- two tests that are true together are the same
-same-test : (p q : Bool) → (p ≡ true → q ≡ true) → (q ≡ true → p ≡ true) → p ≡ q
-same-test true q f g = sym (f refl)
-same-test false true f g = g refl
-same-test false false f g = refl
-
-never-true : (p : Bool) → (p ≡ true → ⊥) → p ≡ false
-never-true true n = absurd (n refl)
-never-true false n = refl
 
 -- the ticks to add to a tick, to count from a reserve's end
 abbrev pub toEnd : (S R start : ℕ) → ℕ
