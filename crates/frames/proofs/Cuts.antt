@@ -2,13 +2,13 @@
 -- Assumes nothing.
 use Prim.Native.Nat.{ℕ}
 use mathlib.Core.Path.{_≡_, refl, _∙_, ap, ap₂}
-use mathlib.Core.Bool.{Bool, true, false, cond, _||_}
+use mathlib.Core.Bool.{Bool, true, false, cond, _||_, or-true}
 use mathlib.Core.List.{List, [], _∷_, _++_}
 use lib.Dec.{eqb}
 use borrow.Author.Tests.{eqb-true, eq-eqb}
+use Rattle.laws.proofs.Tests.{and-both, and-left, and-right}
 use Rattle.digits.specs.Digit.{allLegal}
 use Rattle.frames.specs.Line.{LF, line, after, closed, same}
-use Rattle.digits.proofs.Tests.{both-left, both-right, both-true}
 use Rattle.digits.proofs.Digits.{legal-not-LF, legal-head, legal-tail}
 
 -- legal digits and an LF: the first line is the digits, it is closed, and what follows comes after it
@@ -29,11 +29,7 @@ after-cut (d ∷ ds) rest p =
 pub closed-cut : (ds rest : List ℕ) → closed (ds ++ (LF ∷ rest)) ≡ true
 unfolding closed
 closed-cut [] rest = refl
-closed-cut (d ∷ ds) rest = rw (closed-cut ds rest) (either-right (eqb d LF))
-  where
-    either-right : (t : Bool) → (t || true) ≡ true
-    either-right true = refl
-    either-right false = refl
+closed-cut (d ∷ ds) rest = rw (closed-cut ds rest) (or-true (eqb d LF))
 
 -- a closed text is its first line, an LF, and what comes after
 pub closed-split : (text : List ℕ) → closed text ≡ true → text ≡ line text ++ (LF ∷ after text)
@@ -53,9 +49,9 @@ same-equal [] [] p = refl
 same-equal [] (y ∷ ys) p = cc
 same-equal (x ∷ xs) [] p = cc
 same-equal (x ∷ xs) (y ∷ ys) p =
-    ap₂ _∷_ (eqb-true x y (both-left (eqb x y) (same xs ys) p)) (same-equal xs ys (both-right (eqb x y) (same xs ys) p))
+    ap₂ _∷_ (eqb-true x y (and-left (eqb x y) (same xs ys) p)) (same-equal xs ys (and-right (eqb x y) (same xs ys) p))
 
 pub equal-same : (xs : List ℕ) → same xs xs ≡ true
 unfolding same
 equal-same [] = refl
-equal-same (x ∷ xs) = both-true (eq-eqb x x refl) (equal-same xs)
+equal-same (x ∷ xs) = and-both (eq-eqb x x refl) (equal-same xs)

@@ -9,13 +9,13 @@ use lib.Dec.{ltb, eqb}
 use lib.ListN.{length, take, drop, getD, length-append, length-take, length-drop}
 use lib.Seq.{length-take-le, take-at, getD-at, take-take, split-at, take-append-le, drop-append-le, drop-append-add, getD-take}
 use borrow.Author.Tests.{eqb-true, eq-eqb, ltb-true, lt-ltb}
+use Rattle.laws.proofs.Tests.{and-both, and-left, and-right, never-true, same-test}
 use Rattle.frames.specs.declared.table.Frame.{Frame}
 use Rattle.frames.specs.declared.table.Frame.the-variants.{Header, Task}
 use Rattle.digits.specs.Digit.{allLegal}
 use Rattle.digits.specs.Number.{number}
 use Rattle.frames.specs.Table.{kindOf, widthOf, placeOf, lengthOf}
 use Rattle.frames.specs.Line.{LF, line, after, closed, same, formed, fieldOf}
-use Rattle.digits.proofs.Tests.{both-left, both-right, both-true, both-ways, cannot-pass}
 use Rattle.digits.proofs.Digits.{legal-take, legal-drop}
 use Rattle.digits.proofs.Numbers.{number-below}
 use Rattle.frames.proofs.Tables.{place-within}
@@ -25,23 +25,23 @@ use Rattle.frames.proofs.Cuts.{line-cut, closed-cut, closed-split, same
 module _ (frame : Frame) (text : List ℕ) (f : formed frame text ≡ true) where
   pub formed-closed : closed text ≡ true
   unfolding formed
-  formed-closed = both-left (closed text) _ f
+  formed-closed = and-left (closed text) _ f
 
   rest₁ : (eqb (length (line text)) (lengthOf frame) && (same (take 2 (line text)) (kindOf frame) && allLegal (line text))) ≡ true
   unfolding formed
-  rest₁ = both-right (closed text) _ f
+  rest₁ = and-right (closed text) _ f
 
   rest₂ : (same (take 2 (line text)) (kindOf frame) && allLegal (line text)) ≡ true
-  rest₂ = both-right (eqb (length (line text)) (lengthOf frame)) _ rest₁
+  rest₂ = and-right (eqb (length (line text)) (lengthOf frame)) _ rest₁
 
   pub formed-size : length (line text) ≡ lengthOf frame
-  formed-size = eqb-true (length (line text)) (lengthOf frame) (both-left (eqb (length (line text)) (lengthOf frame)) _ rest₁)
+  formed-size = eqb-true (length (line text)) (lengthOf frame) (and-left (eqb (length (line text)) (lengthOf frame)) _ rest₁)
 
   pub formed-kind : take 2 (line text) ≡ kindOf frame
-  formed-kind = same-equal (take 2 (line text)) (kindOf frame) (both-left (same (take 2 (line text)) (kindOf frame)) (allLegal (line text)) rest₂)
+  formed-kind = same-equal (take 2 (line text)) (kindOf frame) (and-left (same (take 2 (line text)) (kindOf frame)) (allLegal (line text)) rest₂)
 
   pub formed-legal : allLegal (line text) ≡ true
-  formed-legal = both-right (same (take 2 (line text)) (kindOf frame)) (allLegal (line text)) rest₂
+  formed-legal = and-right (same (take 2 (line text)) (kindOf frame)) (allLegal (line text)) rest₂
 
   pub formed-text : text ≡ line text ++ (LF ∷ after text)
   formed-text = closed-split text formed-closed
@@ -97,10 +97,10 @@ pub made-formed : (frame : Frame) (ds rest : List ℕ) → length ds ≡ lengthO
     → allLegal ds ≡ true → formed frame (ds ++ (LF ∷ rest)) ≡ true
 unfolding formed
 made-formed frame ds rest n k l =
-    both-true (closed-cut ds rest)
-    (both-true
+    and-both (closed-cut ds rest)
+    (and-both
     (eq-eqb _ _ (ap length (line-cut ds rest l) ∙ n))
-    (both-true
+    (and-both
     (ap (λ (x : List ℕ). same (take 2 x) (kindOf frame)) (line-cut ds rest l) ∙ ap (λ (x : List ℕ). same x (kindOf frame)) k ∙ equal-same (kindOf frame))
     (ap allLegal (line-cut ds rest l) ∙ l)))
 
@@ -119,9 +119,9 @@ formed-same frame text f =
 
 formed-shaped : (frame : Frame) (text : List ℕ) → formed frame text ≡ true → shaped frame text ≡ true
 formed-shaped frame text f =
-    both-true (lt-ltb (lengthOf frame) (length text) (omega (arith, formed-length frame text f)))
-    (both-true (eq-eqb _ LF (formed-end frame text f))
-    (both-true (formed-same frame text f)
+    and-both (lt-ltb (lengthOf frame) (length text) (omega (arith, formed-length frame text f)))
+    (and-both (eq-eqb _ LF (formed-end frame text f))
+    (and-both (formed-same frame text f)
     (ap allLegal (sym (formed-line frame text f)) ∙ formed-legal frame text f)))
 
 shaped-formed : (frame : Frame) (text : List ℕ) → shaped frame text ≡ true → formed frame text ≡ true
@@ -130,29 +130,29 @@ shaped-formed frame text s =
     ∙ made-formed frame (take (lengthOf frame) text) (drop (suc (lengthOf frame)) text) (length-take-le (lengthOf frame) text (omega (arith, long))) kind digits
   where
     s₁ : (eqb (getD text (lengthOf frame) 0) LF && (same (take 2 text) (kindOf frame) && allLegal (take (lengthOf frame) text))) ≡ true
-    s₁ = both-right (ltb (lengthOf frame) (length text)) _ s
+    s₁ = and-right (ltb (lengthOf frame) (length text)) _ s
 
     s₂ : (same (take 2 text) (kindOf frame) && allLegal (take (lengthOf frame) text)) ≡ true
-    s₂ = both-right (eqb (getD text (lengthOf frame) 0) LF) _ s₁
+    s₂ = and-right (eqb (getD text (lengthOf frame) 0) LF) _ s₁
 
     long : lengthOf frame < length text
-    long = ltb-true (lengthOf frame) (length text) (both-left (ltb (lengthOf frame) (length text)) _ s)
+    long = ltb-true (lengthOf frame) (length text) (and-left (ltb (lengthOf frame) (length text)) _ s)
 
     ends : getD text (lengthOf frame) 0 ≡ LF
-    ends = eqb-true (getD text (lengthOf frame) 0) LF (both-left (eqb (getD text (lengthOf frame) 0) LF) _ s₁)
+    ends = eqb-true (getD text (lengthOf frame) 0) LF (and-left (eqb (getD text (lengthOf frame) 0) LF) _ s₁)
 
     kind : take 2 (take (lengthOf frame) text) ≡ kindOf frame
-    kind = take-take 2 (lengthOf frame) text (omega arith) ∙ same-equal (take 2 text) (kindOf frame) (both-left (same (take 2 text) (kindOf frame)) _ s₂)
+    kind = take-take 2 (lengthOf frame) text (omega arith) ∙ same-equal (take 2 text) (kindOf frame) (and-left (same (take 2 text) (kindOf frame)) _ s₂)
 
     digits : allLegal (take (lengthOf frame) text) ≡ true
-    digits = both-right (same (take 2 text) (kindOf frame)) _ s₂
+    digits = and-right (same (take 2 text) (kindOf frame)) _ s₂
 
     whole : text ≡ take (lengthOf frame) text ++ (LF ∷ drop (suc (lengthOf frame)) text)
     whole = split-at text (lengthOf frame) 0 long ∙ ap (λ (v : ℕ). take (lengthOf frame) text ++ (v ∷ drop (suc (lengthOf frame)) text)) ends
 
 -- a text is formed exactly when the program's test passes
 pub formed-is : (frame : Frame) (text : List ℕ) → formed frame text ≡ shaped frame text
-formed-is frame text = both-ways (formed frame text) (shaped frame text) (formed-shaped frame text) (shaped-formed frame text)
+formed-is frame text = same-test (formed frame text) (shaped frame text) (formed-shaped frame text) (shaped-formed frame text)
 
 -- what stands behind the line does not matter
 pub formed-prefix : (frame : Frame) (n : ℕ) (text : List ℕ) → lengthOf frame + 1 ≤ n → formed frame (take n text) ≡ formed frame text
@@ -165,7 +165,7 @@ formed-prefix frame n text h =
   where
     long : ltb (lengthOf frame) (length (take n text)) ≡ ltb (lengthOf frame) (length text)
     long =
-        both-ways _ _
+        same-test _ _
         (λ (p : ltb (lengthOf frame) (length (take n text)) ≡ true). lt-ltb (lengthOf frame) (length text) (omega (arith, ltb-true (lengthOf frame) (length (take n text)) p, length-take n text)))
         (λ (p : ltb (lengthOf frame) (length text) ≡ true). lt-ltb (lengthOf frame) (length (take n text)) (omega (arith, ltb-true (lengthOf frame) (length text) p, length-take n text)))
 
@@ -174,7 +174,7 @@ pub formed-kinds : (f g : Frame) (text : List ℕ) → formed f text ≡ true �
 formed-kinds f g text p q = sym (formed-kind f text p) ∙ formed-kind g text q
 
 not-both : (f g : Frame) (text : List ℕ) → (kindOf f ≡ kindOf g → ⊥) → formed f text ≡ true → formed g text ≡ false
-not-both f g text differ p = cannot-pass (formed g text) (λ (q : formed g text ≡ true). differ (formed-kinds f g text p q))
+not-both f g text differ p = never-true (formed g text) (λ (q : formed g text ≡ true). differ (formed-kinds f g text p q))
 
 header-task : kindOf Header ≡ kindOf Task → ⊥
 unfolding kindOf

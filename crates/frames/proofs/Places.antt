@@ -2,7 +2,7 @@
 -- Assumes nothing.
 use Prim.Native.Nat.{ℕ, suc, _+_, _-_, _≤_, _<_}
 use mathlib.Core.Path.{_≡_, sym, _∙_, ap, ap₂}
-use mathlib.Core.Bool.{Bool, true, false, _&&_}
+use mathlib.Core.Bool.{Bool, true, false, _&&_, and-true}
 use mathlib.Core.List.{List, [], _∷_}
 use native.Mathlib.Numerals.{add-one}
 use native.Mathlib.Omega.{arith}
@@ -10,12 +10,12 @@ use lib.Dec.{eqb}
 use lib.ListN.{length, take, drop, getD, length-drop}
 use lib.Seq.{getD-drop, drop-cons, drop-drop}
 use borrow.Author.Tests.{eq-eqb, ne-eqb, lt-ltb}
+use Rattle.laws.proofs.Tests.{never-true, true-false}
 use Rattle.frames.specs.declared.table.Frame.{Frame}
 use Rattle.digits.specs.Digit.{allLegal}
 use Rattle.digits.specs.Number.{number}
 use Rattle.frames.specs.Table.{kindOf, widthOf, placeOf, lengthOf}
 use Rattle.frames.specs.Line.{LF, same, formed, fieldOf}
-use Rattle.digits.proofs.Tests.{both-alone, cannot-pass}
 use Rattle.frames.proofs.Tables.{place-within, kind-two}
 use Rattle.frames.proofs.Formed.{formed-length, formed-end, formed-part, formed-field, field-legal, formed-same, formed-is}
 
@@ -28,7 +28,7 @@ take-two text at h =
 
 same-two : (a b k l : ℕ) → same (a ∷ b ∷ []) (k ∷ l ∷ []) ≡ (eqb a k && eqb b l)
 unfolding same
-same-two a b k l = ap (_&&_ (eqb a k)) (both-alone (eqb b l))
+same-two a b k l = ap (_&&_ (eqb a k)) (and-true (eqb b l))
 
 module _ (text : List ℕ) (at : ℕ) (frame : Frame) (kind : List ℕ) (e : kind ≡ kindOf frame) (h : at + 2 ≤ length text) where
   kind-test : same (take 2 (drop at text)) (kindOf frame) ≡ (eqb (getD text at 0) (getD kind 0 0) && eqb (getD text (at + 1) 0) (getD kind 1 0))
@@ -50,16 +50,16 @@ module _ (text : List ℕ) (at : ℕ) (frame : Frame) (kind : List ℕ) (e : kin
 -- the test at a place of a text, step by step
 module _ (frame : Frame) (text : List ℕ) (at n : ℕ) (e : n ≡ lengthOf frame) where
   pub not-long : length text - at ≤ n → formed frame (drop at text) ≡ false
-  not-long h = cannot-pass (formed frame (drop at text)) (λ (f : formed frame (drop at text) ≡ true). omega (arith, formed-length frame (drop at text) f, length-drop at text))
+  not-long h = never-true (formed frame (drop at text)) (λ (f : formed frame (drop at text) ≡ true). omega (arith, formed-length frame (drop at text) f, length-drop at text))
 
   end-at : getD (drop at text) (lengthOf frame) 0 ≡ getD text (at + n) 0
   end-at = getD-drop at text (lengthOf frame) 0 ∙ ap (λ (m : ℕ). getD text (at + m) 0) (sym e)
 
   pub not-ended : (getD text (at + n) 0 ≡ LF → ⊥) → formed frame (drop at text) ≡ false
-  not-ended h = cannot-pass (formed frame (drop at text)) (λ (f : formed frame (drop at text) ≡ true). h (sym end-at ∙ formed-end frame (drop at text) f))
+  not-ended h = never-true (formed frame (drop at text)) (λ (f : formed frame (drop at text) ≡ true). h (sym end-at ∙ formed-end frame (drop at text) f))
 
   pub not-kind : same (take 2 (drop at text)) (kindOf frame) ≡ false → formed frame (drop at text) ≡ false
-  not-kind h = cannot-pass (formed frame (drop at text)) (λ (f : formed frame (drop at text) ≡ true). let z : true ≡ false = sym (formed-same frame (drop at text) f) ∙ h in let y : _≡_ {A = ℕ} 0 1 = cc in omega arith)
+  not-kind h = never-true (formed frame (drop at text)) (λ (f : formed frame (drop at text) ≡ true). true-false (sym (formed-same frame (drop at text) f) ∙ h))
 
   pub rest-legal : n < length text - at → getD text (at + n) 0 ≡ LF → same (take 2 (drop at text)) (kindOf frame) ≡ true
       → formed frame (drop at text) ≡ allLegal (take n (drop at text))

@@ -10,13 +10,13 @@ use lib.Dec.{leb, ltb, eqb}
 use lib.ListN.{length, getD, take, replicate}
 use lib.Seq.{getD-take, take-all}
 use borrow.Author.Tests.{leb-true, ltb-true, eqb-true}
+use Rattle.laws.proofs.Tests.{and-left, and-right}
 use Rattle.frames.specs.declared.table.Row.{Row}
 use Rattle.frames.specs.declared.table.Frame.{Frame}
 use Rattle.frames.specs.declared.table.Frame.the-variants.{Header, Task, Plan, Server, Placed, Processor, Refused}
 use Rattle.digits.specs.Digit.{legal, allLegal, digitOf}
 use Rattle.digits.specs.Number.{hex}
 use Rattle.frames.specs.Table.{kindOf, widthsOf, sum, widthOf, placeOf, lengthOf, rowOf, indexOf, markOf}
-use Rattle.digits.proofs.Tests.{both-left, both-right}
 
 -- every frame, in the table's order
 abbrev pub frames : List Frame
@@ -91,8 +91,8 @@ below n (w ∷ ws) = leb w n && below n ws
 
 below-at : (n : ℕ) (ws : List ℕ) → below n ws ≡ true → (k : ℕ) → getD ws k 0 ≤ n
 below-at n [] p k = omega arith
-below-at n (w ∷ ws) p zero = leb-true w n (both-left (leb w n) (below n ws) p)
-below-at n (w ∷ ws) p (suc k) = below-at n ws (both-right (leb w n) (below n ws) p) k
+below-at n (w ∷ ws) p zero = leb-true w n (and-left (leb w n) (below n ws) p)
+below-at n (w ∷ ws) p (suc k) = below-at n ws (and-right (leb w n) (below n ws) p) k
 
 -- no field is wider than eight digits
 pub width-eight : (frame : Frame) (field : ℕ) → widthOf frame field ≤ 8

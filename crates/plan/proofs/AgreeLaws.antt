@@ -7,26 +7,12 @@ use mathlib.Core.List.{List, [], _∷_}
 use borrow.Author.Tests.{eq-eqb, eqb-true}
 use lib.Dec.{eqb}
 use lib.ListN.{take}
+use Rattle.laws.proofs.Tests.{and-left, and-right}
 use Rattle.frames.specs.Line.{same}
+use Rattle.frames.proofs.Cuts.{same-equal, equal-same}
 use Rattle.plan.specs.declared.plan.Plan.{Plan}
 use Rattle.plan.specs.Agrees.{sameFront, sameFigures, sameServers, sameProcessors, agrees}
 use Rattle.plan.specs.Claims.{SamePlan}
-use Rattle.plan.proofs.Outcomes.{true-false, both-left, both-right}
-
-same-eq : (xs ys : List ℕ) → same xs ys ≡ true → xs ≡ ys
-unfolding same
-same-eq [] [] e = refl
-same-eq [] (y ∷ ys) e = true-false (sym e)
-same-eq (x ∷ xs) [] e = true-false (sym e)
-same-eq (x ∷ xs) (y ∷ ys) e =
-    let p : x ≡ y = eqb-true x y (both-left (eqb x y) (same xs ys) e) in
-    let q : xs ≡ ys = same-eq xs ys (both-right (eqb x y) (same xs ys) e) in
-    rw (p, q)
-
-same-refl : (xs : List ℕ) → same xs xs ≡ true
-unfolding same
-same-refl [] = refl
-same-refl (x ∷ xs) = rw (eq-eqb x x refl) (same-refl xs)
 
 module _ (a b : Plan) where
   abbrev from-slot : Bool
@@ -50,15 +36,15 @@ module _ (a b : Plan) where
   pub figures-same : sameFigures a b ≡ true → Figures
   unfolding sameFigures
   figures-same e =
-      let e1 = both-right (eqb (a .whole) (b .whole)) from-ring e in
-      let e2 = both-right (eqb (a .ring) (b .ring)) from-servers e1 in
-      let e3 = both-right (eqb (a .servers) (b .servers)) from-slot e2 in
+      let e1 = and-right (eqb (a .whole) (b .whole)) from-ring e in
+      let e2 = and-right (eqb (a .ring) (b .ring)) from-servers e1 in
+      let e3 = and-right (eqb (a .servers) (b .servers)) from-slot e2 in
       record {
-        whole = eqb-true (a .whole) (b .whole) (both-left (eqb (a .whole) (b .whole)) from-ring e);
-        ring = eqb-true (a .ring) (b .ring) (both-left (eqb (a .ring) (b .ring)) from-servers e1);
-        servers = eqb-true (a .servers) (b .servers) (both-left (eqb (a .servers) (b .servers)) from-slot e2);
-        slot = eqb-true (a .slot) (b .slot) (both-left (eqb (a .slot) (b .slot)) (eqb (a .idle) (b .idle)) e3);
-        idle = eqb-true (a .idle) (b .idle) (both-right (eqb (a .slot) (b .slot)) (eqb (a .idle) (b .idle)) e3);
+        whole = eqb-true (a .whole) (b .whole) (and-left (eqb (a .whole) (b .whole)) from-ring e);
+        ring = eqb-true (a .ring) (b .ring) (and-left (eqb (a .ring) (b .ring)) from-servers e1);
+        servers = eqb-true (a .servers) (b .servers) (and-left (eqb (a .servers) (b .servers)) from-slot e2);
+        slot = eqb-true (a .slot) (b .slot) (and-left (eqb (a .slot) (b .slot)) (eqb (a .idle) (b .idle)) e3);
+        idle = eqb-true (a .idle) (b .idle) (and-right (eqb (a .slot) (b .slot)) (eqb (a .idle) (b .idle)) e3);
       }
 
   abbrev reserve-test : Bool
@@ -82,11 +68,11 @@ module _ (a b : Plan) where
   agree-same n e =
       let server-test = sameFront n (a .server) (b .server) in
       let after = (server-test && sameProcessors a b) in
-      let f = figures-same (both-left (sameFigures a b) (sameServers a b && after) e) in
-      let e1 = both-right (sameFigures a b) (sameServers a b && after) e in
-      let servers = both-left (sameServers a b) after e1 in
-      let later = both-right (sameServers a b) after e1 in
-      let processors = both-right server-test (sameProcessors a b) later in
+      let f = figures-same (and-left (sameFigures a b) (sameServers a b && after) e) in
+      let e1 = and-right (sameFigures a b) (sameServers a b && after) e in
+      let servers = and-left (sameServers a b) after e1 in
+      let later = and-right (sameServers a b) after e1 in
+      let processors = and-right server-test (sameProcessors a b) later in
       let sum : a .ring + a .whole ≡ b .ring + b .whole = ap (λ (k : ℕ). k + a .whole) (f .ring) ∙ ap (λ (k : ℕ). b .ring + k) (f .whole) in
       record {
         whole = f .whole;
@@ -94,20 +80,20 @@ module _ (a b : Plan) where
         servers = f .servers;
         slot = f .slot;
         idle = f .idle;
-        reserve = ap (λ (k : ℕ). take k (a .reserve)) (f .servers) ∙ same-eq (take (b .servers) (a .reserve)) (take (b .servers) (b .reserve)) (both-left reserve-test (start-test && tasks-test) servers);
-        start = ap (λ (k : ℕ). take k (a .start)) (f .servers) ∙ same-eq (take (b .servers) (a .start)) (take (b .servers) (b .start)) (both-left start-test tasks-test (both-right reserve-test (start-test && tasks-test) servers));
-        tasks = ap (λ (k : ℕ). take k (a .tasks)) (f .servers) ∙ same-eq (take (b .servers) (a .tasks)) (take (b .servers) (b .tasks)) (both-right start-test tasks-test (both-right reserve-test (start-test && tasks-test) servers));
-        server = same-eq (take n (a .server)) (take n (b .server)) (both-left server-test (sameProcessors a b) later);
-        first = ap (λ (k : ℕ). take k (a .first)) sum ∙ same-eq (take (b .ring + b .whole) (a .first)) (take (b .ring + b .whole) (b .first)) (both-left first-test duration-test processors);
-        duration = ap (λ (k : ℕ). take k (a .duration)) sum ∙ same-eq (take (b .ring + b .whole) (a .duration)) (take (b .ring + b .whole) (b .duration)) (both-right first-test duration-test processors);
+        reserve = ap (λ (k : ℕ). take k (a .reserve)) (f .servers) ∙ same-equal (take (b .servers) (a .reserve)) (take (b .servers) (b .reserve)) (and-left reserve-test (start-test && tasks-test) servers);
+        start = ap (λ (k : ℕ). take k (a .start)) (f .servers) ∙ same-equal (take (b .servers) (a .start)) (take (b .servers) (b .start)) (and-left start-test tasks-test (and-right reserve-test (start-test && tasks-test) servers));
+        tasks = ap (λ (k : ℕ). take k (a .tasks)) (f .servers) ∙ same-equal (take (b .servers) (a .tasks)) (take (b .servers) (b .tasks)) (and-right start-test tasks-test (and-right reserve-test (start-test && tasks-test) servers));
+        server = same-equal (take n (a .server)) (take n (b .server)) (and-left server-test (sameProcessors a b) later);
+        first = ap (λ (k : ℕ). take k (a .first)) sum ∙ same-equal (take (b .ring + b .whole) (a .first)) (take (b .ring + b .whole) (b .first)) (and-left first-test duration-test processors);
+        duration = ap (λ (k : ℕ). take k (a .duration)) sum ∙ same-equal (take (b .ring + b .whole) (a .duration)) (take (b .ring + b .whole) (b .duration)) (and-right first-test duration-test processors);
       }
 
 -- a plan agrees with itself
 pub agree-self : (n : ℕ) (a : Plan) → agrees n a a ≡ true
 unfolding agrees sameFigures sameServers sameProcessors
 agree-self n a =
-    rw (eq-eqb (a .whole) (a .whole) refl, eq-eqb (a .ring) (a .ring) refl, eq-eqb (a .servers) (a .servers) refl, eq-eqb (a .slot) (a .slot) refl, eq-eqb (a .idle) (a .idle) refl, same-refl (take (a .servers) (a .reserve)), same-refl (take (a .servers) (a .start)), same-refl (take (a .servers) (a .tasks)), same-refl (take n (a .server)), same-refl (take (a .ring + a .whole) (a .first)))
-    (same-refl (take (a .ring + a .whole) (a .duration)))
+    rw (eq-eqb (a .whole) (a .whole) refl, eq-eqb (a .ring) (a .ring) refl, eq-eqb (a .servers) (a .servers) refl, eq-eqb (a .slot) (a .slot) refl, eq-eqb (a .idle) (a .idle) refl, equal-same (take (a .servers) (a .reserve)), equal-same (take (a .servers) (a .start)), equal-same (take (a .servers) (a .tasks)), equal-same (take n (a .server)), equal-same (take (a .ring + a .whole) (a .first)))
+    (equal-same (take (a .ring + a .whole) (a .duration)))
 
 -- plans that are the same in what is used agree with the same plans
 module _ (n : ℕ) (a b m : Plan) (s : SamePlan n a b) where

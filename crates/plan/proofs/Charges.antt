@@ -10,6 +10,7 @@ use borrow.Author.Tests.{leb-false, ltb-false}
 use lib.Dec.{leb, ltb}
 use lib.ListN.{length, take, getD, length-map}
 use lib.Seq.{take-suc, length-take-le}
+use Rattle.laws.proofs.Tests.{or-left, or-right}
 use Rattle.servers.specs.declared.members.Members.{Members}
 use Rattle.servers.specs.Members.{membersOf, withLoad}
 use Rattle.servers.proofs.MemberLaws.{members-more}
@@ -17,7 +18,6 @@ use Rattle.tasks.specs.declared.set.Header.{Header}
 use Rattle.tasks.specs.declared.set.Task.{Task}
 use Rattle.tasks.specs.declared.set.TaskSet.{TaskSet}
 use Rattle.tasks.specs.Set.{members, zeroTask}
-use Rattle.tasks.proofs.Carried.{either-left, either-right}
 use Rattle.tasks.proofs.FirstLaws.{first-none}
 use Rattle.tasks.proofs.Firsts.{members-length, member-at}
 use Rattle.plan.specs.Charge.{loadOf}
@@ -28,12 +28,12 @@ use Rattle.plan.specs.Rows.{tightRow, Chargeable}
 -- release jitter below the deadline, and c ≤ d
 pub tight-early : (h : Header) (t : Task) → tightRow h t ≡ false → h .relj < t .deadline
 unfolding tightRow
-tight-early h t e = leb-false (t .deadline) (h .relj) (either-left (leb (t .deadline) (h .relj)) (ltb (loadOf h t .deadline) (loadOf h t .cost)) e)
+tight-early h t e = leb-false (t .deadline) (h .relj) (or-left (leb (t .deadline) (h .relj)) (ltb (loadOf h t .deadline) (loadOf h t .cost)) e)
 
 -- the charged cost is at most the charged deadline
 pub tight-meets : (h : Header) (t : Task) → tightRow h t ≡ false → loadOf h t .cost ≤ loadOf h t .deadline
 unfolding tightRow
-tight-meets h t e = ltb-false (loadOf h t .deadline) (loadOf h t .cost) (either-right (leb (t .deadline) (h .relj)) (ltb (loadOf h t .deadline) (loadOf h t .cost)) e)
+tight-meets h t e = ltb-false (loadOf h t .deadline) (loadOf h t .cost) (or-right (leb (t .deadline) (h .relj)) (ltb (loadOf h t .deadline) (loadOf h t .cost)) e)
 
 -- the same of task i of a set
 pub set-early : (set : TaskSet) → set .count ≤ length (set .tasks) → Chargeable set → (i : ℕ) → i < set .count →

@@ -8,6 +8,7 @@ use native.Mathlib.Omega.{arith}
 use borrow.Author.Tests.{leb-true}
 use lib.Dec.{leb}
 use lib.ListN.{length, take}
+use Rattle.laws.proofs.Tests.{and-left, and-right, true-false}
 use Rattle.refusals.specs.declared.Refusal.{Refusal}
 use Rattle.refusals.specs.declared.Outcome.{Outcome}
 use Rattle.refusals.specs.declared.Outcome.the-variants.{Done, Refused}
@@ -26,7 +27,6 @@ use Rattle.plan.specs.Agrees.{agrees}
 use Rattle.plan.specs.Claims.{SamePlan}
 use Rattle.plan.specs.Planner.{Clear, needed, planOutcome, planOf, isDone, makes}
 use Rattle.plan.specs.Question.{isProcessor, Standing}
-use Rattle.plan.proofs.Outcomes.{true-false, both-left, both-right}
 use Rattle.plan.proofs.AgreeLaws.{agree-same}
 use Rattle.plan.proofs.Clears.{loads-length}
 use Rattle.plan.proofs.Served.{laid-by}
@@ -50,12 +50,12 @@ module _ (set : TaskSet) (plan : Plan) where
   -- a plan that is made is made of a set that is not refused
   pub makes-done : makes set plan ≡ true → planOutcome set ≡ Done
   unfolding makes
-  makes-done e = is-done (planOutcome set) (both-left (isDone (planOutcome set)) (agrees (set .count) plan (planMade set)) e)
+  makes-done e = is-done (planOutcome set) (and-left (isDone (planOutcome set)) (agrees (set .count) plan (planMade set)) e)
 
   -- and agrees with the set's own plan
   pub makes-agrees : makes set plan ≡ true → agrees (set .count) plan (planMade set) ≡ true
   unfolding makes
-  makes-agrees e = both-right (isDone (planOutcome set)) (agrees (set .count) plan (planMade set)) e
+  makes-agrees e = and-right (isDone (planOutcome set)) (agrees (set .count) plan (planMade set)) e
 
 -- what a plan that is checked has of its set
 pub record OfSet (set : TaskSet) (plan : Plan) : Type 0 where
@@ -119,8 +119,8 @@ module _ (set : TaskSet) (full : length (set .tasks) ≡ 64) (plan : Plan) where
     unfolding isProcessor needed
     standing room p t = record {
       laid = subst (λ (S : ℕ). Laid S (plan .reserve) (plan .servers)) (sym (of-set .slot)) (laid-in room);
-      from-one = leb-true 1 p (both-left (leb 1 p) (leb p (plan .ring + plan .whole)) t);
-      there = rw (of-set .slot, of-set .reserves) (omega (arith, leb-true p (plan .ring + plan .whole) (both-right (leb 1 p) (leb p (plan .ring + plan .whole)) t), of-set .processors));
+      from-one = leb-true 1 p (and-left (leb 1 p) (leb p (plan .ring + plan .whole)) t);
+      there = rw (of-set .slot, of-set .reserves) (omega (arith, leb-true p (plan .ring + plan .whole) (and-right (leb 1 p) (leb p (plan .ring + plan .whole)) t), of-set .processors));
     }
 
     -- who runs by the plan's own reserves is who runs by the set's

@@ -8,6 +8,7 @@ use native.Mathlib.Omega.{arith}
 use borrow.Author.Tests.{leb-true, leb-false, ltb-false, lt-ltb, le-ltb, eqb-false, not-false}
 use lib.Dec.{leb, eqb}
 use lib.ListN.{length, take, getD, length-map}
+use Rattle.laws.proofs.Tests.{and-left, and-right, or-left, or-right}
 use Rattle.refusals.specs.declared.Refusal.the-variants.{Board, Range, Slot, Tight, Horizon}
 use Rattle.refusals.specs.declared.Outcome.{Outcome}
 use Rattle.refusals.specs.declared.Outcome.the-variants.{Done, Refused}
@@ -27,12 +28,11 @@ use Rattle.tasks.specs.declared.set.Task.{Task}
 use Rattle.tasks.specs.declared.set.TaskSet.{TaskSet}
 use Rattle.tasks.specs.Set.{mostTasks, mostProcessors, longestPeriod, members, zeroTask}
 use Rattle.tasks.specs.Rows.{firstOf, when, firstTask, atTask, some, boardRow, rangeRow, twiceRow, headerOverflows, overflows, taskOverflows, askRow, countRow, figuresOutcome}
-use Rattle.tasks.proofs.Carried.{either-left, either-right}
 use Rattle.tasks.proofs.FirstLaws.{first-none}
 use Rattle.tasks.proofs.Firsts.{members-length, at-some}
 use Rattle.plan.specs.Charge.{loadOf, loadsOfSet, lossOf}
 use Rattle.plan.specs.Rows.{slotRow, tightRow, horizonOf, horizonRow, chargedOutcome, Chargeable, RowsClear}
-use Rattle.plan.proofs.Outcomes.{first-done, when-done, at-done, both-left, both-right}
+use Rattle.plan.proofs.Outcomes.{first-done, when-done, at-done}
 use Rattle.plan.proofs.Charges.{tight-meets}
 
 -- ---- a header and a task
@@ -41,11 +41,11 @@ use Rattle.plan.proofs.Charges.{tight-meets}
 pub board-slot : (h : Header) → boardRow h ≡ false → 1 ≤ h .slot
 unfolding boardRow
 board-slot h e =
-    omega (arith, eqb-false (h .slot) 0 (either-right (not (leb 1 (h .processors) && leb (h .processors) mostProcessors)) (eqb (h .slot) 0) e))
+    omega (arith, eqb-false (h .slot) 0 (or-right (not (leb 1 (h .processors) && leb (h .processors) mostProcessors)) (eqb (h .slot) 0) e))
 
 range-figures : (t : Task) → rangeRow t ≡ false → (1 ≤ t .cost) × (t .cost ≤ t .deadline) × (t .deadline ≤ t .period)
 unfolding rangeRow
-range-figures t e = (leb-true 1 (t .cost) (both-left a rest all), leb-true (t .cost) (t .deadline) (both-left b rest′ all′), leb-true (t .deadline) (t .period) (both-left d f all″))
+range-figures t e = (leb-true 1 (t .cost) (and-left a rest all), leb-true (t .cost) (t .deadline) (and-left b rest′ all′), leb-true (t .deadline) (t .period) (and-left d f all″))
   where
     a : Bool
     a = leb 1 (t .cost)
@@ -69,10 +69,10 @@ range-figures t e = (leb-true 1 (t .cost) (both-left a rest all), leb-true (t .c
     all = not-false (a && rest) e
 
     all′ : rest ≡ true
-    all′ = both-right a rest all
+    all′ = and-right a rest all
 
     all″ : rest′ ≡ true
-    all″ = both-right b rest′ all′
+    all″ = and-right b rest′ all′
 
 -- a task that breaks neither row 6 nor row 8 is a sound load
 load-sound : (h : Header) (t : Task) → rangeRow t ≡ false → tightRow h t ≡ false → Sound (loadOf h t)
@@ -202,9 +202,9 @@ module _ (set : TaskSet) where
   header-carried : askRow set ≡ false → headerOverflows (set .header) ≡ false
   unfolding askRow
   header-carried e =
-      either-left (headerOverflows (set .header)) (some taskOverflows (members set))
-      (either-right (twiceRow (members set)) (headerOverflows (set .header) || some taskOverflows (members set))
-      (either-right (countRow set) (twiceRow (members set) || (headerOverflows (set .header) || some taskOverflows (members set))) e))
+      or-left (headerOverflows (set .header)) (some taskOverflows (members set))
+      (or-right (twiceRow (members set)) (headerOverflows (set .header) || some taskOverflows (members set))
+      (or-right (countRow set) (twiceRow (members set) || (headerOverflows (set .header) || some taskOverflows (members set))) e))
 
   abbrev from-cpmdo : Bool
   from-cpmdo = overflows 4 (set .header .cpmdo)
@@ -226,23 +226,23 @@ module _ (set : TaskSet) where
 
   slot-on : askRow set ≡ false → from-slot ≡ false
   unfolding headerOverflows
-  slot-on e = either-right (overflows 2 (set .header .processors)) from-slot (header-carried e)
+  slot-on e = or-right (overflows 2 (set .header .processors)) from-slot (header-carried e)
 
   -- the slot has six digits at most
   pub slot-small : askRow set ≡ false → set .header .slot < 2 ^ 32
-  slot-small e = omega (arith, leb-false (16 ^ 6) (set .header .slot) (either-left (overflows 6 (set .header .slot)) from-relj (slot-on e)))
+  slot-small e = omega (arith, leb-false (16 ^ 6) (set .header .slot) (or-left (overflows 6 (set .header .slot)) from-relj (slot-on e)))
 
   resd-on : askRow set ≡ false → from-resd ≡ false
   resd-on e =
-      either-right (overflows 4 (set .header .ctswo)) from-resd
-      (either-right (overflows 4 (set .header .relo)) from-ctswo
-      (either-right (overflows 4 (set .header .relj)) from-relo (either-right (overflows 6 (set .header .slot)) from-relj (slot-on e))))
+      or-right (overflows 4 (set .header .ctswo)) from-resd
+      (or-right (overflows 4 (set .header .relo)) from-ctswo
+      (or-right (overflows 4 (set .header .relj)) from-relo (or-right (overflows 6 (set .header .slot)) from-relj (slot-on e))))
 
   -- the entry loss is at most twice four digits
   pub loss-small : askRow set ≡ false → lossOf (set .header) ≤ 131070
   unfolding lossOf entryLoss
   loss-small e =
-      omega (arith, leb-false (16 ^ 4) (set .header .resd) (either-left (overflows 4 (set .header .resd)) from-cpmdo (resd-on e)), leb-false (16 ^ 4) (set .header .cpmdo) (either-right (overflows 4 (set .header .resd)) from-cpmdo (resd-on e)))
+      omega (arith, leb-false (16 ^ 4) (set .header .resd) (or-left (overflows 4 (set .header .resd)) from-cpmdo (resd-on e)), leb-false (16 ^ 4) (set .header .cpmdo) (or-right (overflows 4 (set .header .resd)) from-cpmdo (resd-on e)))
 
 -- ---- the struct of sound loads
 

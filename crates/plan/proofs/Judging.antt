@@ -9,6 +9,7 @@ use native.Mathlib.Omega.{arith}
 use borrow.Author.Tests.{leb-true, eqb-true}
 use lib.Dec.{leb, eqb}
 use lib.ListN.{length, take}
+use Rattle.laws.proofs.Tests.{and-left, and-right}
 use Rattle.demand.specs.Load.{Load}
 use Rattle.demand.specs.Supply.{Allowed}
 use Rattle.verdict.specs.Verdict.{ownHorizon}
@@ -24,7 +25,6 @@ use Rattle.plan.specs.Charge.{loadsOfSet, lossOf}
 use Rattle.plan.specs.Plan.{setPlacement}
 use Rattle.plan.specs.Planner.{Clear, makes}
 use Rattle.plan.specs.Question.{allowed}
-use Rattle.plan.proofs.Outcomes.{both-left, both-right}
 use Rattle.plan.proofs.Clears.{loads-length, members-count, members-held}
 use Rattle.plan.proofs.Made.{fits, few-loads, sound, set-sized}
 use Rattle.plan.proofs.Checked.{of-set}
@@ -38,7 +38,7 @@ module _ (S L R : ℕ) where
   parts = leb (R + 1) S
 
   by-ring : (x : Bool) → (enters && parts) ≡ x → (x || eqb R S) ≡ true → Allowed S L R
-  by-ring true g e = inl (record { enters = leb-true (L + 1) R (both-left enters parts g); parts = leb-true (R + 1) S (both-right enters parts g) })
+  by-ring true g e = inl (record { enters = leb-true (L + 1) R (and-left enters parts g); parts = leb-true (R + 1) S (and-right enters parts g) })
   by-ring false g e = inr (eqb-true R S e)
 
   -- both tests of a ring reserve hold, or it is the slot

@@ -7,6 +7,7 @@ use mathlib.Core.List.{List, [], _∷_}
 use native.Mathlib.Omega.{arith}
 use borrow.Author.Tests.{lt-ltb, le-ltb}
 use lib.ListN.{length, take}
+use Rattle.laws.proofs.Orders.{le-or-lt}
 use Rattle.wholes.proofs.CeilingLaws.{ceiling-least}
 use Rattle.servers.specs.Row.{row}
 use Rattle.servers.specs.Members.{held}
@@ -16,7 +17,6 @@ use Rattle.servers.specs.declared.members.Members.{Members}
 use Rattle.ring.specs.Laid.{Laid}
 use Rattle.ring.specs.Reserves.{ringTicks, wholes, ringProcessors, processorsOf}
 use Rattle.ring.specs.Who.{firstOf}
-use Rattle.ring.proofs.Cases.{le-or-lt}
 use Rattle.ring.proofs.Starts.{wholes-below, ring-holds, taken-length, length-room}
 use Rattle.plan.specs.declared.plan.Plan.{Plan}
 use Rattle.plan.specs.Plan.{upTo, ringStart, laidOut}

@@ -2,7 +2,7 @@
 -- Assumes nothing.
 use Prim.Native.Nat.{ℕ, zero, suc}
 use mathlib.Core.Path.{_≡_, refl, sym}
-use mathlib.Core.Bool.{Bool, true, false, false≢true, _&&_}
+use mathlib.Core.Bool.{Bool, true, false}
 use Rattle.refusals.specs.declared.Refusal.{Refusal}
 use Rattle.refusals.specs.declared.Outcome.{Outcome}
 use Rattle.refusals.specs.declared.Outcome.the-variants.{Done, Refused}
@@ -23,17 +23,3 @@ when-done false r e = refl
 pub at-done : (r : ℕ → Refusal) (n : ℕ) → atTask r n ≡ Done → n ≡ 0
 at-done r zero e = refl
 at-done r (suc n) e = done-refused (sym e)
-
--- from true as false all follows
-pub true-false : {A : Type 0} → true ≡ false → A
-true-false e = absurd (false≢true (sym e))
-
--- both of two tests hold
-pub both-left : (a b : Bool) → (a && b) ≡ true → a ≡ true
-both-left true b e = refl
-both-left false b e = e
-
--- the second of two tests that hold
-pub both-right : (a b : Bool) → (a && b) ≡ true → b ≡ true
-both-right true b e = e
-both-right false b e = true-false (sym e)

@@ -3,13 +3,14 @@
 use Prim.Native.Nat.{ℕ, _+_, _-_, _≤_, _<_}
 use mathlib.Core.Path.{_≡_, refl, sym, ap, subst, _∙_}
 use mathlib.Core.Logic.{_⊎_, ⊎-elim}
-use mathlib.Core.Bool.{true, false}
+use mathlib.Core.Bool.{true, false, and-false}
 use mathlib.Core.List.{List}
 use native.Mathlib.Omega.{arith}
 use borrow.Author.Tests.{leb-true, ltb-false}
 use lib.Dec.{leb}
 use lib.ListN.{length, getD, take}
 use lib.Seq.{getD-take}
+use Rattle.laws.proofs.Tests.{and-left, and-right}
 use Rattle.refusals.specs.declared.Outcome.the-variants.{Done}
 use Rattle.demand.specs.Passes.{Passes}
 use Rattle.verdict.specs.Verdict.{verdictOf}
@@ -25,7 +26,6 @@ use Rattle.ring.specs.Who.{whoOf}
 use Rattle.ring.specs.Reserves.{ringProcessors, wholes, processorsOf}
 use Rattle.ring.proofs.Theorems.{whoServes, whoStays}
 use Rattle.tasks.specs.declared.set.TaskSet.{TaskSet}
-use Rattle.tasks.proofs.Bools.{both-false}
 use Rattle.plan.specs.declared.plan.Plan.{Plan}
 use Rattle.plan.specs.declared.question.PassAnswer.{PassAnswer}
 use Rattle.plan.specs.Charge.{loadsOfSet, lossOf}
@@ -33,7 +33,6 @@ use Rattle.plan.specs.Plan.{laidOut, setPlacement, setReserves, planMade
 use Rattle.plan.specs.Planner.{needed, fullRow, makes}
 use Rattle.plan.specs.Question.{allowed, isProcessor, isServer, whoAnswer, whoRuns, doesPass}
 use Rattle.plan.specs.Claims.{at, Placed, Reserved, Laid, AcceptedPlan, Accepted, WhoTells, WhoAnswers, PassTells, PassAnswers, AsksElse}
-use Rattle.plan.proofs.Outcomes.{both-left, both-right}
 use Rattle.plan.proofs.Made.{sound, slot-some, outcome-clear}
 use Rattle.plan.proofs.Checked.{OfSet, of-set, same-made, makes-done, placement-count}
 
@@ -121,11 +120,11 @@ module _ (set : TaskSet) (plan : Plan) (full : length (set .tasks) ≡ 64) (e : 
 
     from-one : 1 ≤ p
     unfolding isProcessor
-    from-one = leb-true 1 p (both-left (leb 1 p) (leb p (plan .ring + plan .whole)) t)
+    from-one = leb-true 1 p (and-left (leb 1 p) (leb p (plan .ring + plan .whole)) t)
 
     among : p ≤ processorsOf (set .header .slot) (setReserves set)
     unfolding isProcessor needed
-    among = omega (arith, leb-true p (plan .ring + plan .whole) (both-right (leb 1 p) (leb p (plan .ring + plan .whole)) t), known .processors)
+    among = omega (arith, leb-true p (plan .ring + plan .whole) (and-right (leb 1 p) (leb p (plan .ring + plan .whole)) t), known .processors)
 
     who-tells : (x : Tick) → WhoTells set plan p x
     who-tells x =
@@ -177,11 +176,11 @@ pub asks-else : AsksElse
 unfolding whoRuns doesPass
 asks-else = record {
   who = λ set plan p x h.
-      ⊎-elim (λ (e : makes set plan ≡ false). rw e) (λ (e : isProcessor plan p ≡ false). rw (e, both-false (makes set plan))) h;
+      ⊎-elim (λ (e : makes set plan ≡ false). rw e) (λ (e : isProcessor plan p ≡ false). rw (e, and-false (makes set plan))) h;
   pass = λ set plan q R h.
       ⊎-elim (λ (e : makes set plan ≡ false). rw e)
       (λ (w : (isServer plan q ≡ false) ⊎ (allowed (set .header .slot) (lossOf (set .header)) R ≡ false)).
-      ⊎-elim (λ (e : isServer plan q ≡ false). rw (e, both-false (makes set plan)))
-      (λ (e : allowed (set .header .slot) (lossOf (set .header)) R ≡ false). rw (e, both-false (isServer plan q), both-false (makes set plan))) w)
+      ⊎-elim (λ (e : isServer plan q ≡ false). rw (e, and-false (makes set plan)))
+      (λ (e : allowed (set .header .slot) (lossOf (set .header)) R ≡ false). rw (e, and-false (isServer plan q), and-false (makes set plan))) w)
       h;
 }

@@ -8,14 +8,14 @@ use native.Mathlib.Omega.{arith}
 use lib.Dec.{leb, eqb}
 use lib.ListN.{length, length-take, length-map}
 use borrow.Author.Tests.{ltb-false, leb-true, eqb-true, not-false}
-use Rattle.digits.proofs.Tests.{both-left, both-right}
+use Rattle.laws.proofs.Tests.{clash, and-left, and-right, or-left}
 use Rattle.refusals.specs.declared.Outcome.{Outcome}
 use Rattle.refusals.specs.declared.Outcome.the-variants.{Done, Refused}
 use Rattle.tasks.specs.declared.set.Header.{Header}
 use Rattle.tasks.specs.declared.set.TaskSet.{TaskSet}
 use Rattle.tasks.specs.Set.{members, mostTasks, mostProcessors}
 use Rattle.tasks.specs.Rows.{boardRow}
-use Rattle.tasks.proofs.Carried.{ask-count, count-within, either-left}
+use Rattle.tasks.proofs.Carried.{ask-count, count-within}
 use Rattle.servers.specs.Placement.{placementOf, serversIn}
 use Rattle.servers.specs.Reserve.{reservesOf}
 use Rattle.servers.proofs.ReserveLaws.{reserves-length}
@@ -43,7 +43,7 @@ module _ (set : TaskSet) (done : planOutcome set ≡ Done) where
   unfolding boardRow
   boards-few =
       leb-true (set .header .processors) mostProcessors
-      (both-right (leb 1 (set .header .processors)) _ (not-false _ (either-left _ _ (charged-clear set (clear .charged) .board))))
+      (and-right (leb 1 (set .header .processors)) _ (not-false _ (or-left _ _ (charged-clear set (clear .charged) .board))))
 
   pub needed-few : needed set ≤ 64
   unfolding fullRow
@@ -67,35 +67,35 @@ module _ (set : TaskSet) (done : planOutcome set ≡ Done) where
 
 is-done : (o : Outcome) → isDone o ≡ true → o ≡ Done
 is-done Done p = refl
-is-done (Refused r) p = let z : _≡_ {A = ℕ} 0 1 = cc in absurd (omega arith)
+is-done (Refused r) p = clash (cc)
 
 -- a plan that the planner makes of a set: no row holds, and the plans agree
 module _ (set : TaskSet) (plan : Plan) (m : makes set plan ≡ true) where
   pub makes-done : planOutcome set ≡ Done
   unfolding makes
-  makes-done = is-done (planOutcome set) (both-left _ _ m)
+  makes-done = is-done (planOutcome set) (and-left _ _ m)
 
   pub makes-agrees : agrees (set .count) plan (planMade set) ≡ true
   unfolding makes
-  makes-agrees = both-right (isDone (planOutcome set)) _ m
+  makes-agrees = and-right (isDone (planOutcome set)) _ m
 
   figures : sameFigures plan (planMade set) ≡ true
   unfolding agrees
-  figures = both-left _ _ makes-agrees
+  figures = and-left _ _ makes-agrees
 
   past-whole : (eqb (plan .ring) (planMade set .ring) && (eqb (plan .servers) (planMade set .servers) && (eqb (plan .slot) (planMade set .slot) && eqb (plan .idle) (planMade set .idle)))) ≡ true
   unfolding sameFigures
-  past-whole = both-right (eqb (plan .whole) (planMade set .whole)) _ figures
+  past-whole = and-right (eqb (plan .whole) (planMade set .whole)) _ figures
 
   pub makes-whole : plan .whole ≡ planMade set .whole
   unfolding sameFigures
-  makes-whole = eqb-true _ _ (both-left _ _ figures)
+  makes-whole = eqb-true _ _ (and-left _ _ figures)
 
   pub makes-ring : plan .ring ≡ planMade set .ring
-  makes-ring = eqb-true _ _ (both-left _ _ past-whole)
+  makes-ring = eqb-true _ _ (and-left _ _ past-whole)
 
   pub makes-servers : plan .servers ≡ planMade set .servers
-  makes-servers = eqb-true _ _ (both-left _ _ (both-right (eqb (plan .ring) (planMade set .ring)) _ past-whole))
+  makes-servers = eqb-true _ _ (and-left _ _ (and-right (eqb (plan .ring) (planMade set .ring)) _ past-whole))
 
   -- it has room for what it counts, as the one that the planner makes has
   pub makes-counted : Counted set plan

@@ -9,6 +9,7 @@ use native.Mathlib.Omega.{arith}
 use lib.Dec.{ltb}
 use lib.ListN.{length, take, drop}
 use borrow.Author.Tests.{ltb-true}
+use Rattle.laws.proofs.Tests.{clash}
 use Rattle.digits.specs.Stored.{stored}
 use Rattle.refusals.specs.declared.Refusal.{Refusal}
 use Rattle.refusals.specs.declared.Refusal.the-variants.{Room}
@@ -51,7 +52,7 @@ determined =
 -- a refusal of a text is row 12
 only-room : (t : Bool) (n : ℕ) (r : Refusal) → cond t (Refused Room) (Bytes n) ≡ Refused r → (r ≡ Room) × (t ≡ true)
 only-room true n r e = (cc, refl)
-only-room false n r e = let z : _≡_ {A = ℕ} 0 1 = cc in absurd (omega arith)
+only-room false n r e = clash (cc)
 
 pub text-exact : TextExact
 unfolding stored fitted

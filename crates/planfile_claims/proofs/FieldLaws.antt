@@ -13,10 +13,11 @@ use lib.Dec.{leb, ltb}
 use lib.ListN.{length, take, getD, List·getD-append}
 use lib.Seq.{getD-take, getD-append-seam}
 use borrow.Author.Tests.{leb-false, le-ltb}
+use Rattle.laws.proofs.Tests.{or-left, or-right}
 use Rattle.tasks.specs.declared.set.Header.{Header}
 use Rattle.tasks.specs.declared.set.TaskSet.{TaskSet}
 use Rattle.tasks.specs.Rows.{headerOverflows}
-use Rattle.tasks.proofs.Carried.{ask-header, either-left, either-right}
+use Rattle.tasks.proofs.Carried.{ask-header}
 use Rattle.servers.specs.Row.{row}
 use Rattle.servers.specs.Placement.{loadsIn}
 use Rattle.servers.proofs.LoadLaws.{in-few}
@@ -92,7 +93,7 @@ module _ (set : TaskSet) (plan : Plan) (full : length (set .tasks) ≡ 64) (m : 
 
   slot-six : S < 16 ^ 6
   unfolding S headerOverflows
-  slot-six = leb-false (16 ^ 6) (set .header .slot) (either-left _ _ (either-right (leb (16 ^ 2) (set .header .processors)) _ (ask-header set (of .clear .carried))))
+  slot-six = leb-false (16 ^ 6) (set .header .slot) (or-left _ _ (or-right (leb (16 ^ 2) (set .header .processors)) _ (ask-header set (of .clear .carried))))
 
   some-slot : 1 ≤ S
   unfolding S

@@ -4,7 +4,7 @@ use Prim.Native.Nat.{ℕ}
 use Prim.Native.String.{String}
 use mathlib.Core.Bool.{Bool, true, false}
 use mathlib.Core.Path.{_≡_, refl, sym, _∙_, ap}
-use native.Mathlib.Omega.{arith}
+use Rattle.laws.proofs.Tests.{clash}
 use Rattle.refusals.specs.declared.Refusal.the-variants.{Horizon, Full, Ask}
 use Rattle.refusals.specs.declared.Outcome.{Outcome}
 use Rattle.refusals.specs.declared.Outcome.the-variants.{Done, Refused}
@@ -88,8 +88,8 @@ J-longest = refl
 
 -- what is left of the planner's outcome is row 10, which is no refusal 9
 not-horizon : (t : Bool) (n : ℕ) → when t (Full n) ≡ Refused Horizon → ⊥
-not-horizon true n e = let z : _≡_ {A = ℕ} 0 1 = cc in omega arith
-not-horizon false n e = let z : _≡_ {A = ℕ} 0 1 = cc in omega arith
+not-horizon true n e = clash (cc)
+not-horizon false n e = clash (cc)
 
 row-ten : (set : TaskSet) → askRow set ≡ false → chargedOutcome set ≡ Done → planOutcome set ≡ when (fullRow set) (Full (needed set))
 unfolding planOutcome

@@ -2,39 +2,23 @@
 -- Assumes nothing.
 use Prim.Native.Nat.{_≤_, _<_}
 use mathlib.Core.Path.{_≡_, refl}
-use mathlib.Core.Bool.{Bool, true, false, _||_}
+use mathlib.Core.Bool.{Bool, false, _||_, or-false}
 use native.Mathlib.Omega.{arith}
 use lib.Dec.{leb, ltb, eqb}
 use borrow.Author.Tests.{lt-leb, ltb-false, eqb-false}
+use Rattle.laws.proofs.Tests.{or-left, or-right}
 use Rattle.tasks.specs.declared.set.Header.{Header}
 use Rattle.tasks.specs.declared.set.Task.{Task}
 use Rattle.tasks.specs.declared.set.TaskSet.{TaskSet}
 use Rattle.tasks.specs.Set.{mostTasks, members}
 use Rattle.tasks.specs.Rows.{some, countRow, twiceRow, headerOverflows, taskOverflows, askRow}
 
--- a test beside one that fails
-pub either-false : (a : Bool) → (a || false) ≡ a
-either-false true = refl
-either-false false = refl
-
--- neither of two tests holds
-pub either-left : (a b : Bool) → (a || b) ≡ false → a ≡ false
-either-left true b p = p
-either-left false b p = refl
-
-pub either-right : (a b : Bool) → (a || b) ≡ false → b ≡ false
-either-right true b p = cc
-either-right false b p = p
-
-pub either-none : {a b : Bool} → a ≡ false → b ≡ false → (a || b) ≡ false
-either-none p q = rw (p, q)
-
 -- of a header only the slot can be too large
 pub header-overflow : (h : Header) → h .processors < 256 → h .relj < 65536 → h .relo < 65536 → h .ctswo < 65536 → h .resd < 65536 → h .cpmdo < 65536 → headerOverflows h ≡ ltb 16777215 (h .slot)
 unfolding headerOverflows
 header-overflow h m a b d e f =
     rw (lt-leb 256 (h .processors) m, lt-leb 65536 (h .relj) a, lt-leb 65536 (h .relo) b, lt-leb 65536 (h .ctswo) d, lt-leb 65536 (h .resd) e, lt-leb 65536 (h .cpmdo) f)
-    (either-false (leb 16777216 (h .slot)))
+    (or-false (leb 16777216 (h .slot)))
 
 -- of a task only the times can
 pub task-overflow : (t : Task) → t .id < 256 → taskOverflows t ≡ (ltb 16777215 (t .cost) || (ltb 16777215 (t .deadline) || ltb 16777215 (t .period)))
@@ -44,10 +28,10 @@ task-overflow t h = rw (lt-leb 256 (t .id) h)
 -- a set that row 3 lets pass has 1 to 64 tasks
 pub count-within : (set : TaskSet) → countRow set ≡ false → (1 ≤ set .count) × (set .count ≤ mostTasks)
 unfolding countRow
-count-within set p = (some-task, ltb-false mostTasks (set .count) (either-right (eqb (set .count) 0) (ltb mostTasks (set .count)) p))
+count-within set p = (some-task, ltb-false mostTasks (set .count) (or-right (eqb (set .count) 0) (ltb mostTasks (set .count)) p))
   where
     some-task : 1 ≤ set .count
-    some-task = omega (arith, eqb-false (set .count) 0 (either-left (eqb (set .count) 0) (ltb mostTasks (set .count)) p))
+    some-task = omega (arith, eqb-false (set .count) 0 (or-left (eqb (set .count) 0) (ltb mostTasks (set .count)) p))
 
 -- row 11 of a set, by the answers of its parts
 pub ask-rows : (set : TaskSet) {a b c d : Bool} → countRow set ≡ a → twiceRow (members set) ≡ b → headerOverflows (set .header) ≡ c → some taskOverflows (members set) ≡ d → askRow set ≡ (a || (b || (c || d)))
@@ -58,16 +42,16 @@ ask-rows set p q r t = rw (p, q, r, t)
 module _ (set : TaskSet) (pass : askRow set ≡ false) where
   pub ask-count : countRow set ≡ false
   unfolding askRow
-  ask-count = either-left (countRow set) _ pass
+  ask-count = or-left (countRow set) _ pass
 
   pub ask-twice : twiceRow (members set) ≡ false
   unfolding askRow
-  ask-twice = either-left (twiceRow (members set)) _ (either-right (countRow set) _ pass)
+  ask-twice = or-left (twiceRow (members set)) _ (or-right (countRow set) _ pass)
 
   pub ask-header : headerOverflows (set .header) ≡ false
   unfolding askRow
-  ask-header = either-left (headerOverflows (set .header)) _ (either-right (twiceRow (members set)) _ (either-right (countRow set) _ pass))
+  ask-header = or-left (headerOverflows (set .header)) _ (or-right (twiceRow (members set)) _ (or-right (countRow set) _ pass))
 
   pub ask-tasks : some taskOverflows (members set) ≡ false
   unfolding askRow
-  ask-tasks = either-right (headerOverflows (set .header)) _ (either-right (twiceRow (members set)) _ (either-right (countRow set) _ pass))
+  ask-tasks = or-right (headerOverflows (set .header)) _ (or-right (twiceRow (members set)) _ (or-right (countRow set) _ pass))

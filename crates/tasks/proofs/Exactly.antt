@@ -8,6 +8,7 @@ use mathlib.Core.Path.{_≡_, refl, sym, _∙_, ap, subst, subst₂}
 use mathlib.Core.Logic.{_↔_}
 use lib.ListN.{length, getD, List·getD-append}
 use lib.Seq.{getD-at}
+use Rattle.laws.proofs.Tests.{clash}
 use Rattle.refusals.specs.Refused.{numberOf, placeOf}
 use Rattle.refusals.specs.declared.Refusal.{Refusal}
 use Rattle.refusals.specs.declared.Refusal.the-variants.{Line, Order, Count, Twice, Board, Range}
@@ -21,7 +22,7 @@ use Rattle.tasks.specs.Rows.{firstOf, when, atTask, firstTask, boardRow,
 use Rattle.tasks.specs.File.{past, tasksIn, tasksFrom, taskAt, headerAt, lineRow, orderRow, countLineRow, twiceLineRow, lineOutcome, linesOutcome}
 use Rattle.tasks.specs.Read.{readOf, readOutcome, fileSet, answer}
 use Rattle.tasks.specs.Claims.{LineRow, LINE, ORDER, COUNT, TWICE, refusalAt, holdsAt, Clear, AllClear, FirstAt, FirstRange, NoRow, ReadExactlyLine, ReadExactlyBoard, ReadExactlyRange, ReadExactlyDone, ReadRefuses, ReadDetermined}
-use Rattle.tasks.proofs.Bools.{clash, done-refused}
+use Rattle.tasks.proofs.Bools.{done-refused}
 use Rattle.tasks.proofs.Past.{absent-past}
 use Rattle.tasks.proofs.Lines.{first-done, clear-line, clear-lines, reads-refused, reads-clear, absent-done, tasks-length, tasks-suc}
 use Rattle.tasks.proofs.Standing.{members-set}

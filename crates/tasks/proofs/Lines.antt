@@ -4,7 +4,7 @@ use native.Mathlib.Omega.{arith}
 use native.Mathlib.Decide.{ℕ-discrete, decLt}
 use native.Mathlib.Nat.{add-zero, add-suc, le-refl, le-trans}
 use mathlib.Core.List.{List, [], _∷_, _++_}
-use mathlib.Core.Bool.{Bool, true, false, not, _&&_, _||_}
+use mathlib.Core.Bool.{Bool, true, false, not, _&&_, _||_, and-false}
 use mathlib.Core.Path.{_≡_, refl, sym, _∙_, subst}
 use lib.ListN.{length, length-append}
 use lib.Dec.{eqb}
@@ -23,7 +23,7 @@ use Rattle.tasks.specs.File.{past, empty, tasksUpTo, tasksIn, seenUpTo, 
 use Rattle.tasks.specs.Read.{readOf, readOutcome, fileSet, answer}
 use Rattle.tasks.specs.Shape.{Shaped, placeAfter}
 use Rattle.frames.proofs.Formed.{header-not-task, task-not-header}
-use Rattle.tasks.proofs.Bools.{done-refused, both-false}
+use Rattle.tasks.proofs.Bools.{done-refused}
 use Rattle.tasks.proofs.Past.{absent-later, absent-past, past-shaped, shaped-less, shaped-more}
 
 -- the first of two outcomes is Done where both are
@@ -122,7 +122,7 @@ row-none = refl
 
 pub row-header : (text : List ℕ) → formed Frame.Header text ≡ true → lineRow text 1 ≡ false
 unfolding lineRow past
-row-header text header = rw header (both-false (not (empty text)))
+row-header text header = rw header (and-false (not (empty text)))
 
 pub row-other : (text : List ℕ) → empty text ≡ false → formed Frame.Header text ≡ false → lineRow text 1 ≡ not (formed Frame.Task text)
 unfolding lineRow past
@@ -131,13 +131,13 @@ row-other text there header = rw (there, header)
 -- line 1 that is an 01 line is clear
 pub first-header : (text : List ℕ) → formed Frame.Header text ≡ true → lineOutcome text 1 ≡ Done
 unfolding lineOutcome lineRow orderRow countLineRow twiceLineRow past
-first-header text header = rw (header, header-not-task text header, both-false (not (empty text)))
+first-header text header = rw (header, header-not-task text header, and-false (not (empty text)))
 
 -- a later line that is an 01 line is refused as ORDER
 pub later-header : (text : List ℕ) (n : ℕ) → formed Frame.Header (past (suc n) text) ≡ true → lineOutcome text (suc (suc n)) ≡ Refused (Order (suc (suc n)))
 unfolding lineOutcome lineRow orderRow
 later-header text n header =
-    rw (header, ne-eqb (suc (suc n)) 1 (λ h. omega arith), both-false (not (empty (past (suc n) text))))
+    rw (header, ne-eqb (suc (suc n)) 1 (λ h. omega arith), and-false (not (empty (past (suc n) text))))
 
 -- whether a task has this id
 abbrev pub hasId : ℕ → Task → Bool
@@ -226,7 +226,7 @@ pub task-line : (text : List ℕ) (n : ℕ) → Shaped text n → formed Frame.H
 unfolding lineOutcome lineRow orderRow countLineRow twiceLineRow
 task-line text n s header task =
     rw (header, task, ne-eqb (suc (suc n)) 1 (λ h. omega arith), shaped-count text n s, shaped-seen text n (fieldOf Frame.Task 0 (past (suc n) text)) s, task-there text n s task)
-    (simp both-false)
+    (simp and-false)
 
 -- a line that is there, keeps row 1 and is no 01 line is an 02 line
 pub row-task : (text : List ℕ) → empty text ≡ false → lineRow text 1 ≡ false → formed Frame.Header text ≡ false → formed Frame.Task text ≡ true

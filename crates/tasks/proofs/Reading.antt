@@ -6,6 +6,7 @@ use mathlib.Core.List.{List, [], _∷_, _++_}
 use mathlib.Core.Path.{_≡_, refl, sym, _∙_, ap, subst}
 use lib.ListN.{length, drop, replicate, set as put, length-append, drop-of-length-le}
 use lib.Seq.{set-at, append-snoc}
+use Rattle.laws.proofs.Tests.{clash}
 use Rattle.frames.specs.Line.{formed, closed}
 use Rattle.frames.specs.Table.{widthsOf, sum}
 use Rattle.refusals.specs.declared.Refusal.{Refusal}
@@ -22,7 +23,7 @@ use Rattle.tasks.specs.Rows.{figuresOutcome}
 use Rattle.tasks.specs.File.{past, empty, lineRow, orderRow, countLineRow, lineOutcome, linesOutcome, headerAt, taskAt, tasksFrom}
 use Rattle.tasks.specs.Shape.{Shaped, Taken, placeAfter, headerOr, taskOr, ofHeader, ofTask}
 use Rattle.tasks.specs.Read.{readOf, fileSet, answer}
-use Rattle.tasks.proofs.Bools.{done-refused, clash}
+use Rattle.tasks.proofs.Bools.{done-refused}
 use Rattle.tasks.proofs.Past.{shaped-more, past-shaped}
 use Rattle.tasks.proofs.Lines.{lines-suc, reads-refused, reads-clear, clear-header, clear-task, clear-room, clear-past, shaped-all, tasks-length, tasks-suc}
 use Rattle.tasks.proofs.Standing.{byte-there, rest-at}

@@ -11,6 +11,7 @@ use native.Mathlib.Nat.{min-le-left}
 use lib.ListN.{length, take, drop, getD, replicate, length-append, length-replicate, length-take}
 use lib.Seq.{take-suc, take-length, drop-length, drop-cons, drop-drop}
 use borrow.Author.Tests.{leb-false, ne-eqb, eqb-true, not-false}
+use Rattle.laws.proofs.Tests.{or-left, or-right}
 use Rattle.frames.specs.Table.{widthsOf}
 use Rattle.frames.specs.Line.{after, formed, fieldOf, lineOf}
 use Rattle.frames.specs.declared.table.Frame.{Frame}
@@ -28,7 +29,7 @@ use Rattle.tasks.specs.Read.{fileSet, answer}
 use Rattle.tasks.specs.Shape.{Shaped}
 use Rattle.tasks.specs.Write.{headerValues, taskValues, taskLines, textOf, writerAsks}
 use Rattle.tasks.specs.WriteClaims.{Whole, ReadWritten, ReadWrittenSame}
-use Rattle.tasks.proofs.Carried.{either-left, either-right, count-within, ask-count, ask-twice, ask-header, ask-tasks}
+use Rattle.tasks.proofs.Carried.{count-within, ask-count, ask-twice, ask-header, ask-tasks}
 use Rattle.tasks.proofs.Firsts.{members-length, at-none, figures-tasks}
 use Rattle.tasks.proofs.Past.{shaped-less}
 use Rattle.tasks.proofs.Lines.{hasId, clear-lines, clear-past, first-header, task-line, shaped-all, reads-clear}
@@ -39,7 +40,7 @@ use Rattle.tasks.proofs.WriteText.{lines-nil, lines-cons, text-size}
 
 -- a figure that is not too large, and the tests behind it
 fits-first : (limit figure : ℕ) (rest : Bool) → (leb limit figure || rest) ≡ false → (figure < limit) × (rest ≡ false)
-fits-first limit figure rest e = (leb-false limit figure (either-left (leb limit figure) rest e), either-right (leb limit figure) rest e)
+fits-first limit figure rest e = (leb-false limit figure (or-left (leb limit figure) rest e), or-right (leb limit figure) rest e)
 
 -- a header's line gives its figures back
 header-back : (h : Header) (rest : List ℕ) → headerOverflows h ≡ false → headerAt (lineOf Frame.Header (headerValues h) ++ rest) ≡ h

@@ -7,6 +7,7 @@ use mathlib.Core.List.{List, [], _∷_, _++_, append-assoc, append-nil}
 use native.Mathlib.Omega.{arith}
 use lib.Dec.{leb, eqb}
 use borrow.Author.Tests.{lt-leb, le-ltb, ne-eqb}
+use Rattle.laws.proofs.Tests.{or-neither}
 use Rattle.frames.specs.Table.{widthsOf}
 use Rattle.frames.specs.Line.{after, formed, fields, fieldOf, fieldsOf, lineOf}
 use Rattle.frames.specs.declared.table.Frame.{Frame}
@@ -25,7 +26,7 @@ use Rattle.tasks.specs.Claims.{Accepted, NoRow}
 use Rattle.tasks.specs.Write.{headerValues, taskValues, taskLines, textOf, writerAsks}
 use Rattle.tasks.specs.WriteClaims.{WrittenRead}
 use Rattle.tasks.proofs.Bools.{done-refused}
-use Rattle.tasks.proofs.Carried.{either-none, ask-rows}
+use Rattle.tasks.proofs.Carried.{ask-rows}
 use Rattle.tasks.proofs.Accepted.{read-accepted}
 use Rattle.tasks.proofs.Exactly.{read-exactly-done}
 use Rattle.tasks.proofs.Lines.{hasId, first-done, task-line, tasks-suc}
@@ -78,14 +79,14 @@ text-again text n s end =
 header-fits : (text : List ℕ) → formed Frame.Header text ≡ true → headerOverflows (headerAt text) ≡ false
 unfolding headerOverflows headerAt widthsOf
 header-fits text f =
-    either-none (fits 0) (either-none (fits 1) (either-none (fits 2) (either-none (fits 3) (either-none (fits 4) (either-none (fits 5) (fits 6))))))
+    or-neither (fits 0) (or-neither (fits 1) (or-neither (fits 2) (or-neither (fits 3) (or-neither (fits 4) (or-neither (fits 5) (fits 6))))))
   where
     fits : (k : ℕ) → leb (16 ^ lib.ListN.getD (widthsOf Frame.Header) k 0) (fieldOf Frame.Header k text) ≡ false
     fits k = lt-leb _ _ (field-below Frame.Header text f k)
 
 task-fits : (rest : List ℕ) → formed Frame.Task rest ≡ true → taskOverflows (taskAt rest) ≡ false
 unfolding taskOverflows taskAt widthsOf
-task-fits rest f = either-none (fits 0) (either-none (fits 1) (either-none (fits 2) (fits 3)))
+task-fits rest f = or-neither (fits 0) (or-neither (fits 1) (or-neither (fits 2) (fits 3)))
   where
     fits : (k : ℕ) → leb (16 ^ lib.ListN.getD (widthsOf Frame.Task) k 0) (fieldOf Frame.Task k rest) ≡ false
     fits k = lt-leb _ _ (field-below Frame.Task rest f k)
@@ -125,7 +126,7 @@ ids-new text (suc i) s clear =
 
 count-right : (set : TaskSet) → 1 ≤ set .count → set .count ≤ mostTasks → countRow set ≡ false
 unfolding countRow
-count-right set some most = either-none (ne-eqb (set .count) 0 (λ (e : set .count ≡ 0). omega arith)) (le-ltb mostTasks (set .count) most)
+count-right set some most = or-neither (ne-eqb (set .count) 0 (λ (e : set .count ≡ 0). omega arith)) (le-ltb mostTasks (set .count) most)
 
 -- what an accepted file gives can be written, and the text is the file's
 module _ (text : List ℕ) (taken : Accepted text) (none : NoRow text) where

@@ -10,9 +10,9 @@ use lib.Dec.{eqb}
 use lib.ListN.{length, take, drop, getD, drop-of-length-le}
 use lib.Seq.{drop-cons, getD-take, length-take-le}
 use borrow.Author.Tests.{ne-eqb, eqb-false}
+use Rattle.laws.proofs.Tests.{or-left, or-neither, or-right}
 use Rattle.tasks.specs.declared.set.Task.{Task}
 use Rattle.tasks.specs.Rows.{some, twiceRow}
-use Rattle.tasks.proofs.Carried.{either-left, either-right, either-none}
 
 pub some-nil : (p : Task → Bool) → some p [] ≡ false
 unfolding some
@@ -67,15 +67,15 @@ twice-end ts n i fits past = ap twiceRow (left-none ts n i fits past) ∙ twice-
 -- a test that no task meets fails at each
 pub some-at : (p : Task → Bool) (ts : List Task) (i : ℕ) (none : Task) → some p ts ≡ false → i < length ts → p (getD ts i none) ≡ false
 some-at p [] i none e h = absurd (omega arith)
-some-at p (t ∷ ts) zero none e h = either-left (p t) (some p ts) (sym (some-cons p t ts) ∙ e)
-some-at p (t ∷ ts) (suc i) none e h = some-at p ts i none (either-right (p t) (some p ts) (sym (some-cons p t ts) ∙ e)) (omega arith)
+some-at p (t ∷ ts) zero none e h = or-left (p t) (some p ts) (sym (some-cons p t ts) ∙ e)
+some-at p (t ∷ ts) (suc i) none e h = some-at p ts i none (or-right (p t) (some p ts) (sym (some-cons p t ts) ∙ e)) (omega arith)
 
 -- one task more behind them, which does not meet it either
 pub some-more : (p : Task → Bool) (ts : List Task) (t : Task) → some p ts ≡ false → p t ≡ false → some p (ts ++ (t ∷ [])) ≡ false
-some-more p [] t e f = some-cons p t [] ∙ either-none f (some-nil p)
+some-more p [] t e f = some-cons p t [] ∙ or-neither f (some-nil p)
 some-more p (u ∷ ts) t e f =
     let g : (p u || some p ts) ≡ false = sym (some-cons p u ts) ∙ e in
-    some-cons p u (ts ++ (t ∷ [])) ∙ either-none (either-left (p u) (some p ts) g) (some-more p ts t (either-right (p u) (some p ts) g) f)
+    some-cons p u (ts ++ (t ∷ [])) ∙ or-neither (or-left (p u) (some p ts) g) (some-more p ts t (or-right (p u) (some p ts) g) f)
 
 -- ids that differ, the other way round
 pub other-way : (a b : ℕ) → eqb a b ≡ false → eqb b a ≡ false
@@ -88,16 +88,16 @@ twice-before (t ∷ ts) zero none e h = some-nil (sameId t)
 twice-before (t ∷ ts) (suc i) none e h =
     let f : (some (sameId t) ts || twiceRow ts) ≡ false = sym (twice-cons t ts) ∙ e in
     some-cons (sameId (getD ts i none)) t (take i ts)
-    ∙ either-none (other-way (getD ts i none .id) (t .id) (some-at (sameId t) ts i none (either-left (some (sameId t) ts) (twiceRow ts) f) (omega arith)))
-    (twice-before ts i none (either-right (some (sameId t) ts) (twiceRow ts) f) (omega arith))
+    ∙ or-neither (other-way (getD ts i none .id) (t .id) (some-at (sameId t) ts i none (or-left (some (sameId t) ts) (twiceRow ts) f) (omega arith)))
+    (twice-before ts i none (or-right (some (sameId t) ts) (twiceRow ts) f) (omega arith))
 
 -- one task more behind them, whose id none of them has
 pub twice-more : (ts : List Task) (t : Task) → twiceRow ts ≡ false → some (sameId t) ts ≡ false → twiceRow (ts ++ (t ∷ [])) ≡ false
-twice-more [] t e f = twice-cons t [] ∙ either-none (some-nil (sameId t)) twice-nil
+twice-more [] t e f = twice-cons t [] ∙ or-neither (some-nil (sameId t)) twice-nil
 twice-more (u ∷ ts) t e f =
     let g : (some (sameId u) ts || twiceRow ts) ≡ false = sym (twice-cons u ts) ∙ e in
     let h : (sameId t u || some (sameId t) ts) ≡ false = sym (some-cons (sameId t) u ts) ∙ f in
     twice-cons u (ts ++ (t ∷ []))
-    ∙ either-none
-    (some-more (sameId u) ts t (either-left (some (sameId u) ts) (twiceRow ts) g) (other-way (u .id) (t .id) (either-left (sameId t u) (some (sameId t) ts) h)))
-    (twice-more ts t (either-right (some (sameId u) ts) (twiceRow ts) g) (either-right (sameId t u) (some (sameId t) ts) h))
+    ∙ or-neither
+    (some-more (sameId u) ts t (or-left (some (sameId u) ts) (twiceRow ts) g) (other-way (u .id) (t .id) (or-left (sameId t u) (some (sameId t) ts) h)))
+    (twice-more ts t (or-right (some (sameId u) ts) (twiceRow ts) g) (or-right (sameId t u) (some (sameId t) ts) h))

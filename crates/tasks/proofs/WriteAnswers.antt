@@ -10,6 +10,7 @@ use lib.Dec.{ltb}
 use lib.ListN.{length, take, drop}
 use lib.Seq.{take-at, drop-at}
 use borrow.Author.Tests.{ltb-true, ltb-false}
+use Rattle.laws.proofs.Tests.{clash}
 use Rattle.digits.specs.Stored.{stored}
 use Rattle.refusals.specs.declared.Refusal.{Refusal}
 use Rattle.refusals.specs.declared.Refusal.the-variants.{Ask, Room}
@@ -20,9 +21,6 @@ use Rattle.tasks.specs.declared.set.TaskSet.{TaskSet}
 use Rattle.tasks.specs.Write.{textOf, writerAsks, writeOf, leaves}
 use Rattle.tasks.specs.WriteClaims.{Wrote, WritesExactly, WritesLeave, WriteDetermined}
 use Rattle.tasks.proofs.WriteAsks.{write-ask, write-room, write-bytes}
-
-clash : {A : Type 0} → _≡_ {A = ℕ} 0 1 → A
-clash e = absurd (omega arith)
 
 -- one of three holds: row 11, row 12, neither
 data Case (set : TaskSet) (before : List ℕ) : Type 0 where

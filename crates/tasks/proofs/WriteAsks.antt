@@ -7,6 +7,7 @@ use mathlib.Core.List.{List, [], _∷_}
 use lib.Dec.{eqb, eqb·suc-zero}
 use lib.ListN.{length}
 use borrow.Author.Tests.{lt-ltb, le-ltb}
+use Rattle.laws.proofs.Tests.{or-left, or-right}
 use Rattle.refusals.specs.declared.Refusal.the-variants.{Ask, Room}
 use Rattle.refusals.specs.declared.Written.{Written}
 use Rattle.refusals.specs.declared.Written.the-variants.{Bytes, Refused}
@@ -15,7 +16,6 @@ use Rattle.tasks.specs.declared.set.TaskSet.{TaskSet}
 use Rattle.tasks.specs.Set.{members}
 use Rattle.tasks.specs.Rows.{some, firstFrom, boardRow, rangeRow, askRow}
 use Rattle.tasks.specs.Write.{writerAsks, textOf, writeOf, leaves}
-use Rattle.tasks.proofs.Carried.{either-left, either-right}
 
 -- there is a first task for which a test holds where some task meets it
 pub first-some : (p : Task → Bool) (k : ℕ) (ts : List Task) → not (eqb (firstFrom p (suc k) ts) 0) ≡ some p ts
@@ -35,15 +35,15 @@ writer-rows set p q r = rw (p, q, r)
 -- a set that the writer takes breaks none of them
 pub writer-ask : (set : TaskSet) → writerAsks set ≡ false → askRow set ≡ false
 unfolding writerAsks
-writer-ask set p = either-left (askRow set) _ p
+writer-ask set p = or-left (askRow set) _ p
 
 pub writer-board : (set : TaskSet) → writerAsks set ≡ false → boardRow (set .header) ≡ false
 unfolding writerAsks
-writer-board set p = either-left (boardRow (set .header)) _ (either-right (askRow set) _ p)
+writer-board set p = or-left (boardRow (set .header)) _ (or-right (askRow set) _ p)
 
 pub writer-range : (set : TaskSet) → writerAsks set ≡ false → some rangeRow (members set) ≡ false
 unfolding writerAsks
-writer-range set p = either-right (boardRow (set .header)) _ (either-right (askRow set) _ p)
+writer-range set p = or-right (boardRow (set .header)) _ (or-right (askRow set) _ p)
 
 -- the answer where row 11 holds, where row 12 does, and where neither does
 module _ (set : TaskSet) (buffer : List ℕ) where
