@@ -154,11 +154,11 @@ module _ (text : List ℕ) (at width i : ℕ) (inside : i < width) (fits : at + 
       → numberFrom h (take (width - i) (drop (at + i) text)) ≡ numberFrom (h * 16 + valueOf (getD text (at + i) 0)) (take (width - (i + 1)) (drop (at + (i + 1)) text))
   part-number h = ap (numberFrom h) (part-next text at width i inside fits) ∙ from-cons h _ _
 
--- a number grown by one digit stays below its power, and below 64 bits up to fifteen digits
+-- a number grown by one digit stays below its power, and below 64 bits up to sixteen digits
 pub grows : (i h v : ℕ) → h < 16 ^ i → v < 16 → h * 16 + v < 16 ^ (i + 1)
 grows i h v p q = subst (λ (n : ℕ). h * 16 + v < n) (sym (pow-suc 16 i) ∙ ap (λ (n : ℕ). 16 ^ n) (sym (add-one i))) (digits-lt p q)
 
-pub power-fits : (i : ℕ) → i ≤ 15 → 16 ^ i ≤ 16 ^ 15
+pub power-fits : (i : ℕ) → i ≤ 16 → 16 ^ i ≤ 16 ^ 16
 power-fits i p = pow-le-pow-right (lit< tt) p
 
 -- the lowest digit set, and the rest yet to be stored, is the whole number stored

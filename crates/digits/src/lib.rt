@@ -57,7 +57,7 @@ pub fn all_legal(text: &[u8], at: usize, width: usize) -> bool
 // The number that `width` legal digits from `at` on stand for.
 pub fn number_at(text: &[u8], at: usize, width: usize) -> u64
     requires { ⌜ at + width ≤ length (now text) ⌝ }
-    requires { ⌜ width ≤ 15 ⌝ }
+    requires { ⌜ width ≤ 16 ⌝ }
     requires { ⌜ allLegal (take width (drop at (now text))) ≡ true ⌝ }
     ensures { λ r. ⌜ r ≡ number (take width (drop at (now (text .entry)))) ⌝ }
 {

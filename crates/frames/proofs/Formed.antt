@@ -9,16 +9,15 @@ use lib.Dec.{ltb, eqb}
 use lib.ListN.{length, take, drop, getD, length-append, length-take, length-drop}
 use lib.Seq.{length-take-le, take-at, getD-at, take-take, split-at, take-append-le, drop-append-le, drop-append-add, getD-take}
 use borrow.Author.Tests.{eqb-true, eq-eqb, ltb-true, lt-ltb}
-use Rattle.laws.proofs.Tests.{and-both, and-left, and-right, never-true, same-test}
 use Rattle.frames.specs.declared.table.Frame.{Frame}
-use Rattle.frames.specs.declared.table.Frame.the-variants.{Header, Task}
 use Rattle.digits.specs.Digit.{allLegal}
 use Rattle.digits.specs.Number.{number}
-use Rattle.frames.specs.Table.{kindOf, widthOf, placeOf, lengthOf}
+use Rattle.frames.specs.Table.{kindOf, widthOf, fieldStart, lengthOf}
 use Rattle.frames.specs.Line.{LF, line, after, closed, same, formed, fieldOf}
+use Rattle.laws.proofs.Tests.{and-left, and-right, and-both, same-test}
 use Rattle.digits.proofs.Digits.{legal-take, legal-drop}
 use Rattle.digits.proofs.Numbers.{number-below}
-use Rattle.frames.proofs.Tables.{place-within}
+use Rattle.frames.proofs.Tables.{field-within}
 use Rattle.frames.proofs.Cuts.{line-cut, closed-cut, closed-split, same-equal, equal-same}
 
 -- what a formed text has: its first line is closed, at its length, of its kind and legal
@@ -37,8 +36,8 @@ module _ (frame : Frame) (text : List ℕ) (f : formed frame text ≡ true) wher
   pub formed-size : length (line text) ≡ lengthOf frame
   formed-size = eqb-true (length (line text)) (lengthOf frame) (and-left (eqb (length (line text)) (lengthOf frame)) _ rest₁)
 
-  pub formed-kind : take 2 (line text) ≡ kindOf frame
-  formed-kind = same-equal (take 2 (line text)) (kindOf frame) (and-left (same (take 2 (line text)) (kindOf frame)) (allLegal (line text)) rest₂)
+  pub line-kind : take 2 (line text) ≡ kindOf frame
+  line-kind = same-equal (take 2 (line text)) (kindOf frame) (and-left (same (take 2 (line text)) (kindOf frame)) (allLegal (line text)) rest₂)
 
   pub formed-legal : allLegal (line text) ≡ true
   formed-legal = and-right (same (take 2 (line text)) (kindOf frame)) (allLegal (line text)) rest₂
@@ -65,32 +64,32 @@ module _ (frame : Frame) (text : List ℕ) (f : formed frame text ≡ true) wher
 
   -- a field's digits stand in the text itself
   pub formed-part : (field : ℕ)
-      → take (widthOf frame field) (drop (placeOf frame field) (line text)) ≡ take (widthOf frame field) (drop (placeOf frame field) text)
+      → take (widthOf frame field) (drop (fieldStart frame field) (line text)) ≡ take (widthOf frame field) (drop (fieldStart frame field) text)
   formed-part field =
       sym
-      (ap (λ (l : List ℕ). take (widthOf frame field) (drop (placeOf frame field) l)) formed-text
-      ∙ ap (take (widthOf frame field)) (drop-append-le (placeOf frame field) (line text) (LF ∷ after text) (omega (arith, place-within frame field, formed-size)))
-      ∙ take-append-le (widthOf frame field) (drop (placeOf frame field) (line text)) (LF ∷ after text)
-      (omega (arith, place-within frame field, formed-size, length-drop (placeOf frame field) (line text))))
+      (ap (λ (l : List ℕ). take (widthOf frame field) (drop (fieldStart frame field) l)) formed-text
+      ∙ ap (take (widthOf frame field)) (drop-append-le (fieldStart frame field) (line text) (LF ∷ after text) (omega (arith, field-within frame field, formed-size)))
+      ∙ take-append-le (widthOf frame field) (drop (fieldStart frame field) (line text)) (LF ∷ after text)
+      (omega (arith, field-within frame field, formed-size, length-drop (fieldStart frame field) (line text))))
 
-  pub formed-field : (field : ℕ) → fieldOf frame field text ≡ number (take (widthOf frame field) (drop (placeOf frame field) text))
+  pub formed-field : (field : ℕ) → fieldOf frame field text ≡ number (take (widthOf frame field) (drop (fieldStart frame field) text))
   unfolding fieldOf
   formed-field field = ap number (formed-part field)
 
-  pub field-legal : (field : ℕ) → allLegal (take (widthOf frame field) (drop (placeOf frame field) (line text))) ≡ true
-  field-legal field = legal-take (widthOf frame field) (drop (placeOf frame field) (line text)) (legal-drop (placeOf frame field) (line text) formed-legal)
+  pub field-legal : (field : ℕ) → allLegal (take (widthOf frame field) (drop (fieldStart frame field) (line text))) ≡ true
+  field-legal field = legal-take (widthOf frame field) (drop (fieldStart frame field) (line text)) (legal-drop (fieldStart frame field) (line text) formed-legal)
 
-  pub field-size : (field : ℕ) → length (take (widthOf frame field) (drop (placeOf frame field) (line text))) ≡ widthOf frame field
+  pub field-size : (field : ℕ) → length (take (widthOf frame field) (drop (fieldStart frame field) (line text))) ≡ widthOf frame field
   field-size field =
-      length-take-le (widthOf frame field) (drop (placeOf frame field) (line text))
-      (omega (arith, place-within frame field, formed-size, length-drop (placeOf frame field) (line text)))
+      length-take-le (widthOf frame field) (drop (fieldStart frame field) (line text))
+      (omega (arith, field-within frame field, formed-size, length-drop (fieldStart frame field) (line text)))
 
   -- a field's value fits its width
   pub field-below : (field : ℕ) → fieldOf frame field text < 16 ^ widthOf frame field
   unfolding fieldOf
   field-below field =
-      subst (λ (n : ℕ). number (take (widthOf frame field) (drop (placeOf frame field) (line text))) < 16 ^ n) (field-size field)
-      (number-below (take (widthOf frame field) (drop (placeOf frame field) (line text))) (field-legal field))
+      subst (λ (n : ℕ). number (take (widthOf frame field) (drop (fieldStart frame field) (line text))) < 16 ^ n) (field-size field)
+      (number-below (take (widthOf frame field) (drop (fieldStart frame field) (line text))) (field-legal field))
 
 -- digits of the right kind and length, with an LF behind, are formed whatever follows
 pub made-formed : (frame : Frame) (ds rest : List ℕ) → length ds ≡ lengthOf frame → take 2 ds ≡ kindOf frame
@@ -114,7 +113,7 @@ shaped frame text =
 pub formed-same : (frame : Frame) (text : List ℕ) → formed frame text ≡ true → same (take 2 text) (kindOf frame) ≡ true
 formed-same frame text f =
     ap (λ (l : List ℕ). same l (kindOf frame))
-    (sym (take-take 2 (lengthOf frame) text (omega arith)) ∙ ap (take 2) (sym (formed-line frame text f)) ∙ formed-kind frame text f)
+    (sym (take-take 2 (lengthOf frame) text (omega arith)) ∙ ap (take 2) (sym (formed-line frame text f)) ∙ line-kind frame text f)
     ∙ equal-same (kindOf frame)
 
 formed-shaped : (frame : Frame) (text : List ℕ) → formed frame text ≡ true → shaped frame text ≡ true
@@ -171,18 +170,4 @@ formed-prefix frame n text h =
 
 -- a text is formed for frames of one kind only
 pub formed-kinds : (f g : Frame) (text : List ℕ) → formed f text ≡ true → formed g text ≡ true → kindOf f ≡ kindOf g
-formed-kinds f g text p q = sym (formed-kind f text p) ∙ formed-kind g text q
-
-not-both : (f g : Frame) (text : List ℕ) → (kindOf f ≡ kindOf g → ⊥) → formed f text ≡ true → formed g text ≡ false
-not-both f g text differ p = never-true (formed g text) (λ (q : formed g text ≡ true). differ (formed-kinds f g text p q))
-
-header-task : kindOf Header ≡ kindOf Task → ⊥
-unfolding kindOf
-header-task e = let z : _≡_ {A = ℕ} 49 50 = cc in omega arith
-
--- no text is both a header and a task
-pub header-not-task : (text : List ℕ) → formed Header text ≡ true → formed Task text ≡ false
-header-not-task text p = not-both Header Task text header-task p
-
-pub task-not-header : (text : List ℕ) → formed Task text ≡ true → formed Header text ≡ false
-task-not-header text p = not-both Task Header text (λ (e : kindOf Task ≡ kindOf Header). header-task (sym e)) p
+formed-kinds f g text p q = sym (line-kind f text p) ∙ line-kind g text q

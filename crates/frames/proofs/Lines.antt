@@ -11,15 +11,16 @@ use lib.Seq.{take-at, drop-append-add, drop-drop, take-length, take-all}
 use Rattle.frames.specs.declared.table.Frame.{Frame}
 use Rattle.digits.specs.Digit.{allLegal}
 use Rattle.digits.specs.Number.{number}
-use Rattle.frames.specs.Table.{kindOf, widthsOf, sum, widthOf, placeOf, lengthOf}
+use Rattle.frames.specs.Table.{kindOf, widthsOf, sum, widthOf, fieldStart, lengthOf}
 use Rattle.frames.specs.Line.{LF, line, after, formed, fieldOf, fieldsOf, fields, lineOf}
 use Rattle.digits.specs.Stored.{stored}
 use Rattle.digits.proofs.Digits.{legal-append, legal-drop}
 use Rattle.digits.proofs.Stored.{stored-three}
 use Rattle.digits.proofs.Numbers.{number-hex}
-use Rattle.frames.proofs.Tables.{fields-seven, kind-length, kind-legal}
+use Rattle.frames.proofs.Tables.{fields-most, kind-length, kind-legal}
 use Rattle.frames.proofs.Cuts.{line-cut, after-cut}
-pub use Rattle.frames.proofs.Formed.{formed-text, formed-size, formed-kind, formed-legal, formed-length, formed-line, formed-end, formed-after, formed-field, field-below, made-formed, formed-is, formed-prefix, formed-kinds, header-not-task, task-not-header}
+pub use Rattle.frames.proofs.Formed.{formed-text, formed-size, line-kind, formed-legal, formed-length, formed-line, formed-end, formed-after, formed-field, field-below, made-formed, formed-is, formed-prefix, formed-kinds}
+pub use Rattle.frames.proofs.KindLaws.{one-frame, not-formed}
 use Rattle.frames.proofs.Fields.{fields-length, fields-legal, fields-part, fields-again}
 
 -- a written line: its digits, its LF, and what follows
@@ -52,7 +53,7 @@ module _ (frame : Frame) (values rest : List ℕ) where
   pub field-line : (k : ℕ) → getD values k 0 < 16 ^ widthOf frame k → fieldOf frame k (lineOf frame values ++ rest) ≡ getD values k 0
   unfolding fieldOf
   field-line k h =
-      ap (λ (l : List ℕ). number (take (widthOf frame k) (drop (placeOf frame k) l))) line-digits
+      ap (λ (l : List ℕ). number (take (widthOf frame k) (drop (fieldStart frame k) l))) line-digits
       ∙ ap (λ (n : ℕ). number (take (widthOf frame k) (drop (n + sum (take k (widthsOf frame))) (kindOf frame ++ fields (widthsOf frame) values)))) (sym (kind-length frame))
       ∙ ap (λ (l : List ℕ). number (take (widthOf frame k) l)) (drop-append-add (kindOf frame) (fields (widthsOf frame) values) (sum (take k (widthsOf frame))))
       ∙ ap number (fields-part (widthsOf frame) values k)
@@ -92,7 +93,7 @@ line-fields frame text f =
     values : (k : ℕ) → k < length (widthsOf frame)
         → getD (fieldsOf frame text) k 0 ≡ number (take (widthOf frame k) (drop (sum (take k (widthsOf frame))) (drop 2 (line text))))
     values k h =
-        fields-at frame text k (omega (arith, fields-seven frame))
+        fields-at frame text k (omega (arith, fields-most frame))
         ∙ value-at frame text k
 
     all : fields (widthsOf frame) (fieldsOf frame text) ≡ drop 2 (line text)
@@ -105,7 +106,7 @@ line-fields frame text f =
     halves : line text ≡ kindOf frame ++ fields (widthsOf frame) (fieldsOf frame text)
     halves =
         sym (take-append-drop 2 (line text))
-        ∙ ap₂ _++_ (formed-kind frame text f) (sym all)
+        ∙ ap₂ _++_ (line-kind frame text f) (sym all)
 
 -- a kind, the fields and an LF, stored one behind the other, are the line
 pub line-stored : (b : List ℕ) (at : ℕ) (frame : Frame) (vs kind : List ℕ) (n : ℕ) → kind ≡ kindOf frame

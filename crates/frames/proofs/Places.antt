@@ -7,16 +7,17 @@ use mathlib.Core.List.{List, [], _∷_}
 use native.Mathlib.Numerals.{add-one}
 use native.Mathlib.Omega.{arith}
 use lib.Dec.{eqb}
-use lib.ListN.{length, take, drop, getD, length-drop}
+use lib.ListN.{length, take, drop, getD, length-take, length-drop}
 use lib.Seq.{getD-drop, drop-cons, drop-drop}
 use borrow.Author.Tests.{eq-eqb, ne-eqb, lt-ltb}
-use Rattle.laws.proofs.Tests.{never-true, true-false}
 use Rattle.frames.specs.declared.table.Frame.{Frame}
 use Rattle.digits.specs.Digit.{allLegal}
 use Rattle.digits.specs.Number.{number}
-use Rattle.frames.specs.Table.{kindOf, widthOf, placeOf, lengthOf}
+use Rattle.frames.specs.Table.{kindOf, widthOf, fieldStart, lengthOf}
 use Rattle.frames.specs.Line.{LF, same, formed, fieldOf}
-use Rattle.frames.proofs.Tables.{place-within, kind-two}
+use Rattle.laws.proofs.Tests.{never-true, true-false}
+use Rattle.frames.proofs.Tables.{field-within, kind-length, kind-two}
+use Rattle.frames.proofs.Cuts.{same-equal}
 use Rattle.frames.proofs.Formed.{formed-length, formed-end, formed-part, formed-field, field-legal, formed-same, formed-is}
 
 -- a kind compared byte by byte
@@ -29,6 +30,12 @@ take-two text at h =
 same-two : (a b k l : ℕ) → same (a ∷ b ∷ []) (k ∷ l ∷ []) ≡ (eqb a k && eqb b l)
 unfolding same
 same-two a b k l = ap (_&&_ (eqb a k)) (and-true (eqb b l))
+
+-- where fewer than two bytes are left, no kind stands
+pub kind-short : (text : List ℕ) (at : ℕ) (frame : Frame) → length text - at < 2 → same (take 2 (drop at text)) (kindOf frame) ≡ false
+kind-short text at frame h =
+    never-true (same (take 2 (drop at text)) (kindOf frame))
+    (λ (p : same (take 2 (drop at text)) (kindOf frame) ≡ true). omega (arith, ap length (same-equal (take 2 (drop at text)) (kindOf frame) p), kind-length frame, length-take 2 (drop at text), length-drop at text))
 
 module _ (text : List ℕ) (at : ℕ) (frame : Frame) (kind : List ℕ) (e : kind ≡ kindOf frame) (h : at + 2 ≤ length text) where
   kind-test : same (take 2 (drop at text)) (kindOf frame) ≡ (eqb (getD text at 0) (getD kind 0 0) && eqb (getD text (at + 1) 0) (getD kind 1 0))
@@ -72,15 +79,15 @@ module _ (frame : Frame) (text : List ℕ) (at n : ℕ) (e : n ≡ lengthOf fram
       ∙ ap (λ (m : ℕ). allLegal (take m (drop at text))) (sym e)
 
 -- a field's digits at a place of a text
-module _ (frame : Frame) (text : List ℕ) (at field p w : ℕ) (ep : p ≡ placeOf frame field) (ew : w ≡ widthOf frame field) (f : formed frame (drop at text) ≡ true) where
-  field-at : take w (drop (at + p) text) ≡ take (widthOf frame field) (drop (placeOf frame field) (drop at text))
-  field-at = ap₂ (λ (j k : ℕ). take j (drop (at + k) text)) ew ep ∙ ap (take (widthOf frame field)) (sym (drop-drop (placeOf frame field) at text))
+module _ (frame : Frame) (text : List ℕ) (at field p w : ℕ) (ep : p ≡ fieldStart frame field) (ew : w ≡ widthOf frame field) (f : formed frame (drop at text) ≡ true) where
+  field-at : take w (drop (at + p) text) ≡ take (widthOf frame field) (drop (fieldStart frame field) (drop at text))
+  field-at = ap₂ (λ (j k : ℕ). take j (drop (at + k) text)) ew ep ∙ ap (take (widthOf frame field)) (sym (drop-drop (fieldStart frame field) at text))
 
   pub field-at-legal : allLegal (take w (drop (at + p) text)) ≡ true
   field-at-legal = ap allLegal (field-at ∙ sym (formed-part frame (drop at text) f field)) ∙ field-legal frame (drop at text) f field
 
   pub field-at-within : at ≤ length text → at + p + w ≤ length text
-  field-at-within h = omega (arith, formed-length frame (drop at text) f, place-within frame field, length-drop at text)
+  field-at-within h = omega (arith, formed-length frame (drop at text) f, field-within frame field, length-drop at text)
 
   pub field-at-number : number (take w (drop (at + p) text)) ≡ fieldOf frame field (drop at text)
   field-at-number = ap number field-at ∙ sym (formed-field frame (drop at text) f field)

@@ -2,7 +2,7 @@
 -- Assumes nothing.
 use Prim.Native.Nat.{ℕ, zero, suc, _+_, _-_, _^_, _≤_, _<_}
 use mathlib.Core.Path.{_≡_, refl, sym, _∙_, ap}
-use mathlib.Core.Bool.{Bool, true, _&&_}
+use mathlib.Core.Bool.{Bool, true, cond, _&&_}
 use mathlib.Core.List.{List, [], _∷_, _++_, map}
 use native.Mathlib.Numerals.{add-one}
 use native.Mathlib.Omega.{arith}
@@ -10,46 +10,46 @@ use lib.Dec.{leb, ltb, eqb}
 use lib.ListN.{length, getD, take, replicate}
 use lib.Seq.{getD-take, take-all}
 use borrow.Author.Tests.{leb-true, ltb-true, eqb-true}
-use Rattle.laws.proofs.Tests.{and-left, and-right}
+use Rattle.frames.specs.declared.line.Found.{Found}
 use Rattle.frames.specs.declared.table.Row.{Row}
 use Rattle.frames.specs.declared.table.Frame.{Frame}
 use Rattle.frames.specs.declared.table.Frame.the-variants.{Header, Task, Plan, Server, Placed, Processor, Refused}
 use Rattle.digits.specs.Digit.{legal, allLegal, digitOf}
 use Rattle.digits.specs.Number.{hex}
-use Rattle.frames.specs.Table.{kindOf, widthsOf, sum, widthOf, placeOf, lengthOf, rowOf, indexOf, markOf}
+use Rattle.frames.specs.Table.{allFrames, kindOf, widthsOf, fieldsIn, mostFields, sum, widthOf, fieldStart, lengthOf, rowOf, indexOf, markOf}
+use Rattle.frames.specs.Line.{same}
+use Rattle.laws.proofs.Tests.{and-left, and-right}
 
--- every frame, in the table's order
-abbrev pub frames : List Frame
-frames = Header ∷ Task ∷ Plan ∷ Server ∷ Placed ∷ Processor ∷ Refused ∷ []
+-- a list over the frames has each frame's entry at its index
+pub at-index : {B : Type 0} (g : Frame → B) (none : B) (frame : Frame) → getD (map g allFrames) (indexOf frame) none ≡ g frame
+at-index g none Header = refl
+at-index g none Task = refl
+at-index g none Plan = refl
+at-index g none Server = refl
+at-index g none Placed = refl
+at-index g none Processor = refl
+at-index g none Refused = refl
 
--- a list over the frames has each frame's entry at its place
-at-place : {B : Type 0} (g : Frame → B) (none : B) (frame : Frame) → getD (map g frames) (indexOf frame) none ≡ g frame
-at-place g none Header = refl
-at-place g none Task = refl
-at-place g none Plan = refl
-at-place g none Server = refl
-at-place g none Placed = refl
-at-place g none Processor = refl
-at-place g none Refused = refl
+-- the table's entry at a frame's index is that frame's row
+pub row-at : (table : List Row) (none : Row) → table ≡ map rowOf allFrames → (frame : Frame) → getD table (indexOf frame) none ≡ rowOf frame
+row-at table none e frame = ap (λ (l : List Row). getD l (indexOf frame) none) e ∙ at-index rowOf none frame
 
--- the table's entry at a frame's place is that frame's row
-pub row-at : (table : List Row) (none : Row) → table ≡ map rowOf frames → (frame : Frame) → getD table (indexOf frame) none ≡ rowOf frame
-row-at table none e frame = ap (λ (l : List Row). getD l (indexOf frame) none) e ∙ at-place rowOf none frame
+-- a test of every entry of a list
+abbrev every : {A : Type 0} → (A → Bool) → List A → Bool
+every test [] = true
+every test (x ∷ xs) = test x && every test xs
 
-all-true : (n k : ℕ) → getD (replicate n true) k true ≡ true
-all-true zero k = refl
-all-true (suc n) zero = refl
-all-true (suc n) (suc k) = all-true n k
+every-at : {A : Type 0} (test : A → Bool) (xs : List A) → every test xs ≡ true → (k : ℕ) → getD (map test xs) k true ≡ true
+every-at test [] p k = refl
+every-at test (x ∷ xs) p zero = and-left (test x) (every test xs) p
+every-at test (x ∷ xs) p (suc k) = every-at test xs (and-right (test x) (every test xs) p) k
 
 -- a test that computes to true over all frames passes at each
-pub at-frame : (test : Frame → Bool) → map test frames ≡ replicate 7 true → (frame : Frame) → test frame ≡ true
-at-frame test e frame =
-    sym (at-place test true frame)
-    ∙ ap (λ (l : List Bool). getD l (indexOf frame) true) e
-    ∙ all-true 7 (indexOf frame)
+pub at-frame : (test : Frame → Bool) → every test allFrames ≡ true → (frame : Frame) → test frame ≡ true
+at-frame test p frame = sym (at-index test true frame) ∙ every-at test allFrames p (indexOf frame)
 
-pub index-seven : (frame : Frame) → indexOf frame < 7
-index-seven frame = ltb-true (indexOf frame) 7 (at-frame (λ (f : Frame). ltb (indexOf f) 7) refl frame)
+pub index-within : (frame : Frame) → indexOf frame < length allFrames
+index-within frame = ltb-true (indexOf frame) (length allFrames) (at-frame (λ (f : Frame). ltb (indexOf f) (length allFrames)) refl frame)
 
 -- a kind is two legal digits
 pub kind-length : (frame : Frame) → length (kindOf frame) ≡ 2
@@ -69,35 +69,49 @@ two (a ∷ b ∷ d ∷ l) e = absurd (omega arith)
 pub kind-two : (frame : Frame) → kindOf frame ≡ getD (kindOf frame) 0 0 ∷ getD (kindOf frame) 1 0 ∷ []
 kind-two frame = two (kindOf frame) (kind-length frame)
 
--- no frame has more than seven fields
-pub fields-seven : (frame : Frame) → length (widthsOf frame) ≤ 7
+-- no frame has more than the most fields
+pub fields-most : (frame : Frame) → fieldsIn frame ≤ mostFields
 unfolding widthsOf
-fields-seven frame = leb-true (length (widthsOf frame)) 7 (at-frame (λ (f : Frame). leb (length (widthsOf f)) 7) refl frame)
+fields-most frame = leb-true (fieldsIn frame) mostFields (at-frame (λ (f : Frame). leb (fieldsIn f) mostFields) refl frame)
 
--- no line is longer than thirty digits
-pub length-thirty : (frame : Frame) → lengthOf frame ≤ 30
+-- no line is longer than sixty-four digits
+pub length-most : (frame : Frame) → lengthOf frame ≤ 64
 unfolding sum widthsOf
-length-thirty frame = leb-true (lengthOf frame) 30 (at-frame (λ (f : Frame). leb (lengthOf f) 30) refl frame)
+length-most frame = leb-true (lengthOf frame) 64 (at-frame (λ (f : Frame). leb (lengthOf f) 64) refl frame)
+
+-- no field is wider than sixteen digits, so that its value fits 64 bits
+pub width-most : (frame : Frame) (field : ℕ) → widthOf frame field ≤ 16
+unfolding widthsOf
+width-most frame field = narrow (widthsOf frame) (at-frame (λ (f : Frame). every (λ (w : ℕ). leb w 16) (widthsOf f)) refl frame) field
+  where
+    narrow : (ws : List ℕ) → every (λ (w : ℕ). leb w 16) ws ≡ true → (k : ℕ) → getD ws k 0 ≤ 16
+    narrow [] p k = omega arith
+    narrow (w ∷ ws) p zero = leb-true w 16 (and-left (leb w 16) _ p)
+    narrow (w ∷ ws) p (suc k) = narrow ws (and-right (leb w 16) _ p) k
 
 -- the line lengths of document 01
-pub line-lengths : map lengthOf frames ≡ 30 ∷ 22 ∷ 22 ∷ 20 ∷ 6 ∷ 12 ∷ 6 ∷ []
+pub line-lengths : map lengthOf allFrames ≡ 30 ∷ 22 ∷ 22 ∷ 20 ∷ 6 ∷ 12 ∷ 6 ∷ []
 unfolding sum widthsOf
 line-lengths = refl
 
--- no list of widths has one above a bound
-abbrev below : ℕ → List ℕ → Bool
-below n [] = true
-below n (w ∷ ws) = leb w n && below n ws
+-- the first of these frames that has this kind
+abbrev ofKind : List ℕ → List Frame → Found
+ofKind kind [] = Found.Nothing
+ofKind kind (f ∷ fs) = cond (same kind (kindOf f)) (Found.Frame f) (ofKind kind fs)
 
-below-at : (n : ℕ) (ws : List ℕ) → below n ws ≡ true → (k : ℕ) → getD ws k 0 ≤ n
-below-at n [] p k = omega arith
-below-at n (w ∷ ws) p zero = leb-true w n (and-left (leb w n) (below n ws) p)
-below-at n (w ∷ ws) p (suc k) = below-at n ws (and-right (leb w n) (below n ws) p) k
+found-kinds : map (λ (f : Frame). ofKind (kindOf f) allFrames) allFrames ≡ map Found.Frame allFrames
+unfolding kindOf same
+found-kinds = refl
 
--- no field is wider than eight digits
-pub width-eight : (frame : Frame) (field : ℕ) → widthOf frame field ≤ 8
-unfolding widthsOf
-width-eight frame field = below-at 8 (widthsOf frame) (at-frame (λ (f : Frame). below 8 (widthsOf f)) refl frame) field
+found-kind : (frame : Frame) → ofKind (kindOf frame) allFrames ≡ Found.Frame frame
+found-kind frame =
+    sym (at-index (λ (f : Frame). ofKind (kindOf f) allFrames) Found.Nothing frame)
+    ∙ ap (λ (l : List Found). getD l (indexOf frame) Found.Nothing) found-kinds
+    ∙ at-index Found.Frame Found.Nothing frame
+
+-- frames of one kind are one frame
+pub kinds-differ : (f g : Frame) → kindOf f ≡ kindOf g → f ≡ g
+kinds-differ f g e = cc (found-kind f, found-kind g, ap (λ (k : List ℕ). ofKind k allFrames) e)
 
 -- zeros at the end of a list change no field
 getD-zeros : (ws : List ℕ) (n k : ℕ) → getD (ws ++ replicate n 0) k 0 ≡ getD ws k 0
@@ -108,9 +122,9 @@ getD-zeros (w ∷ ws) n zero = refl
 getD-zeros (w ∷ ws) n (suc k) = getD-zeros ws n k
 
 -- the filled row has each field's width
-pub row-width : (frame : Frame) (field : ℕ) → field < 7 → getD (rowOf frame .widths) field 0 ≡ widthOf frame field
+pub row-width : (frame : Frame) (field : ℕ) → field < mostFields → getD (rowOf frame .widths) field 0 ≡ widthOf frame field
 unfolding rowOf
-row-width frame field h = getD-take 7 (widthsOf frame ++ replicate 7 0) field 0 h ∙ getD-zeros (widthsOf frame) 7 field
+row-width frame field h = getD-take mostFields (widthsOf frame ++ replicate mostFields 0) field 0 h ∙ getD-zeros (widthsOf frame) mostFields field
 
 -- the sum of a list's front, one entry more
 pub sum-take : (ws : List ℕ) (k : ℕ) → sum (take (suc k) ws) ≡ sum (take k ws) + getD ws k 0
@@ -129,17 +143,17 @@ sum-front (w ∷ ws) zero = omega arith
 sum-front (w ∷ ws) (suc k) = omega (arith, sum-front ws k)
 
 -- a field ends within its line
-pub place-within : (frame : Frame) (field : ℕ) → placeOf frame field + widthOf frame field ≤ lengthOf frame
-place-within frame field = omega (arith, sum-take (widthsOf frame) field, sum-front (widthsOf frame) (suc field))
+pub field-within : (frame : Frame) (field : ℕ) → fieldStart frame field + widthOf frame field ≤ lengthOf frame
+field-within frame field = omega (arith, sum-take (widthsOf frame) field, sum-front (widthsOf frame) (suc field))
 
--- past the last field a place is the line's end
-pub place-seven : (frame : Frame) → placeOf frame 7 ≡ lengthOf frame
-place-seven frame = ap (λ (ws : List ℕ). 2 + sum ws) (take-all 7 (widthsOf frame) (fields-seven frame))
+-- past the last field the line ends
+pub field-last : (frame : Frame) → fieldStart frame mostFields ≡ lengthOf frame
+field-last frame = ap (λ (ws : List ℕ). 2 + sum ws) (take-all mostFields (widthsOf frame) (fields-most frame))
 
 -- the next field starts where this one ends
-pub place-next : (frame : Frame) (field : ℕ) → placeOf frame (field + 1) ≡ placeOf frame field + widthOf frame field
-place-next frame field =
-    ap (λ (n : ℕ). placeOf frame n) (add-one field) ∙ omega (arith, sum-take (widthsOf frame) field)
+pub field-next : (frame : Frame) (field : ℕ) → fieldStart frame (field + 1) ≡ fieldStart frame field + widthOf frame field
+field-next frame field =
+    ap (λ (n : ℕ). fieldStart frame n) (add-one field) ∙ omega (arith, sum-take (widthsOf frame) field)
 
 -- the mark is the greatest number of eight digits
 pub mark-hex : hex 8 (16 ^ 8 - 1) ≡ markOf

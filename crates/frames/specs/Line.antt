@@ -8,7 +8,8 @@ use lib.Dec.{eqb}
 use Rattle.frames.specs.declared.table.Frame.{Frame}
 use Rattle.digits.specs.Digit.{allLegal}
 use Rattle.digits.specs.Number.{number, hex}
-use Rattle.frames.specs.Table.{kindOf, widthsOf, widthOf, placeOf, lengthOf}
+use Rattle.frames.specs.declared.line.Found.{Found}
+use Rattle.frames.specs.Table.{kindOf, widthsOf, widthOf, fieldStart, lengthOf, allFrames}
 
 -- the byte LF
 abbrev pub LF : ℕ
@@ -42,9 +43,18 @@ formed frame text =
     (eqb (length (line text)) (lengthOf frame) &&
     (same (take 2 (line text)) (kindOf frame) && allLegal (line text)))
 
+-- the first of these frames whose line the text starts with
+unfoldable pub firstFormed : List Frame → List ℕ → Found
+firstFormed [] text = Found.Nothing
+firstFormed (f ∷ fs) text = cond (formed f text) (Found.Frame f) (firstFormed fs text)
+
+-- the frame whose line the text starts with
+unfoldable pub kindAt : List ℕ → Found
+kindAt text = firstFormed allFrames text
+
 -- the value of a field of the first line
 unfoldable pub fieldOf : Frame → ℕ → List ℕ → ℕ
-fieldOf frame field text = number (take (widthOf frame field) (drop (placeOf frame field) (line text)))
+fieldOf frame field text = number (take (widthOf frame field) (drop (fieldStart frame field) (line text)))
 
 -- the values of a line's seven fields in order, zeros for those that the frame lacks
 unfoldable pub fieldsOf : Frame → List ℕ → List ℕ

@@ -2,30 +2,55 @@
 -- Document 01, "Lines of hexadecimal".
 use Prim.Native.Nat.{ℕ, _+_}
 use mathlib.Core.List.{List, [], _∷_, _++_}
-use lib.ListN.{getD, take, replicate}
+use lib.ListN.{length, getD, take, replicate}
 use Rattle.frames.specs.declared.table.Row.{Row}
 use Rattle.frames.specs.declared.table.Frame.{Frame}
 use Rattle.frames.specs.declared.table.Frame.the-variants.{Header, Task, Plan, Server, Placed, Processor, Refused}
 
--- the two digits of each kind: 01, 02, 11, 12, 13, 14, 1F
-unfoldable pub kindOf : Frame → List ℕ
-kindOf Header = 48 ∷ 49 ∷ []
-kindOf Task = 48 ∷ 50 ∷ []
-kindOf Plan = 49 ∷ 49 ∷ []
-kindOf Server = 49 ∷ 50 ∷ []
-kindOf Placed = 49 ∷ 51 ∷ []
-kindOf Processor = 49 ∷ 52 ∷ []
-kindOf Refused = 49 ∷ 70 ∷ []
+-- a kind's two digits, and the widths of its fields
+abbrev pub Shape : Type 0
+Shape = List ℕ × List ℕ
 
--- the widths of each kind's fields
+-- the rows of the table: 01, 02, 11, 12, 13, 14, 1F
+abbrev pub rows : List Shape
+rows =
+    (48 ∷ 49 ∷ [], 2 ∷ 6 ∷ 4 ∷ 4 ∷ 4 ∷ 4 ∷ 4 ∷ [])
+    ∷ (48 ∷ 50 ∷ [], 2 ∷ 6 ∷ 6 ∷ 6 ∷ [])
+    ∷ (49 ∷ 49 ∷ [], 2 ∷ 2 ∷ 2 ∷ 6 ∷ 8 ∷ [])
+    ∷ (49 ∷ 50 ∷ [], 2 ∷ 6 ∷ 8 ∷ 2 ∷ [])
+    ∷ (49 ∷ 51 ∷ [], 2 ∷ 2 ∷ [])
+    ∷ (49 ∷ 52 ∷ [], 2 ∷ 2 ∷ 6 ∷ [])
+    ∷ (49 ∷ 70 ∷ [], 2 ∷ 2 ∷ [])
+    ∷ []
+
+-- the frames in the table's order
+abbrev pub allFrames : List Frame
+allFrames = Header ∷ Task ∷ Plan ∷ Server ∷ Placed ∷ Processor ∷ Refused ∷ []
+
+-- the index of a frame in the table
+abbrev pub indexOf : Frame → ℕ
+indexOf Header = 0
+indexOf Task = 1
+indexOf Plan = 2
+indexOf Server = 3
+indexOf Placed = 4
+indexOf Processor = 5
+indexOf Refused = 6
+
+unfoldable pub kindOf : Frame → List ℕ
+kindOf frame = getD rows (indexOf frame) ([], []) .0
+
+-- the widths of a frame's fields
 unfoldable pub widthsOf : Frame → List ℕ
-widthsOf Header = 2 ∷ 6 ∷ 4 ∷ 4 ∷ 4 ∷ 4 ∷ 4 ∷ []
-widthsOf Task = 2 ∷ 6 ∷ 6 ∷ 6 ∷ []
-widthsOf Plan = 2 ∷ 2 ∷ 2 ∷ 6 ∷ 8 ∷ []
-widthsOf Server = 2 ∷ 6 ∷ 8 ∷ 2 ∷ []
-widthsOf Placed = 2 ∷ 2 ∷ []
-widthsOf Processor = 2 ∷ 2 ∷ 6 ∷ []
-widthsOf Refused = 2 ∷ 2 ∷ []
+widthsOf frame = getD rows (indexOf frame) ([], []) .1
+
+-- the number of a frame's fields
+abbrev pub fieldsIn : Frame → ℕ
+fieldsIn frame = length (widthsOf frame)
+
+-- the most fields that a frame has
+abbrev pub mostFields : ℕ
+mostFields = 7
 
 unfoldable pub sum : List ℕ → ℕ
 sum [] = 0
@@ -35,28 +60,19 @@ sum (n ∷ ns) = n + sum ns
 abbrev pub widthOf : Frame → ℕ → ℕ
 widthOf frame field = getD (widthsOf frame) field 0
 
--- the place of a field in its line: after the kind and the fields before it
-abbrev pub placeOf : Frame → ℕ → ℕ
-placeOf frame field = 2 + sum (take field (widthsOf frame))
+-- where a field starts in its line: after the kind and the fields before it
+abbrev pub fieldStart : Frame → ℕ → ℕ
+fieldStart frame field = 2 + sum (take field (widthsOf frame))
 
 -- the digits of a line, its LF not counted
 abbrev pub lengthOf : Frame → ℕ
 lengthOf frame = 2 + sum (widthsOf frame)
 
--- the table's row of a frame: its kind, and its widths filled up to seven by fields of no digits
+-- the code's row of a frame: its kind, and its widths filled up to the most by fields of no digits
 unfoldable pub rowOf : Frame → Row
-rowOf frame = record { kind = kindOf frame; widths = take 7 (widthsOf frame ++ replicate 7 0) }
+rowOf frame =
+    record { kind = kindOf frame; widths = take mostFields (widthsOf frame ++ replicate mostFields 0) }
 
 -- the mark FFFFFFFF, the ring start of a server on a whole processor
 unfoldable pub markOf : List ℕ
 markOf = replicate 8 70
-
--- the place of a frame in the table
-abbrev pub indexOf : Frame → ℕ
-indexOf Header = 0
-indexOf Task = 1
-indexOf Plan = 2
-indexOf Server = 3
-indexOf Placed = 4
-indexOf Processor = 5
-indexOf Refused = 6

@@ -1,9 +1,12 @@
 // Lines of a frame, read from and written to a place in a text.
 // A line is its kind, its fields at the table's widths, and one LF.
+use crate::table::FRAMES;
 use crate::table::Frame;
+use crate::table::KINDS;
+use crate::table::MOST_FIELDS;
 use crate::table::WHOLE;
+use crate::table::field_start;
 use crate::table::length;
-use crate::table::place;
 use crate::table::row_of;
 use crate::table::width;
 use digits::all_legal;
@@ -13,15 +16,18 @@ ghost use mathlib.Core.Path.{_≡_};
 ghost use mathlib.Core.Bool.{true};
 ghost use Prim.Native.Nat.{_+_, _<_, _≤_};
 ghost use lib.ListN.{length as count, take, drop};
-ghost use Rattle.frames.specs.Table.{lengthOf, widthsOf, sum, markOf, kindOf};
-ghost use Rattle.frames.specs.Line.{formed, fieldOf, fields, lineOf, same};
+ghost use Rattle.frames.specs.Table.{lengthOf, widthsOf, sum, markOf, kindOf, mostFields};
+ghost use Rattle.frames.specs.Line.{formed, fieldOf, fields, lineOf, same, kindAt};
 ghost use Rattle.digits.specs.Stored.{stored};
 
 // Whether the text at `at` starts with the frame's kind.
 fn is_kind(text: &[u8], at: usize, frame: Frame) -> bool
-    requires { ⌜ at + 2 ≤ count (now text) ⌝ }
+    requires { ⌜ at ≤ count (now text) ⌝ }
     ensures { λ r. ⌜ r ≡ same (take 2 (drop at (now (text .entry)))) (kindOf frame) ⌝ }
 {
+    if text.len() - at < 2 {
+        return false;
+    }
     let row = row_of(frame);
     let kind = row.kind;
     let next = at + 1;
@@ -33,6 +39,9 @@ pub fn is_line(text: &[u8], at: usize, frame: Frame) -> bool
     requires { ⌜ at ≤ count (now text) ⌝ }
     ensures { λ r. ⌜ r ≡ formed frame (drop at (now (text .entry))) ⌝ }
 {
+    if !is_kind(text, at, frame) {
+        return false;
+    }
     let n = length(frame);
     if text.len() - at <= n {
         return false;
@@ -41,20 +50,39 @@ pub fn is_line(text: &[u8], at: usize, frame: Frame) -> bool
     if text[end] != b'\n' {
         return false;
     }
-    if !is_kind(text, at, frame) {
-        return false;
-    }
     all_legal(text, at, n)
+}
+
+// The frame of a line, or none.
+pub enum Found {
+    Frame(Frame),
+    Nothing,
+}
+
+// The frame whose line the text from `at` on starts with.
+pub fn kind_at(text: &[u8], at: usize) -> Found
+    requires { ⌜ at ≤ count (now text) ⌝ }
+    ensures { λ r. ⌜ r ≡ kindAt (drop at (now (text .entry))) ⌝ }
+{
+    let mut i = 0;
+    while i < KINDS {
+        let frame = FRAMES[i];
+        if is_line(text, at, frame) {
+            return Found::Frame(frame);
+        }
+        i += 1;
+    }
+    Found::Nothing
 }
 
 // The value of a field of the line at `at`.
 pub fn field(text: &[u8], at: usize, frame: Frame, field: usize) -> u64
     requires { ⌜ at ≤ count (now text) ⌝ }
     requires { ⌜ formed frame (drop at (now text)) ≡ true ⌝ }
-    requires { ⌜ field < 7 ⌝ }
+    requires { ⌜ field < mostFields ⌝ }
     ensures { λ r. ⌜ r ≡ fieldOf frame field (drop at (now (text .entry))) ⌝ }
 {
-    let start = at + place(frame, field);
+    let start = at + field_start(frame, field);
     number_at(text, start, width(frame, field))
 }
 
@@ -81,13 +109,13 @@ pub fn put_mark(out: &mut [u8], at: usize)
 }
 
 // Writes the fields of a line, one after the other.
-fn put_fields(out: &mut [u8], at: usize, frame: Frame, values: [u64; 7])
+fn put_fields(out: &mut [u8], at: usize, frame: Frame, values: [u64; MOST_FIELDS])
     requires { ⌜ at + sum (widthsOf frame) ≤ count (now out) ⌝ }
     ensures { λ r. ⌜ now (out .exit) ≡ stored (now (out .entry)) at (fields (widthsOf frame) values) ⌝ }
 {
     let mut start = at;
     let mut i = 0;
-    while i < 7 {
+    while i < MOST_FIELDS {
         let digits = width(frame, i);
         put_number(out, start, digits, values[i]);
         start += digits;
@@ -96,7 +124,7 @@ fn put_fields(out: &mut [u8], at: usize, frame: Frame, values: [u64; 7])
 }
 
 // Writes a line with its LF.
-pub fn put_line(out: &mut [u8], at: usize, frame: Frame, values: [u64; 7])
+pub fn put_line(out: &mut [u8], at: usize, frame: Frame, values: [u64; MOST_FIELDS])
     requires { ⌜ at + lengthOf frame + 1 ≤ count (now out) ⌝ }
     ensures { λ r. ⌜ now (out .exit) ≡ stored (now (out .entry)) at (lineOf frame values) ⌝ }
 {

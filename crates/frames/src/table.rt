@@ -1,8 +1,8 @@
 // The one table of frame kinds and field widths. The reader and every writer go by it.
-// A frame with fewer than seven fields is filled up with fields of no digits.
+// A frame with fewer than the most fields is filled up with fields of no digits.
 ghost use mathlib.Core.Path.{_≡_};
 ghost use Prim.Native.Nat.{_<_, _≤_};
-ghost use Rattle.frames.specs.Table.{rowOf, widthOf, placeOf, lengthOf, indexOf};
+ghost use Rattle.frames.specs.Table.{rowOf, widthOf, fieldStart, lengthOf, indexOf, mostFields};
 
 pub enum Frame {
     Header,
@@ -14,12 +14,28 @@ pub enum Frame {
     Refused,
 }
 
+// The number of kinds, and the most fields that one of them has.
+pub const KINDS: usize = 7;
+
+pub const MOST_FIELDS: usize = 7;
+
 pub struct Row {
     pub kind: [u8; 2],
-    pub widths: [u8; 7],
+    pub widths: [u8; MOST_FIELDS],
 }
 
-pub const TABLE: [Row; 7] = [
+// The frames in the table's order.
+pub const FRAMES: [Frame; KINDS] = [
+    Frame::Header,
+    Frame::Task,
+    Frame::Plan,
+    Frame::Server,
+    Frame::Placed,
+    Frame::Processor,
+    Frame::Refused,
+];
+
+pub const TABLE: [Row; KINDS] = [
     Row {
         kind: *b"01",
         widths: [2, 6, 4, 4, 4, 4, 4],
@@ -53,7 +69,7 @@ pub const TABLE: [Row; 7] = [
 // The ring start of a server on a whole processor.
 pub const WHOLE: [u8; 8] = *b"FFFFFFFF";
 
-// The place of a frame in the table.
+// The index of a frame in the table.
 fn index(frame: Frame) -> usize
     ensures { λ r. ⌜ r ≡ indexOf frame ⌝ }
 {
@@ -77,7 +93,7 @@ pub fn row_of(frame: Frame) -> Row
 
 // The width of a field in digits.
 pub fn width(frame: Frame, field: usize) -> usize
-    requires { ⌜ field < 7 ⌝ }
+    requires { ⌜ field < mostFields ⌝ }
     ensures { λ r. ⌜ r ≡ widthOf frame field ⌝ }
 {
     let row = row_of(frame);
@@ -86,9 +102,9 @@ pub fn width(frame: Frame, field: usize) -> usize
 }
 
 // Where a field starts in its line.
-pub fn place(frame: Frame, field: usize) -> usize
-    requires { ⌜ field ≤ 7 ⌝ }
-    ensures { λ r. ⌜ r ≡ placeOf frame field ⌝ }
+pub fn field_start(frame: Frame, field: usize) -> usize
+    requires { ⌜ field ≤ mostFields ⌝ }
+    ensures { λ r. ⌜ r ≡ fieldStart frame field ⌝ }
 {
     let mut at: usize = 2;
     let mut i = 0;
@@ -103,5 +119,5 @@ pub fn place(frame: Frame, field: usize) -> usize
 pub fn length(frame: Frame) -> usize
     ensures { λ r. ⌜ r ≡ lengthOf frame ⌝ }
 {
-    place(frame, 7)
+    field_start(frame, MOST_FIELDS)
 }

@@ -9,7 +9,7 @@ use lib.ListN.{length, drop, getD, length-append}
 use lib.Seq.{take-append-seam, drop-append-add, drop-at}
 use borrow.Author.Tests.{lt-ltb, le-ltb}
 use Rattle.digits.specs.Number.{hex}
-use Rattle.frames.specs.Table.{kindOf, widthsOf, sum, lengthOf, placeOf, markOf}
+use Rattle.frames.specs.Table.{kindOf, widthsOf, sum, lengthOf, fieldStart, markOf}
 use Rattle.frames.specs.Line.{LF, lineOf, fields}
 use Rattle.digits.specs.Stored.{stored}
 use Rattle.frames.specs.declared.table.Frame.{Frame}
@@ -110,7 +110,7 @@ server-marked q R x n =
     ∙ ap (λ (m : List ℕ). before-start q R ++ (m ++ (hex 2 n ++ (LF ∷ [])))) (sym mark-hex)
     ∙ sym (server-cut q R (16 ^ 8 - 1) n)
 
-pub start-place : placeOf Frame.Server 2 ≡ 10
+pub start-place : fieldStart Frame.Server 2 ≡ 10
 unfolding sum widthsOf
 start-place = refl
 

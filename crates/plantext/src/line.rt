@@ -3,7 +3,7 @@
 use frames::line::put_line;
 use frames::line::put_mark;
 use frames::table::Frame;
-use frames::table::place;
+use frames::table::field_start;
 use plan::plan::Plan;
 use refusals::Refusal;
 use tasks::set::TaskSet;
@@ -44,7 +44,7 @@ pub fn put_server(out: &mut [u8], at: usize, plan: Plan, i: usize)
     if reserve < plan.slot {
         return;
     }
-    let field = at + place(Frame::Server, 2);
+    let field = at + field_start(Frame::Server, 2);
     put_mark(out, field);
 }
 

@@ -22,7 +22,7 @@ use Rattle.tasks.specs.Rows.{firstOf, when, some, figuresOutcome}
 use Rattle.tasks.specs.File.{past, empty, tasksUpTo, tasksIn, seenUpTo, lineRow, orderRow, countLineRow, twiceLineRow, lineOutcome, linesOutcome, tasksFrom, taskAt}
 use Rattle.tasks.specs.Read.{readOf, readOutcome, fileSet, answer}
 use Rattle.tasks.specs.Shape.{Shaped, placeAfter}
-use Rattle.frames.proofs.Formed.{header-not-task, task-not-header}
+use Rattle.frames.proofs.KindLaws.{not-formed}
 use Rattle.tasks.proofs.Bools.{done-refused}
 use Rattle.tasks.proofs.Past.{absent-later, absent-past, past-shaped, shaped-less, shaped-more}
 
@@ -131,7 +131,7 @@ row-other text there header = rw (there, header)
 -- line 1 that is an 01 line is clear
 pub first-header : (text : List ℕ) → formed Frame.Header text ≡ true → lineOutcome text 1 ≡ Done
 unfolding lineOutcome lineRow orderRow countLineRow twiceLineRow past
-first-header text header = rw (header, header-not-task text header, and-false (not (empty text)))
+first-header text header = rw (header, not-formed Frame.Header Frame.Task refl text header, and-false (not (empty text)))
 
 -- a later line that is an 01 line is refused as ORDER
 pub later-header : (text : List ℕ) (n : ℕ) → formed Frame.Header (past (suc n) text) ≡ true → lineOutcome text (suc (suc n)) ≡ Refused (Order (suc (suc n)))
@@ -160,7 +160,7 @@ tasks-length text (suc n) = rw (length-append, tasks-length text n) (omega arith
 -- a file of the shape has as many 02 lines as the shape says
 pub shaped-count : (text : List ℕ) (n : ℕ) → Shaped text n → tasksUpTo text (suc n) ≡ n
 unfolding tasksUpTo past
-shaped-count text zero s = rw (header-not-task text (s .header))
+shaped-count text zero s = rw (not-formed Frame.Header Frame.Task refl text (s .header))
 shaped-count text (suc n) s =
     rw (shaped-count text n (shaped-less text n (suc n) (omega arith) s), s .tasks n (omega arith)) (omega arith)
 
@@ -171,7 +171,7 @@ seen-suc text id n = refl
 
 seen-header : (text : List ℕ) (id : ℕ) → formed Frame.Header text ≡ true → seenUpTo text id 1 ≡ false
 unfolding seenUpTo past
-seen-header text id header = rw (header-not-task text header)
+seen-header text id header = rw (not-formed Frame.Header Frame.Task refl text header)
 
 pub tasks-suc : (text : List ℕ) (n : ℕ) → tasksFrom text (suc n) ≡ tasksFrom text n ++ (taskAt (past (suc n) text) ∷ [])
 unfolding tasksFrom
@@ -262,6 +262,6 @@ pub clear-room : (text : List ℕ) (n : ℕ) → Shaped text (suc n) → lineOut
 clear-room text n s clear full =
     let task : formed Frame.Task (past (suc n) text) ≡ true = s .tasks n (omega arith) in
     let line : lineOutcome text (suc (suc n)) ≡ firstOf (when (eqb n 64) (Count (suc (suc n)))) (when (some (hasId (fieldOf Frame.Task 0 (past (suc n) text))) (tasksFrom text n)) (Twice (suc (suc n)))) =
-    task-line text n (shaped-less text n (suc n) (omega arith) s) (task-not-header (past (suc n) text) task) task in
+    task-line text n (shaped-less text n (suc n) (omega arith) s) (not-formed Frame.Task Frame.Header refl (past (suc n) text) task) task in
     let refused : lineOutcome text (suc (suc n)) ≡ Refused (Count (suc (suc n))) = rw (eq-eqb n 64 full) at line in
     done-refused (sym clear ∙ refused)

@@ -18,7 +18,8 @@ use Rattle.frames.specs.declared.table.Frame.{Frame}
 use Rattle.refusals.specs.declared.Refusal.the-variants.{Count, Twice, Range}
 use Rattle.refusals.specs.declared.Outcome.{Outcome}
 use Rattle.refusals.specs.declared.Outcome.the-variants.{Done}
-use Rattle.frames.proofs.Lines.{line-formed, line-after, field-line, task-not-header}
+use Rattle.frames.proofs.Lines.{line-formed, line-after, field-line}
+use Rattle.frames.proofs.KindLaws.{not-formed}
 use Rattle.tasks.specs.declared.set.Header.{Header}
 use Rattle.tasks.specs.declared.set.Task.{Task}
 use Rattle.tasks.specs.declared.set.TaskSet.{TaskSet}
@@ -138,7 +139,7 @@ line-clear set ok most i h =
     let seen : some (hasId (fieldOf Frame.Task 0 (past (suc i) text))) (tasksFrom text i) ≡ false =
     ap₂ (λ (n : ℕ) (ts : List Task). some (hasId n) ts) id (tasks-back set (ask-tasks set ask) i (omega arith)) ∙ twice-before (members set) i zeroTask (ask-twice set ask) h in
     let room : eqb i 64 ≡ false = ne-eqb i 64 (λ (e : i ≡ 64). omega arith) in
-    task-line text i less (task-not-header (past (suc i) text) formed) formed
+    task-line text i less (not-formed Frame.Task Frame.Header refl (past (suc i) text) formed) formed
     ∙ ap₂ (λ (a b : Bool). firstOf (when a (Count (suc (suc i)))) (when b (Twice (suc (suc i))))) room seen
 
 lines-clear : (set : TaskSet) → writerAsks set ≡ false → length (members set) ≤ mostTasks → (j : ℕ) → j < suc (length (members set)) → lineOutcome (textOf set) (suc j) ≡ Done

@@ -14,7 +14,8 @@ use Rattle.frames.specs.declared.table.Frame.{Frame}
 use Rattle.refusals.specs.declared.Refusal.{Refusal}
 use Rattle.refusals.specs.declared.Refusal.the-variants.{Count, Twice}
 use Rattle.refusals.specs.declared.Outcome.the-variants.{Done}
-use Rattle.frames.proofs.Lines.{line-fields, field-below, task-not-header}
+use Rattle.frames.proofs.Lines.{line-fields, field-below}
+use Rattle.frames.proofs.KindLaws.{not-formed}
 use Rattle.tasks.specs.declared.set.Task.{Task}
 use Rattle.tasks.specs.declared.set.TaskSet.{TaskSet}
 use Rattle.tasks.specs.Set.{mostTasks, members}
@@ -115,7 +116,7 @@ id-new text i s clear =
     let b = some (hasId (fieldOf Frame.Task 0 rest)) (tasksFrom text i) in
     when-done b (Twice (suc (suc i)))
     (first-done (when (eqb i 64) (Count (suc (suc i)))) (when b (Twice (suc (suc i))))
-    (sym (task-line text i (shaped-less text i (suc i) (omega arith) s) (task-not-header rest f) f) ∙ clear) .1)
+    (sym (task-line text i (shaped-less text i (suc i) (omega arith) s) (not-formed Frame.Task Frame.Header refl rest f) f) ∙ clear) .1)
 
 ids-new : (text : List ℕ) (i : ℕ) → Shaped text i → ((j : ℕ) → 1 ≤ j → lineOutcome text j ≡ Done) → twiceRow (tasksFrom text i) ≡ false
 ids-new text zero s clear = ap twiceRow (tasks-none text) ∙ twice-nil

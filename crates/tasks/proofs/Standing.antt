@@ -14,7 +14,8 @@ use Rattle.frames.specs.Table.{widthOf}
 use Rattle.frames.specs.declared.table.Frame.{Frame}
 use Rattle.refusals.specs.declared.Refusal.the-variants.{Line, Order, Count, Twice}
 use Rattle.refusals.specs.declared.Outcome.the-variants.{Refused}
-use Rattle.frames.proofs.Formed.{field-below, task-not-header}
+use Rattle.frames.proofs.Formed.{field-below}
+use Rattle.frames.proofs.KindLaws.{not-formed}
 use Rattle.tasks.specs.declared.set.Header.{Header}
 use Rattle.tasks.specs.declared.set.Task.{Task}
 use Rattle.tasks.specs.declared.set.TaskSet.{TaskSet}
@@ -57,7 +58,7 @@ module _ (text : List ℕ) (at n : ℕ) (set : TaskSet) (taken : Taken text n se
   said-task : formed Frame.Task (drop at text) ≡ true → lineOutcome text (n + 2) ≡ firstOf (when (eqb n 64) (Count (n + 2))) (when (some (hasId (fieldOf Frame.Task 0 (drop at text))) (members set)) (Twice (n + 2)))
   said-task e =
       rw (add-two n, held-members, ← rest-at)
-      (task-line text n (taken .shaped) (task-not-header (past (suc n) text) (ap (formed Frame.Task) rest-at ∙ e)) (ap (formed Frame.Task) rest-at ∙ e))
+      (task-line text n (taken .shaped) (not-formed Frame.Task Frame.Header refl (past (suc n) text) (ap (formed Frame.Task) rest-at ∙ e)) (ap (formed Frame.Task) rest-at ∙ e))
 
   pub said-count : formed Frame.Task (drop at text) ≡ true → n ≡ 64 → lineOutcome text (n + 2) ≡ Refused (Count (n + 2))
   said-count e full = rw (eq-eqb n 64 full) at (said-task e)

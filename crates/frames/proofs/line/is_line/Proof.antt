@@ -1,7 +1,7 @@
 -- `frames::line::is_line` meets its contract: each refusal says why the text is not formed, and at the end only its digits are left to test.
 -- Assumes nothing.
 use Prim.Native.Nat.{_-_, _≤_, _<_}
-use mathlib.Core.Path.{sym, _∙_}
+use mathlib.Core.Path.{refl, sym, _∙_}
 use native.Mathlib.Omega.{arith}
 use lib.ListN.{length}
 use borrow.Author.Tests.{not-true, not-false}
@@ -10,38 +10,36 @@ use borrow.Author.Needs.{needs}
 use Rattle.frames.proofs.line.is_line.Statement.{statement}
 use Rattle.frames.proofs.line.is_line.Tie as tie
 
-length-requires : tie.Need-length-requires
-length-requires c κs = search needs
-
-sub-if1 : tie.Need-sub-if1
-sub-if1 c = search needs
+is-kind-requires : tie.Need-is-kind-requires
+is-kind-requires c κs = search needs
 
 returns : tie.Need-returns
 returns c =
     let a = c .before .before .before .args in
-    let short : length (a .text .now) - a .at ≤ c .before .length .result = omega (arith, c .if1 .taken) in
+    sym (not-kind (a .frame) (a .text .now) (a .at) _ refl (sym (c .before .is-kind .ensures) ∙ not-true _ (c .if1 .taken)))
+
+length-requires : tie.Need-length-requires
+length-requires c κs = search needs
+
+sub-if2 : tie.Need-sub-if2
+sub-if2 c = search needs
+
+returns-2 : tie.Need-returns-2
+returns-2 c =
+    let a = c .before .before .before .before .before .args in
+    let short : length (a .text .now) - a .at ≤ c .before .length .result = omega (arith, c .if2 .taken) in
     sym (not-long (a .frame) (a .text .now) (a .at) _ (c .before .length .ensures) short)
 
 add-end : tie.Need-add-end
 add-end c = search needs
 
-shared-slice-read-if2 : tie.Need-shared-slice-read-if2
-shared-slice-read-if2 c = search needs
-
-returns-2 : tie.Need-returns-2
-returns-2 c =
-    let a = c .before .before .before .before .before .args in
-    sym (not-ended (a .frame) (a .text .now) (a .at) _ (c .before .before .before .length .ensures) (c .if2 .taken))
-
-is-kind-requires : tie.Need-is-kind-requires
-is-kind-requires c κs = search needs
+shared-slice-read-if3 : tie.Need-shared-slice-read-if3
+shared-slice-read-if3 c = search needs
 
 returns-3 : tie.Need-returns-3
 returns-3 c =
     let a = c .before .before .before .before .before .before .before .args in
-    sym
-    (not-kind (a .frame) (a .text .now) (a .at) _ (c .before .before .before .before .before .length .ensures)
-    (sym (c .before .is-kind .ensures) ∙ not-true _ (c .if3 .taken)))
+    sym (not-ended (a .frame) (a .text .now) (a .at) _ (c .before .before .before .length .ensures) (c .if3 .taken))
 
 all-legal-requires : tie.Need-all-legal-requires
 all-legal-requires c κs = search needs
@@ -49,26 +47,26 @@ all-legal-requires c κs = search needs
 returns-4 : tie.Need-returns-4
 returns-4 c =
     let a = c .before .before .before .before .before .before .before .before .args in
-    let size = c .before .before .before .before .before .before .length in
-    let long : size .result < length (a .text .now) - a .at = omega (arith, c .before .before .before .before .before .if1 .left) in
+    let size = c .before .before .before .before .length in
+    let long : size .result < length (a .text .now) - a .at = omega (arith, c .before .before .before .if2 .left) in
     c .all-legal .ensures
     ∙ sym
     (rest-legal (a .frame) (a .text .now) (a .at) _ (size .ensures)
     long
-    (c .before .before .before .if2 .left)
-    (sym (c .before .before .is-kind .ensures) ∙ not-false _ (c .before .if3 .left)))
+    (c .before .if3 .left)
+    (sym (c .before .before .before .before .before .before .is-kind .ensures) ∙ not-false _ (c .before .before .before .before .before .if1 .left)))
 
 pub is-line-spec : {M : Type 1} → statement M
 is-line-spec =
     tie.close
     (tie.spec
-    length-requires
-    sub-if1
-    returns
-    add-end
-    shared-slice-read-if2
-    returns-2
     is-kind-requires
+    returns
+    length-requires
+    sub-if2
+    returns-2
+    add-end
+    shared-slice-read-if3
     returns-3
     all-legal-requires
     returns-4)

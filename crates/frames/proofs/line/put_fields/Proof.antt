@@ -12,7 +12,7 @@ use Rattle.digits.specs.Stored.{stored}
 use Rattle.digits.specs.Number.{hex}
 use Rattle.frames.proofs.Fields.{start-next, start-within, fields-next}
 use Rattle.digits.proofs.Stored.{stored-nil}
-use Rattle.frames.proofs.Tables.{fields-seven}
+use Rattle.frames.proofs.Tables.{fields-most}
 use Rattle.frames.proofs.line.put_fields.Statement.{statement}
 use Rattle.frames.proofs.line.put_fields.Tie as tie
 
@@ -78,7 +78,7 @@ returns c =
     let a = c .before .before .before .args in
     let l = c .before .loop in
     l .inv .3
-    ∙ ap (λ (ws : List ℕ). stored (a .out .now) (a .at) (fields ws (a .t4))) (take-all (l .i) (widthsOf (a .frame)) (omega (arith, fields-seven (a .frame))))
+    ∙ ap (λ (ws : List ℕ). stored (a .out .now) (a .at) (fields ws (a .t4))) (take-all (l .i) (widthsOf (a .frame)) (omega (arith, fields-most (a .frame))))
 
 pub put-fields-spec : {M : Type 1} → statement M
 put-fields-spec =

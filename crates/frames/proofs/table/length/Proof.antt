@@ -1,16 +1,16 @@
--- `frames::table::length` meets its contract: past the last field a place is the line's end.
+-- `frames::table::length` meets its contract: past the last field the line ends.
 -- Assumes nothing.
 use mathlib.Core.Path.{_∙_}
 use borrow.Author.Needs.{needs}
-use Rattle.frames.proofs.Tables.{place-seven}
+use Rattle.frames.proofs.Tables.{field-last}
 use Rattle.frames.proofs.table.length.Statement.{statement}
 use Rattle.frames.proofs.table.length.Tie as tie
 
-place-requires : tie.Need-place-requires
-place-requires c κs = search needs
+field-start-requires : tie.Need-field-start-requires
+field-start-requires c κs = search needs
 
 returns : tie.Need-returns
-returns c = c .place .ensures ∙ place-seven (c .before .args .frame)
+returns c = c .field-start .ensures ∙ field-last (c .before .args .frame)
 
 pub length-spec : {M : Type 1} → statement M
-length-spec = tie.close (tie.spec place-requires returns)
+length-spec = tie.close (tie.spec field-start-requires returns)

@@ -4,7 +4,7 @@ use mathlib.Core.Path.{refl}
 use native.Mathlib.Omega.{arith}
 use borrow.Author.Needs.{needs}
 use Rattle.frames.specs.Table.{kindOf, widthsOf, rowOf}
-use Rattle.frames.proofs.Tables.{index-seven, row-at}
+use Rattle.frames.proofs.Tables.{index-within, row-at}
 use Rattle.frames.proofs.table.row_of.Statement.{statement}
 use Rattle.frames.proofs.table.row_of.Tie as tie
 
@@ -12,10 +12,10 @@ index-requires : tie.Need-index-requires
 index-requires c κs = search needs
 
 mul-result : tie.Need-mul-result
-mul-result c = omega (arith, index-seven (c .before .args .frame))
+mul-result c = omega (arith, index-within (c .before .args .frame))
 
 array-copy-out-result : tie.Need-array-copy-out-result
-array-copy-out-result c = omega (arith, index-seven (c .before .args .frame))
+array-copy-out-result c = omega (arith, index-within (c .before .args .frame))
 
 returns : tie.Need-returns
 unfolding kindOf widthsOf rowOf

@@ -43,16 +43,16 @@ returns c =
     let a = c .before .before .before .before .before .before .before .before .before .args in
     c .before .before .before .put-line .ensures ∙ ap (stored (a .out .now) (a .at)) (server-ring (a .t3) (a .i) (c .if1 .taken))
 
-place-requires : tie.Need-place-requires
-place-requires c κs = search needs
+field-start-requires : tie.Need-field-start-requires
+field-start-requires c κs = search needs
 
 add-field : tie.Need-add-field
 unfolding sum widthsOf
-add-field c = omega (arith, c .place .ensures, c .before .before .before .before .before .before .before .before .before .before .pre)
+add-field c = omega (arith, c .field-start .ensures, c .before .before .before .before .before .before .before .before .before .before .pre)
 
 put-mark-requires : tie.Need-put-mark-requires
 unfolding sum widthsOf
-put-mark-requires c κs = omega (arith, c .before .place .ensures, c .before .before .before .before .before .put-line .kept .0, c .before .before .before .before .before .before .before .before .before .before .before .pre)
+put-mark-requires c κs = omega (arith, c .before .field-start .ensures, c .before .before .before .before .before .put-line .kept .0, c .before .before .before .before .before .before .before .before .before .before .before .pre)
 
 same-length-2 : tie.Need-same-length-2
 same-length-2 c = search needs
@@ -61,7 +61,7 @@ returns-2 : tie.Need-returns-2
 returns-2 c =
     let s = c .before .before .before .before .before .before .before .before .before .before .before .before .before .before in
     let a = s .args in
-    let field = c .before .before .before .before .place in
+    let field = c .before .before .before .before .field-start in
     c .before .before .put-mark .ensures
     ∙ ap (λ (o : List ℕ). stored o (a .at + field .result) markOf) (c .before .before .before .before .before .before .before .before .put-line .ensures)
     ∙ server-over (a .out .now) (a .at) (a .t3) (a .i) (field .result) (c .before .before .before .before .before .if1 .left) (field .ensures ∙ start-place) (omega (arith, server-size, s .pre))
@@ -80,7 +80,7 @@ put-server-spec =
     put-line-requires
     same-length
     returns
-    place-requires
+    field-start-requires
     add-field
     put-mark-requires
     same-length-2

@@ -5,7 +5,7 @@ use mathlib.Core.Path.{ap}
 use native.Mathlib.Nat.{mul-le-mul, lt-of-le-of-lt}
 use native.Mathlib.Omega.{arith}
 use lib.Dec.{lit<}
-use Rattle.frames.proofs.Tables.{length-thirty}
+use Rattle.frames.proofs.Tables.{length-most}
 use borrow.Author.Needs.{needs}
 use Rattle.plantext.proofs.text.lines_length.Statement.{statement}
 use Rattle.plantext.proofs.text.lines_length.Tie as tie
@@ -14,12 +14,12 @@ length-requires : tie.Need-length-requires
 length-requires c κs = search needs
 
 add-each : tie.Need-add-each
-add-each c = omega (arith, c .length .ensures, length-thirty (c .before .args .frame))
+add-each c = omega (arith, c .length .ensures, length-most (c .before .args .frame))
 
 mul-result : tie.Need-mul-result
 mul-result c =
     let few : c .before .args .count ≤ 64 = omega arith in
-    let short : c .length .result + 1 ≤ 31 = omega (arith, c .length .ensures, length-thirty (c .before .args .frame)) in
+    let short : c .length .result + 1 ≤ 65 = omega (arith, c .length .ensures, length-most (c .before .args .frame)) in
     record { fits = lt-of-le-of-lt (mul-le-mul few short) (lit< tt) }
 
 returns : tie.Need-returns
