@@ -1,16 +1,5 @@
-pub mod Outcomes
-pub mod Searches
-pub mod Charges
-pub mod Clears
 pub mod UpTo
 pub mod RingStarts
 pub mod Layouts
 pub mod Served
 pub mod Made
-pub mod Fronts
-pub mod AgreeLaws
-pub mod Checked
-pub mod Judging
-pub mod Exactly
-pub mod RoomLaws
-pub mod Promises

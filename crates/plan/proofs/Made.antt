@@ -22,13 +22,13 @@ use Rattle.tasks.specs.Set.{mostTasks}
 use Rattle.tasks.specs.Rows.{firstOf, when, askRow}
 use Rattle.tasks.proofs.Carried.{count-within, ask-count}
 use Rattle.plan.specs.declared.plan.Plan.{Plan}
-use Rattle.plan.specs.Charge.{loadsOfSet, lossOf}
-use Rattle.plan.specs.Rows.{chargedOutcome, Chargeable, RowsClear}
+use Rattle.rows.specs.Charge.{loadsOfSet, lossOf}
+use Rattle.rows.specs.Rows.{chargedOutcome, Chargeable, RowsClear}
 use Rattle.plan.specs.Plan.{laidOut, setPlacement, setReserves, planMade, zeroPlan}
 use Rattle.plan.specs.Planner.{Clear, needed, fullRow, planOutcome, answer, planOf}
 use Rattle.plan.specs.Layable.{Layable}
-use Rattle.plan.proofs.Outcomes.{first-done, when-done}
-use Rattle.plan.proofs.Clears.{board-slot, charged-clear, loads-sound, loads-length, horizon-within, slot-small, loss-small, members-sized}
+use Rattle.rows.proofs.Outcomes.{first-done, when-done}
+use Rattle.rows.proofs.Clears.{board-slot, charged-clear, loads-sound, loads-length, horizon-within, slot-small, loss-small, members-sized}
 use Rattle.plan.proofs.Layouts.{processors-few}
 use Rattle.plan.proofs.Served.{count-few, layable, laid-is}
 

@@ -21,7 +21,7 @@ use Rattle.servers.proofs.ServedLaws.{reserves-count, reserves-range}
 use Rattle.ring.specs.Laid.{Laid}
 use Rattle.plan.specs.Plan.{laidOut}
 use Rattle.plan.specs.Layable.{Layable}
-use Rattle.plan.proofs.Clears.{members-count, members-held}
+use Rattle.rows.proofs.Clears.{members-count, members-held}
 
 module _ (ls : List Load) (S L : ℕ) (few : length ls ≤ 64) (sound : Every Sound ls) (slot : 1 ≤ S) (small : S < 2 ^ 32) where
   asked : Asked ls S

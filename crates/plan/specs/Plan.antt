@@ -13,7 +13,7 @@ use Rattle.servers.specs.Reserve.{reservesOf}
 use Rattle.ring.specs.Reserves.{reserveOf, wholes, startOf, ringProcessors, idlePositions, processorsOf}
 use Rattle.ring.specs.Who.{firstOf}
 use Rattle.plan.specs.declared.plan.Plan.{Plan}
-use Rattle.plan.specs.Charge.{loadsOfSet, lossOf}
+use Rattle.rows.specs.Charge.{loadsOfSet, lossOf}
 
 -- f 1, f 2, .. f n
 unfoldable pub upTo : (ℕ → ℕ) → ℕ → List ℕ

@@ -1,7 +1,7 @@
 -- What planning a set answers: the first refusal of row 11 and rows 5 to 10, or the plan.
 -- Document 01, "Refusal numbers and their order".
 use Prim.Native.Nat.{ℕ}
-use mathlib.Core.Bool.{Bool, true, false, _&&_}
+use mathlib.Core.Bool.{Bool, false}
 use mathlib.Core.Path.{_≡_}
 use lib.Dec.{ltb}
 use Rattle.refusals.specs.declared.Refusal.the-variants.{Full, Ask}
@@ -12,9 +12,8 @@ use Rattle.tasks.specs.Rows.{firstOf, when, askRow}
 use Rattle.ring.specs.Reserves.{processorsOf}
 use Rattle.plan.specs.declared.plan.Plan.{Plan}
 use Rattle.plan.specs.declared.planner.PlanAnswer.{PlanAnswer}
-use Rattle.plan.specs.Rows.{chargedOutcome}
+use Rattle.rows.specs.Rows.{chargedOutcome}
 use Rattle.plan.specs.Plan.{planMade, setReserves, zeroPlan}
-use Rattle.plan.specs.Agrees.{agrees}
 
 -- the processors that a set's plan needs: r + whole processors
 unfoldable pub needed : TaskSet → ℕ
@@ -41,11 +40,3 @@ answer (Refused r) plan = record { outcome = Refused r; plan = zeroPlan }
 
 unfoldable pub planOf : TaskSet → PlanAnswer
 planOf set = answer (planOutcome set) (planMade set)
-
-abbrev pub isDone : Outcome → Bool
-isDone Done = true
-isDone (Refused r) = false
-
--- the planner makes this plan of this set; unused room is not compared
-unfoldable pub makes : TaskSet → Plan → Bool
-makes set plan = isDone (planOutcome set) && agrees (set .count) plan (planMade set)

@@ -1,11 +1,11 @@
 // The planner: the plan that document 01 describes, or the first refusal and the all-zero plan.
 // What it means stands in specs/Planner.antt.
-use crate::charge;
 use crate::layout::lay_out;
 use crate::plan::Plan;
-use crate::rows::charged;
 use refusals::Outcome;
 use refusals::Refusal;
+use rows::charge;
+use rows::rows::charged;
 use tasks::set::TaskSet;
 ghost use mathlib.Core.Path.{_≡_};
 ghost use Rattle.plan.specs.Plan.{planMade, zeroPlan};

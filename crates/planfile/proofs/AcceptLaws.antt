@@ -22,13 +22,14 @@ use Rattle.servers.proofs.ReserveLaws.{reserves-length}
 use Rattle.servers.proofs.ServerClaims.{servers-few}
 use Rattle.plan.specs.declared.plan.Plan.{Plan}
 use Rattle.plan.specs.declared.planner.PlanAnswer.{PlanAnswer}
-use Rattle.plan.specs.Charge.{loadOf, loadsOfSet, lossOf}
-use Rattle.plan.specs.Rows.{RowsClear}
+use Rattle.rows.specs.Charge.{loadOf, loadsOfSet, lossOf}
+use Rattle.rows.specs.Rows.{RowsClear}
 use Rattle.plan.specs.Plan.{planMade, laidOut, setReserves}
-use Rattle.plan.specs.Agrees.{agrees, sameFigures}
-use Rattle.plan.specs.Planner.{Clear, makes, planOutcome, planOf, isDone, needed, fullRow}
-use Rattle.plan.proofs.AgreeLaws.{agree-self}
-use Rattle.plan.proofs.Clears.{charged-clear}
+use Rattle.questions.specs.Agrees.{agrees, sameFigures}
+use Rattle.plan.specs.Planner.{Clear, planOutcome, planOf, needed, fullRow}
+use Rattle.questions.specs.Agrees.{makes, isDone}
+use Rattle.questions.proofs.AgreeLaws.{agree-self}
+use Rattle.rows.proofs.Clears.{charged-clear}
 use Rattle.plan.proofs.Made.{plan-outcome, plan-is, outcome-clear, made-needs}
 use Rattle.plantext.specs.Fit.{Counted}
 

@@ -20,12 +20,13 @@ use Rattle.tasks.specs.declared.read.ReadAnswer.{ReadAnswer}
 use Rattle.tasks.specs.Read.{readOf}
 use Rattle.plan.specs.declared.plan.Plan.{Plan}
 use Rattle.plan.specs.declared.planner.PlanAnswer.{PlanAnswer}
-use Rattle.plan.specs.declared.question.WhoAnswer.{WhoAnswer}
-use Rattle.plan.specs.declared.question.PassAnswer.{PassAnswer}
-use Rattle.plan.specs.Charge.{loadsOfSet, lossOf}
+use Rattle.questions.specs.declared.question.WhoAnswer.{WhoAnswer}
+use Rattle.questions.specs.declared.question.PassAnswer.{PassAnswer}
+use Rattle.rows.specs.Charge.{loadsOfSet, lossOf}
 use Rattle.plan.specs.Plan.{setPlacement, setReserves}
-use Rattle.plan.specs.Planner.{makes, planOf}
-use Rattle.plan.specs.Question.{whoRuns, doesPass, isProcessor, isServer, allowed}
+use Rattle.plan.specs.Planner.{planOf}
+use Rattle.questions.specs.Agrees.{makes}
+use Rattle.questions.specs.Question.{whoRuns, doesPass, isProcessor, isServer, allowed}
 use Rattle.plantext.specs.Text.{planText, refusalText}
 use Rattle.planfile.specs.Tool.{planned, answered}
 use Rattle.planfile.specs.Asked.{refusedWho, whoOfSet, whoIn, refusedPass, passOfSet, passIn}

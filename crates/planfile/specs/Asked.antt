@@ -12,10 +12,10 @@ use Rattle.tasks.specs.declared.set.TaskSet.{TaskSet}
 use Rattle.tasks.specs.declared.read.ReadAnswer.{ReadAnswer}
 use Rattle.tasks.specs.Read.{readOf}
 use Rattle.plan.specs.declared.planner.PlanAnswer.{PlanAnswer}
-use Rattle.plan.specs.declared.question.WhoAnswer.{WhoAnswer}
-use Rattle.plan.specs.declared.question.PassAnswer.{PassAnswer}
+use Rattle.questions.specs.declared.question.WhoAnswer.{WhoAnswer}
+use Rattle.questions.specs.declared.question.PassAnswer.{PassAnswer}
 use Rattle.plan.specs.Planner.{planOf}
-use Rattle.plan.specs.Question.{whoRuns, doesPass}
+use Rattle.questions.specs.Question.{whoRuns, doesPass}
 
 -- a refused question has zeros
 abbrev pub refusedWho : Refusal → WhoAnswer

@@ -1,26 +1,26 @@
 // The two questions asked of a task file. A file that is refused, or whose plan is, refuses the question as it was refused.
 // What is answered stands in specs/Asked.antt. A set is planned once.
-use plan::charge::loss;
 use plan::plan::Plan;
 use plan::planner::make;
-use plan::question::PassAnswer;
-use plan::question::WhoAnswer;
-use plan::question::is_allowed;
-use plan::question::is_processor;
-use plan::question::is_server;
-use plan::question::pass_judged;
-use plan::question::who_stands;
+use questions::question::PassAnswer;
+use questions::question::WhoAnswer;
+use questions::question::is_allowed;
+use questions::question::is_processor;
+use questions::question::is_server;
+use questions::question::pass_judged;
+use questions::question::who_stands;
 use refusals::Outcome;
 use refusals::Refusal;
 use ring::clock::Tick;
+use rows::charge::loss;
 use tasks::read::read;
 use tasks::set::TaskSet;
 use verdict::answer::Reading;
 use verdict::answer::Verdict;
 ghost use mathlib.Core.Path.{_≡_};
 ghost use mathlib.Core.Bool.{true};
-ghost use Rattle.plan.specs.Planner.{makes};
-ghost use Rattle.plan.specs.Question.{whoRuns, doesPass};
+ghost use Rattle.questions.specs.Agrees.{makes};
+ghost use Rattle.questions.specs.Question.{whoRuns, doesPass};
 ghost use Rattle.planfile.specs.Asked.{refusedWho, refusedPass, whoOfSet, passOfSet, whoIn, passIn};
 
 fn refused_who(refusal: Refusal) -> WhoAnswer

@@ -29,14 +29,15 @@ use Rattle.ring.proofs.FirstLaws.{first-reserve}
 use Rattle.ring.proofs.WhoLaws.{first-whole}
 use Rattle.ring.proofs.WholeLaws.{whole-at}
 use Rattle.plan.specs.declared.plan.Plan.{Plan}
-use Rattle.plan.specs.Charge.{loadsOfSet}
+use Rattle.rows.specs.Charge.{loadsOfSet}
 use Rattle.plan.specs.Plan.{planMade, laidOut, setPlacement, setReserves, upTo, ringStart}
-use Rattle.plan.specs.Planner.{makes, Clear}
-use Rattle.plan.specs.Claims.{SamePlan}
-use Rattle.plan.proofs.AgreeLaws.{agree-same}
-use Rattle.plan.proofs.Checked.{OfSet, of-set}
+use Rattle.plan.specs.Planner.{Clear}
+use Rattle.questions.specs.Agrees.{makes}
+use Rattle.questions.specs.Agrees.{SamePlan}
+use Rattle.questions.proofs.AgreeLaws.{agree-same}
+use Rattle.questions.proofs.Checked.{OfSet, of-set}
 use Rattle.plan.proofs.Made.{set-count, slot-some, few-loads}
-use Rattle.plan.proofs.Promises.{accepted}
+use Rattle.plan_claims.proofs.Promises.{accepted}
 use Rattle.plan.proofs.UpTo.{up-length}
 use Rattle.plantext.specs.Fit.{Counted}
 use Rattle.planfile_claims.specs.Claims.{FitFields}

@@ -21,11 +21,11 @@ use Rattle.ring.specs.Reserves.{reserveOf}
 use Rattle.ring.specs.Serves.{RingServer, WholeProcessor}
 use Rattle.tasks.specs.declared.set.TaskSet.{TaskSet}
 use Rattle.tasks.proofs.Carried.{count-within, ask-count}
-use Rattle.plan.specs.Charge.{loadsOfSet}
+use Rattle.rows.specs.Charge.{loadsOfSet}
 use Rattle.plan.specs.Plan.{setPlacement, setReserves}
 use Rattle.plan.specs.Planner.{Clear}
-use Rattle.plan.specs.Rows.{RowsClear}
-use Rattle.plan.proofs.Clears.{board-slot, charged-clear, loads-sound}
+use Rattle.rows.specs.Rows.{RowsClear}
+use Rattle.rows.proofs.Clears.{board-slot, charged-clear, loads-sound}
 use Rattle.plan.proofs.Made.{plan-outcome, outcome-clear}
 use Rattle.promises.specs.Accepted.{Accepted, slotOf, entryLossOf, serverLoads, IsServer}
 

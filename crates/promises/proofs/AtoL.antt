@@ -9,7 +9,7 @@ use Rattle.demand.specs.Claims.{FakeDiffers}
 use Rattle.demand.proofs.Fake.{fake-differs}
 use Rattle.tasks.proofs.Examples.{bytesOf}
 use Rattle.tasks.specs.Read.{readOf}
-use Rattle.plan.specs.Rows.{horizonOf}
+use Rattle.rows.specs.Rows.{horizonOf}
 use Rattle.plan.specs.Planner.{planOf}
 use Rattle.planfile.specs.Tool.{answered}
 use Rattle.promises.proofs.Examples.{Example, examples, answerOf, examples-answered}

@@ -9,8 +9,8 @@ use Rattle.verdict.specs.declared.answer.Reading.{Reading}
 use Rattle.verdict.specs.declared.answer.Verdict.the-variants.{No}
 use Rattle.ring.specs.declared.clock.Tick.{Tick}
 use Rattle.tasks.proofs.Examples.{bytesOf}
-use Rattle.plan.specs.declared.question.WhoAnswer.{WhoAnswer}
-use Rattle.plan.specs.declared.question.PassAnswer.{PassAnswer}
+use Rattle.questions.specs.declared.question.WhoAnswer.{WhoAnswer}
+use Rattle.questions.specs.declared.question.PassAnswer.{PassAnswer}
 use Rattle.digits.specs.Digit.{legal, valueOf, digitOf, allLegal}
 use Rattle.digits.specs.Number.{numberFrom, hex}
 use Rattle.frames.specs.Table.{kindOf, widthsOf, sum}
@@ -34,12 +34,13 @@ use Rattle.ring.specs.Cover.{covers, covererUpTo, standAt}
 use Rattle.ring.specs.Phase.{phase}
 use Rattle.ring.specs.Reserves.{ringTicks, wholes}
 use Rattle.ring.specs.Who.{wholeFrom, whoOf, firstOf}
-use Rattle.plan.specs.Charge.{loadOf, loadsOfSet, lossOf}
-use Rattle.plan.specs.Rows.{slotRow, tightRow, horizonOf, horizonRow, chargedOutcome}
+use Rattle.rows.specs.Charge.{loadOf, loadsOfSet, lossOf}
+use Rattle.rows.specs.Rows.{slotRow, tightRow, horizonOf, horizonRow, chargedOutcome}
 use Rattle.plan.specs.Plan.{upTo, laidOut, setPlacement, setReserves, planMade}
-use Rattle.plan.specs.Agrees.{sameFigures, sameServers, sameProcessors, agrees}
-use Rattle.plan.specs.Planner.{needed, fullRow, planOutcome, planOf, makes}
-use Rattle.plan.specs.Question.{allowed, isProcessor, isServer, whoRuns, doesPass}
+use Rattle.questions.specs.Agrees.{sameFigures, sameServers, sameProcessors, agrees}
+use Rattle.plan.specs.Planner.{needed, fullRow, planOutcome, planOf}
+use Rattle.questions.specs.Agrees.{makes}
+use Rattle.questions.specs.Question.{allowed, isProcessor, isServer, whoRuns, doesPass}
 use Rattle.plantext.specs.Text.{lines, planLine, serverLine, placedLine, processorLine, planText, refusalText}
 use Rattle.planfile.specs.Tool.{planned, answered}
 use Rattle.planfile.specs.Asked.{whoOfSet, whoIn, passOfSet, passIn}

@@ -26,8 +26,8 @@ use Rattle.tasks.specs.Read.{fileSet, readOutcome, readOf}
 use Rattle.wholes.specs.Measure.{measureIn, commonMeasure}
 use Rattle.wholes.specs.Multiple.{leastMultiple, leastMultipleOf}
 use Rattle.demand.specs.Charging.{effectiveDeadline, effectiveCost}
-use Rattle.plan.specs.Charge.{loadOf}
-use Rattle.plan.specs.Rows.{slotRow, tightRow, horizonOf, horizonRow, chargedOutcome}
+use Rattle.rows.specs.Charge.{loadOf}
+use Rattle.rows.specs.Rows.{slotRow, tightRow, horizonOf, horizonRow, chargedOutcome}
 use Rattle.plantext.specs.Text.{refusalText}
 use Rattle.planfile.specs.Tool.{answered}
 use Rattle.planfile.proofs.ToolLaws.{answered-done, planned-refused}

@@ -17,11 +17,11 @@ use Rattle.ring.specs.Serves.{RingServer}
 use Rattle.tasks.specs.declared.set.TaskSet.{TaskSet}
 use Rattle.plan.specs.declared.plan.Plan.{Plan}
 use Rattle.plan.specs.Plan.{upTo, ringStart, laidOut, setReserves, planMade}
-use Rattle.plan.specs.Planner.{makes}
-use Rattle.plan.specs.Claims.{SamePlan}
+use Rattle.questions.specs.Agrees.{makes}
+use Rattle.questions.specs.Agrees.{SamePlan}
 use Rattle.plan.proofs.Made.{plan-outcome}
 use Rattle.plan.proofs.UpTo.{up-length}
-use Rattle.plan.proofs.Checked.{OfSet, of-set, same-made, makes-done}
+use Rattle.questions.proofs.Checked.{OfSet, of-set, same-made, makes-done}
 use Rattle.promises.specs.Accepted.{PrintsRota, slotOf}
 use Rattle.promises.specs.Promises.{PlanIsRota}
 

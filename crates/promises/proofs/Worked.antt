@@ -21,8 +21,8 @@ use Rattle.tasks.specs.declared.set.Task.{Task}
 use Rattle.tasks.specs.declared.set.TaskSet.{TaskSet}
 use Rattle.tasks.specs.Set.{setOf}
 use Rattle.tasks.specs.Rows.{some, firstFrom, countRow, twiceRow, boardRow, rangeRow, figuresOutcome, headerOverflows, taskOverflows, askRow}
-use Rattle.plan.specs.Charge.{loadOf, loadsOfSet, lossOf}
-use Rattle.plan.specs.Rows.{slotRow, tightRow, horizonOf, horizonRow, chargedOutcome}
+use Rattle.rows.specs.Charge.{loadOf, loadsOfSet, lossOf}
+use Rattle.rows.specs.Rows.{slotRow, tightRow, horizonOf, horizonRow, chargedOutcome}
 use Rattle.plan.specs.Plan.{setReserves}
 use Rattle.plan.specs.Planner.{needed, fullRow, planOutcome, planOf}
 use Rattle.promises.specs.Accepted.{Accepted}

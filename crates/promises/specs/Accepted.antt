@@ -12,7 +12,7 @@ use Rattle.ring.specs.Reserves.{startOf, ringProcessors, wholes, processorsOf}
 use Rattle.ring.specs.Who.{firstOf}
 use Rattle.ring.specs.Serves.{RingServer}
 use Rattle.plan.specs.declared.plan.Plan.{Plan}
-use Rattle.plan.specs.Charge.{loadsOfSet, lossOf}
+use Rattle.rows.specs.Charge.{loadsOfSet, lossOf}
 use Rattle.plan.specs.Plan.{setPlacement, setReserves}
 use Rattle.plan.specs.Planner.{planOf}
 

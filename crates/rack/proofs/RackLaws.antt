@@ -16,8 +16,8 @@ use Rattle.refusals.specs.declared.Outcome.{Outcome}
 use Rattle.refusals.specs.declared.Outcome.the-variants.{Done, Refused}
 use Rattle.refusals.specs.declared.Written.{Written}
 use Rattle.ring.specs.declared.clock.Tick.{Tick}
-use Rattle.plan.specs.declared.question.WhoAnswer.{WhoAnswer}
-use Rattle.plan.specs.declared.question.PassAnswer.{PassAnswer}
+use Rattle.questions.specs.declared.question.WhoAnswer.{WhoAnswer}
+use Rattle.questions.specs.declared.question.PassAnswer.{PassAnswer}
 use Rattle.plantext.specs.Fit.{Fits}
 use Rattle.planfile.specs.Tool.{answered}
 use Rattle.planfile.specs.Asked.{whoIn, passIn}

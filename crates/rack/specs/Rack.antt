@@ -16,8 +16,8 @@ use Rattle.tasks.specs.Write.{leaves}
 use Rattle.verdict.specs.declared.answer.Reading.{Reading}
 use Rattle.verdict.specs.declared.answer.Verdict.{Verdict}
 use Rattle.verdict.specs.declared.answer.Verdict.the-variants.{Yes, No}
-use Rattle.plan.specs.declared.question.WhoAnswer.{WhoAnswer}
-use Rattle.plan.specs.declared.question.PassAnswer.{PassAnswer}
+use Rattle.questions.specs.declared.question.WhoAnswer.{WhoAnswer}
+use Rattle.questions.specs.declared.question.PassAnswer.{PassAnswer}
 use Rattle.plantext.specs.Fit.{fitted}
 use Rattle.planfile.specs.Tool.{answered}
 use Rattle.planfile.specs.Asked.{whoIn, passIn}

@@ -2,7 +2,7 @@
 -- Assumes nothing.
 use Prim.Native.Nat.{ℕ}
 use mathlib.Core.Path.{sym, _∙_, ap}
-use Rattle.plan.specs.Question.{allowed}
+use Rattle.questions.specs.Question.{allowed}
 use Rattle.planfile.proofs.ToolLaws.{pass-absent, pass-barred, pass-there}
 use borrow.Author.Tests.{not-true, not-false}
 use borrow.Author.Needs.{needs}

@@ -1,0 +1,187 @@
+-- What a checked plan is, and what the two questions answer about it, from the theorems of placement, sizing, verdict and ring.
+-- Assumes nothing.
+use Prim.Native.Nat.{ℕ, _+_, _-_, _≤_, _<_}
+use mathlib.Core.Path.{_≡_, refl, sym, ap, subst, _∙_}
+use mathlib.Core.Logic.{_⊎_, ⊎-elim}
+use mathlib.Core.Bool.{true, false, and-false}
+use mathlib.Core.List.{List}
+use native.Mathlib.Omega.{arith}
+use borrow.Author.Tests.{leb-true, ltb-false}
+use lib.Dec.{leb}
+use lib.ListN.{length, getD, take}
+use lib.Seq.{getD-take}
+use Rattle.laws.proofs.Tests.{and-left, and-right}
+use Rattle.refusals.specs.declared.Outcome.the-variants.{Done}
+use Rattle.demand.specs.Passes.{Passes}
+use Rattle.verdict.specs.Verdict.{verdictOf}
+use Rattle.verdict.specs.Reserve.{Smallest}
+use Rattle.verdict.specs.Claims.{Asked}
+use Rattle.verdict.proofs.Verdict.{verdict-means}
+use Rattle.servers.specs.Placement.{loadsIn, serversIn}
+use Rattle.servers.specs.Claims.{Parted}
+use Rattle.servers.proofs.ServerClaims.{each-in-one, every-passes, smallest-reserves}
+use Rattle.servers.proofs.LoadLaws.{every-in}
+use Rattle.ring.specs.declared.clock.Tick.{Tick}
+use Rattle.ring.specs.Who.{whoOf}
+use Rattle.ring.specs.Reserves.{ringProcessors, wholes, processorsOf}
+use Rattle.ring.proofs.Theorems.{whoServes, whoStays}
+use Rattle.tasks.specs.declared.set.TaskSet.{TaskSet}
+use Rattle.plan.specs.declared.plan.Plan.{Plan}
+use Rattle.questions.specs.declared.question.PassAnswer.{PassAnswer}
+use Rattle.rows.specs.Charge.{loadsOfSet, lossOf}
+use Rattle.plan.specs.Plan.{laidOut, setPlacement, setReserves, planMade}
+use Rattle.plan.specs.Planner.{needed, fullRow}
+use Rattle.questions.specs.Agrees.{makes}
+use Rattle.questions.specs.Question.{allowed, isProcessor, isServer, whoAnswer, whoRuns, doesPass}
+use Rattle.plan_claims.specs.Claims.{at, Placed, Reserved, Laid, AcceptedPlan, Accepted, WhoTells, WhoAnswers, PassTells, PassAnswers, AsksElse}
+use Rattle.plan.proofs.Made.{sound, slot-some, outcome-clear}
+use Rattle.questions.proofs.Checked.{OfSet, of-set, same-made, makes-done, placement-count}
+
+module _ (set : TaskSet) (plan : Plan) (full : length (set .tasks) ≡ 64) (e : makes set plan ≡ true) where
+  known : OfSet set plan
+  known = of-set set full plan e
+
+  asked : Asked (loadsOfSet set) (set .header .slot)
+  asked = record { sound = sound set full (known .clear); slot = slot-some set full (known .clear) }
+
+  parted : Parted (loadsOfSet set) (setPlacement set)
+  unfolding setPlacement
+  parted = each-in-one (loadsOfSet set) (set .header .slot) (lossOf (set .header))
+
+  counted : length (setPlacement set) ≡ set .count
+  counted = placement-count set full plan (known .clear)
+
+  server-at : (i : ℕ) → i < set .count → getD (setPlacement set) i 0 ≡ getD (plan .server) i 0
+  server-at i h = sym (ap (λ (l : List ℕ). getD l i 0) (known .placement)) ∙ getD-take (set .count) (plan .server) i 0 h
+
+  placed : Placed set plan
+  placed = record {
+    there = λ k h l.
+        let i : k - 1 < length (setPlacement set) = omega (arith, counted) in
+        let j : k - 1 < set .count = omega arith in
+        let w = parted .there (k - 1) i in
+        (omega (arith, server-at (k - 1) j, w .0), omega (arith, server-at (k - 1) j, w .1, known .servers));
+    none-empty = λ q h l.
+        let w = parted .none-empty q h (omega (arith, known .servers)) in
+        let i : w .0 < set .count = omega (arith, counted, w .1) in
+        let s : w .0 + 1 - 1 ≡ w .0 = omega arith in
+        (w .0 + 1, omega arith, omega arith, ap (λ (n : ℕ). getD (plan .server) n 0) s ∙ sym (server-at (w .0) i) ∙ w .2);
+  }
+
+  reserve-at : (q : ℕ) → 1 ≤ q → q ≤ plan .servers → getD (setReserves set) (q - 1) 0 ≡ at (plan .reserve) q
+  reserve-at q h l =
+      sym (ap (λ (r : List ℕ). getD r (q - 1) 0) (known .reserves)) ∙ getD-take (plan .servers) (plan .reserve) (q - 1) 0 (omega arith)
+
+  passes-whole : (q : ℕ) → 1 ≤ q → q ≤ serversIn (setPlacement set) →
+      Passes (loadsIn (loadsOfSet set) (setPlacement set) q) (set .header .slot) (lossOf (set .header)) (set .header .slot)
+  unfolding setPlacement
+  passes-whole = every-passes (loadsOfSet set) (set .header .slot) (lossOf (set .header)) asked
+
+  smallest-each : (q : ℕ) → 1 ≤ q → q ≤ serversIn (setPlacement set) →
+      Smallest (loadsIn (loadsOfSet set) (setPlacement set) q) (set .header .slot) (lossOf (set .header)) (getD (setReserves set) (q - 1) 0)
+  unfolding setPlacement setReserves
+  smallest-each = smallest-reserves (loadsOfSet set) (set .header .slot) (lossOf (set .header)) asked .1
+
+  reserved : Reserved set plan
+  reserved = record {
+    whole = λ q h l. rw (known .placement) (passes-whole q h (omega (arith, known .servers)));
+    smallest = λ q h l.
+        subst (λ (R : ℕ). Smallest (loadsIn (loadsOfSet set) (take (set .count) (plan .server)) q) (set .header .slot) (lossOf (set .header)) R) (reserve-at q h l)
+        (rw (known .placement) (smallest-each q h (omega (arith, known .servers))));
+  }
+
+  made-ring : planMade set .ring ≡ ringProcessors (set .header .slot) (setReserves set)
+  unfolding planMade laidOut
+  made-ring = refl
+
+  made-whole : planMade set .whole ≡ wholes (set .header .slot) (setReserves set)
+  unfolding planMade laidOut
+  made-whole = refl
+
+  on-board : needed set ≤ set .header .processors
+  unfolding fullRow
+  on-board = ltb-false (set .header .processors) (needed set) (outcome-clear set (makes-done set plan e) .1)
+
+  laid : Laid set plan
+  laid = record {
+    ring = same-made set full plan e .ring ∙ made-ring ∙ ap (ringProcessors (set .header .slot)) (sym (known .reserves));
+    whole = same-made set full plan e .whole ∙ made-whole ∙ ap (wholes (set .header .slot)) (sym (known .reserves));
+    within = omega (arith, known .processors, on-board);
+  }
+
+  accepted-plan : AcceptedPlan set plan
+  accepted-plan = record { placed = placed; reserved = reserved; laid = laid }
+
+  -- ---- who runs
+
+  module _ (p : ℕ) (t : isProcessor plan p ≡ true) where
+    who-is : (x : Tick) → whoRuns set plan p x ≡ whoAnswer (whoOf (set .header .slot) (setReserves set) p x)
+    unfolding whoRuns
+    who-is x = rw (e, t)
+
+    from-one : 1 ≤ p
+    unfolding isProcessor
+    from-one = leb-true 1 p (and-left (leb 1 p) (leb p (plan .ring + plan .whole)) t)
+
+    among : p ≤ processorsOf (set .header .slot) (setReserves set)
+    unfolding isProcessor needed
+    among = omega (arith, leb-true p (plan .ring + plan .whole) (and-right (leb 1 p) (leb p (plan .ring + plan .whole)) t), known .processors)
+
+    who-tells : (x : Tick) → WhoTells set plan p x
+    who-tells x =
+        let served = whoServes (set .header .slot) (setReserves set) p x from-one among in
+        let stays = whoStays (set .header .slot) (setReserves set) p x (asked .slot) from-one among in
+        record {
+          done = rw (who-is x);
+          names = rw (known .reserves, who-is x) (served .names);
+          idle = rw (known .reserves, who-is x) (served .idle);
+          some = rw (who-is x) (stays .some);
+          on = rw (who-is x) (λ j h. who-is _ ∙ ap whoAnswer (stays .on j h));
+        }
+
+  -- ---- does it pass
+
+  module _ (q R : ℕ) (s : isServer plan q ≡ true) (a : allowed (set .header .slot) (lossOf (set .header)) R ≡ true) where
+    pass-is : doesPass set plan q R ≡ record { outcome = Done; verdict = verdictOf (loadsIn (loadsOfSet set) (setPlacement set) q) (set .header .slot) (lossOf (set .header)) R }
+    unfolding doesPass
+    pass-is = rw (e, s, a)
+
+    own-asked : Asked (loadsIn (loadsOfSet set) (setPlacement set) q) (set .header .slot)
+    own-asked = record { sound = every-in _ (loadsOfSet set) (setPlacement set) q (asked .sound); slot = asked .slot }
+
+    pass-tells : PassTells set plan q R
+    pass-tells =
+        let v = verdict-means (loadsIn (loadsOfSet set) (setPlacement set) q) (set .header .slot) (lossOf (set .header)) R own-asked in
+        record {
+          done = ap (λ (x : PassAnswer). x .outcome) pass-is;
+          yes-means = rw (known .placement, pass-is) (v .0);
+          no-means = rw (known .placement, pass-is) (v .1);
+        }
+
+-- what a checked plan is
+pub accepted : Accepted
+accepted set plan full e = accepted-plan set plan full e
+
+-- who runs
+pub who-answers : WhoAnswers
+who-answers set plan p x full e t = who-tells set plan full e p t x
+
+-- does it pass
+pub pass-answers : PassAnswers
+pass-answers set plan q R full e s a = pass-tells set plan full e q R s a
+
+-- ---- otherwise
+
+-- both questions refuse where something is not there
+pub asks-else : AsksElse
+unfolding whoRuns doesPass
+asks-else = record {
+  who = λ set plan p x h.
+      ⊎-elim (λ (e : makes set plan ≡ false). rw e) (λ (e : isProcessor plan p ≡ false). rw (e, and-false (makes set plan))) h;
+  pass = λ set plan q R h.
+      ⊎-elim (λ (e : makes set plan ≡ false). rw e)
+      (λ (w : (isServer plan q ≡ false) ⊎ (allowed (set .header .slot) (lossOf (set .header)) R ≡ false)).
+      ⊎-elim (λ (e : isServer plan q ≡ false). rw (e, and-false (makes set plan)))
+      (λ (e : allowed (set .header .slot) (lossOf (set .header)) R ≡ false). rw (e, and-false (isServer plan q), and-false (makes set plan))) w)
+      h;
+}

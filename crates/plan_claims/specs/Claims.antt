@@ -1,0 +1,224 @@
+-- What is promised of planning, of the check of a plan and of the two questions, each promise as a type. Exactly, RoomLaws
+-- and Promises of proofs/ prove them. Document 01, "Refusal numbers and their order" and "From tasks to servers to ring".
+use Prim.Native.Nat.{ℕ, _+_, _-_, _≤_, _<_}
+use mathlib.Core.Path.{_≡_}
+use mathlib.Core.Logic.{_↔_, _⊎_}
+use mathlib.Core.Bool.{Bool, true, false}
+use mathlib.Core.List.{List}
+use lib.ListN.{length, getD, take}
+use Rattle.refusals.specs.declared.Refusal.{Refusal}
+use Rattle.refusals.specs.declared.Refusal.the-variants.{Board, Range, Slot, Tight, Horizon, Full, Ask}
+use Rattle.refusals.specs.declared.Outcome.the-variants.{Done, Refused}
+use Rattle.demand.specs.Passes.{Passes}
+use Rattle.verdict.specs.declared.answer.Verdict.the-variants.{Yes, No}
+use Rattle.verdict.specs.Reserve.{Smallest}
+use Rattle.verdict.specs.Claims.{FailsFirst}
+use Rattle.servers.specs.Placement.{loadsIn}
+use Rattle.ring.specs.declared.clock.Tick.{Tick}
+use Rattle.ring.specs.Reserves.{ringProcessors, wholes}
+use Rattle.ring.specs.Serves.{Serves}
+use Rattle.ring.specs.Held.{later}
+use Rattle.tasks.specs.declared.set.Task.{Task}
+use Rattle.tasks.specs.declared.set.TaskSet.{TaskSet}
+use Rattle.tasks.specs.Set.{members, zeroTask}
+use Rattle.tasks.specs.Rows.{boardRow, rangeRow, askRow}
+use Rattle.plan.specs.declared.plan.Plan.{Plan}
+use Rattle.plan.specs.declared.planner.PlanAnswer.{PlanAnswer}
+use Rattle.questions.specs.declared.question.WhoAnswer.{WhoAnswer}
+use Rattle.questions.specs.declared.question.PassAnswer.{PassAnswer}
+use Rattle.rows.specs.Charge.{loadsOfSet, lossOf}
+use Rattle.rows.specs.Rows.{slotRow, tightRow, horizonRow}
+use Rattle.plan.specs.Plan.{planMade, zeroPlan}
+use Rattle.plan.specs.Planner.{needed, fullRow, planOf}
+use Rattle.questions.specs.Agrees.{SamePlan, makes}
+use Rattle.questions.specs.Question.{allowed, isProcessor, isServer, whoRuns, doesPass}
+
+-- ---- each refusal exactly when its row says
+
+-- the rows of the planner
+pub data PlannerRow : Type 0 where
+  ASK BOARD RANGE SLOT TIGHT HORIZON FULL : PlannerRow
+
+-- the order in which they are tried: 11 first, then 5 to 10
+abbrev pub turn : PlannerRow → ℕ
+turn ASK = 0
+turn BOARD = 1
+turn RANGE = 2
+turn SLOT = 3
+turn TIGHT = 4
+turn HORIZON = 5
+turn FULL = 6
+
+-- the refusal of a row with place k; those whose place is 0 have no other
+abbrev pub refusalOf : PlannerRow → ℕ → Refusal
+refusalOf ASK k = Ask
+refusalOf BOARD k = Board
+refusalOf RANGE k = Range k
+refusalOf SLOT k = Slot k
+refusalOf TIGHT k = Tight k
+refusalOf HORIZON k = Horizon
+refusalOf FULL k = Full k
+
+-- task k, from 1, breaks a row and no task before it does
+pub record FirstBreaks (row : Task → Bool) (ts : List Task) (k : ℕ) : Type 0 where
+  pub counted : 1 ≤ k
+  pub within : k ≤ length ts
+  pub holds : row (getD ts (k - 1) zeroTask) ≡ true
+  pub earlier : (j : ℕ) → 1 ≤ j → j < k → row (getD ts (j - 1) zeroTask) ≡ false
+
+-- no task breaks a row
+abbrev pub NoneBreaks : (row : Task → Bool) (ts : List Task) → Type 0
+NoneBreaks row ts = (j : ℕ) → 1 ≤ j → j ≤ length ts → row (getD ts (j - 1) zeroTask) ≡ false
+
+-- a row holds with place k, where it has a place: the first task that breaks it, or the sum of processors
+abbrev pub HoldsAt : PlannerRow → TaskSet → ℕ → Type 0
+HoldsAt ASK set k = askRow set ≡ true
+HoldsAt BOARD set k = boardRow (set .header) ≡ true
+HoldsAt RANGE set k = FirstBreaks rangeRow (members set) k
+HoldsAt SLOT set k = FirstBreaks (slotRow (set .header)) (members set) k
+HoldsAt TIGHT set k = FirstBreaks (tightRow (set .header)) (members set) k
+HoldsAt HORIZON set k = horizonRow set ≡ true
+HoldsAt FULL set k = (fullRow set ≡ true) × (k ≡ needed set)
+
+-- a row does not hold
+abbrev pub NotHeld : PlannerRow → TaskSet → Type 0
+NotHeld ASK set = askRow set ≡ false
+NotHeld BOARD set = boardRow (set .header) ≡ false
+NotHeld RANGE set = NoneBreaks rangeRow (members set)
+NotHeld SLOT set = NoneBreaks (slotRow (set .header)) (members set)
+NotHeld TIGHT set = NoneBreaks (tightRow (set .header)) (members set)
+NotHeld HORIZON set = horizonRow set ≡ false
+NotHeld FULL set = fullRow set ≡ false
+
+-- a row holds with place k, and no row before it does
+pub record FirstHolds (row : PlannerRow) (set : TaskSet) (k : ℕ) : Type 0 where
+  pub holds : HoldsAt row set k
+  pub earlier : (other : PlannerRow) → turn other < turn row → NotHeld other set
+
+-- The planner refuses by a row with a place exactly when that row holds there and no row before it does.
+abbrev pub PlanExactly : Type 0
+PlanExactly =
+    (row : PlannerRow) (set : TaskSet) (k : ℕ) → (planOf set .outcome ≡ Refused (refusalOf row k)) ↔ FirstHolds row set k
+
+-- It gives a plan exactly when no row holds, and refuses by no other row.
+abbrev pub PlanDone : Type 0
+PlanDone = (set : TaskSet) → (planOf set .outcome ≡ Done) ↔ ((row : PlannerRow) → NotHeld row set)
+
+abbrev pub PlanOnly : Type 0
+PlanOnly =
+    (set : TaskSet) (r : Refusal) → planOf set .outcome ≡ Refused r → (row : PlannerRow) × (k : ℕ) × (r ≡ refusalOf row k)
+
+-- The plan is the set's own where the planner is done, and the all-zero plan where it refuses.
+pub record PlanGiven (set : TaskSet) : Type 0 where
+  pub made : planOf set .outcome ≡ Done → planOf set .plan ≡ planMade set
+  pub zero : (r : Refusal) → planOf set .outcome ≡ Refused r → planOf set .plan ≡ zeroPlan
+
+-- ---- the contracts determine the answers
+
+-- Two answers that satisfy a contract coincide.
+pub record PlanDetermined : Type 0 where
+  pub planner : (set : TaskSet) (a b : PlanAnswer) → a ≡ planOf set → b ≡ planOf set → a ≡ b
+  pub check : (set : TaskSet) (plan : Plan) (a b : Bool) → a ≡ makes set plan → b ≡ makes set plan → a ≡ b
+  pub who : (set : TaskSet) (plan : Plan) (p : ℕ) (x : Tick) (a b : WhoAnswer) → a ≡ whoRuns set plan p x → b ≡ whoRuns set plan p x → a ≡ b
+  pub pass : (set : TaskSet) (plan : Plan) (q R : ℕ) (a b : PassAnswer) → a ≡ doesPass set plan q R → b ≡ doesPass set plan q R → a ≡ b
+
+-- ---- unused room is not looked at
+
+-- two sets that differ in unused room alone
+pub record SameSet (a b : TaskSet) : Type 0 where
+  pub header : a .header ≡ b .header
+  pub count : a .count ≡ b .count
+  pub tasks : members a ≡ members b
+
+-- they get the same answers
+pub record SetRoomIgnored (a b : TaskSet) : Type 0 where
+  pub planner : planOf a ≡ planOf b
+  pub check : (plan : Plan) → makes a plan ≡ makes b plan
+  pub who : (plan : Plan) (p : ℕ) (x : Tick) → whoRuns a plan p x ≡ whoRuns b plan p x
+  pub pass : (plan : Plan) (q R : ℕ) → doesPass a plan q R ≡ doesPass b plan q R
+
+pub record PlanRoomIgnored (set : TaskSet) (a b : Plan) : Type 0 where
+  pub check : makes set a ≡ makes set b
+  pub who : (p : ℕ) (x : Tick) → whoRuns set a p x ≡ whoRuns set b p x
+  pub pass : (q R : ℕ) → doesPass set a q R ≡ doesPass set b q R
+
+pub record RoomIgnored : Type 0 where
+  pub of-sets : (a b : TaskSet) → SameSet a b → SetRoomIgnored a b
+  pub of-plans : (set : TaskSet) (a b : Plan) → SamePlan (set .count) a b → PlanRoomIgnored set a b
+
+-- The planner makes its own plan, and no plan that differs from it in what is used.
+pub record MakesOwn (set : TaskSet) : Type 0 where
+  pub own : planOf set .outcome ≡ Done → makes set (planOf set .plan) ≡ true
+  pub other : (plan : Plan) → makes set plan ≡ true → (planOf set .outcome ≡ Done) × SamePlan (set .count) plan (planOf set .plan)
+
+-- ---- what an accepted plan is
+
+-- what stands at place k, from 1, of a row
+abbrev pub at : List ℕ → ℕ → ℕ
+at row k = getD row (k - 1) 0
+
+-- every task is in exactly one server, and no server is empty
+pub record Placed (set : TaskSet) (plan : Plan) : Type 0 where
+  pub there : (k : ℕ) → 1 ≤ k → k ≤ set .count → (1 ≤ at (plan .server) k) × (at (plan .server) k ≤ plan .servers)
+  pub none-empty : (q : ℕ) → 1 ≤ q → q ≤ plan .servers → (k : ℕ) × (1 ≤ k) × (k ≤ set .count) × (at (plan .server) k ≡ q)
+
+-- every server passes with R = S, and its reserve is the smallest allowed one with which it passes
+pub record Reserved (set : TaskSet) (plan : Plan) : Type 0 where
+  pub whole : (q : ℕ) → 1 ≤ q → q ≤ plan .servers →
+      Passes (loadsIn (loadsOfSet set) (take (set .count) (plan .server)) q) (set .header .slot) (lossOf (set .header)) (set .header .slot)
+  pub smallest : (q : ℕ) → 1 ≤ q → q ≤ plan .servers →
+      Smallest (loadsIn (loadsOfSet set) (take (set .count) (plan .server)) q) (set .header .slot) (lossOf (set .header)) (at (plan .reserve) q)
+
+-- the processors are those that the reserves need, and no more than the board has
+pub record Laid (set : TaskSet) (plan : Plan) : Type 0 where
+  pub ring : plan .ring ≡ ringProcessors (set .header .slot) (take (plan .servers) (plan .reserve))
+  pub whole : plan .whole ≡ wholes (set .header .slot) (take (plan .servers) (plan .reserve))
+  pub within : plan .ring + plan .whole ≤ set .header .processors
+
+pub record AcceptedPlan (set : TaskSet) (plan : Plan) : Type 0 where
+  pub placed : Placed set plan
+  pub reserved : Reserved set plan
+  pub laid : Laid set plan
+
+-- A plan that the planner gives, or that is handed in and checked, is all of this. A set has room for 64 tasks, by its type.
+abbrev pub Accepted : Type 0
+Accepted =
+    (set : TaskSet) (plan : Plan) → length (set .tasks) ≡ 64 → makes set plan ≡ true → AcceptedPlan set plan
+
+-- ---- what the questions answer
+
+-- who runs: the server that the processor serves, or 0; the ticks left, this one included, and so on from tick to tick
+pub record WhoTells (set : TaskSet) (plan : Plan) (p : ℕ) (x : Tick) : Type 0 where
+  pub done : whoRuns set plan p x .outcome ≡ Done
+  pub names : (q : ℕ) → ((1 ≤ q) × (whoRuns set plan p x .server ≡ q)) ↔ Serves (set .header .slot) (take (plan .servers) (plan .reserve)) p q x
+  pub idle : (whoRuns set plan p x .server ≡ 0) ↔ ((q : ℕ) → Serves (set .header .slot) (take (plan .servers) (plan .reserve)) p q x → ⊥)
+  pub some : 1 ≤ whoRuns set plan p x .left
+  pub on : (j : ℕ) → j < whoRuns set plan p x .left →
+      whoRuns set plan p (later x j) ≡ record { outcome = Done; server = whoRuns set plan p x .server; left = whoRuns set plan p x .left - j }
+
+abbrev pub WhoAnswers : Type 0
+WhoAnswers =
+    (set : TaskSet) (plan : Plan) (p : ℕ) (x : Tick) → length (set .tasks) ≡ 64 → makes set plan ≡ true → isProcessor plan p ≡ true →
+    WhoTells set plan p x
+
+-- does it pass: yes with three zeros exactly when demand never exceeds supply; no exactly with the smallest failing length,
+-- the demand and the supply there
+pub record PassTells (set : TaskSet) (plan : Plan) (q R : ℕ) : Type 0 where
+  pub done : doesPass set plan q R .outcome ≡ Done
+  pub yes-means : (doesPass set plan q R .verdict ≡ Yes (record { length = 0; demand = 0; supply = 0 })) ↔
+      Passes (loadsIn (loadsOfSet set) (take (set .count) (plan .server)) q) (set .header .slot) (lossOf (set .header)) R
+  pub no-means : (t w s : ℕ) → (doesPass set plan q R .verdict ≡ No (record { length = t; demand = w; supply = s })) ↔
+      FailsFirst (loadsIn (loadsOfSet set) (take (set .count) (plan .server)) q) (set .header .slot) (lossOf (set .header)) R t w s
+
+abbrev pub PassAnswers : Type 0
+PassAnswers =
+    (set : TaskSet) (plan : Plan) (q R : ℕ) → length (set .tasks) ≡ 64 → makes set plan ≡ true → isServer plan q ≡ true →
+    allowed (set .header .slot) (lossOf (set .header)) R ≡ true → PassTells set plan q R
+
+-- Both answer 11, and zeros, where the plan is not the planner's of the set, or what is named is not there or not allowed.
+pub record AsksElse : Type 0 where
+  pub who : (set : TaskSet) (plan : Plan) (p : ℕ) (x : Tick) →
+      (makes set plan ≡ false) ⊎ (isProcessor plan p ≡ false) → whoRuns set plan p x ≡ record { outcome = Refused Ask; server = 0; left = 0 }
+  pub pass : (set : TaskSet) (plan : Plan) (q R : ℕ) →
+      (makes set plan ≡ false) ⊎ ((isServer plan q ≡ false) ⊎ (allowed (set .header .slot) (lossOf (set .header)) R ≡ false)) →
+      doesPass set plan q R ≡ record { outcome = Refused Ask; verdict = Yes (record { length = 0; demand = 0; supply = 0 }) }

@@ -1,0 +1,4 @@
+pub mod Fronts
+pub mod AgreeLaws
+pub mod Checked
+pub mod Judging

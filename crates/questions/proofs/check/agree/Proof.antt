@@ -1,0 +1,49 @@
+-- `check::agree` meets its contract: the parts are compared in the definition's order.
+-- Assumes nothing.
+use borrow.Author.Needs.{needs}
+use borrow.Author.Tests.{not-true, not-false}
+use mathlib.Core.Path.{sym, _∙_}
+use Rattle.questions.specs.Agrees.{agrees}
+use Rattle.questions.proofs.check.agree.Statement.{statement}
+use Rattle.questions.proofs.check.agree.Tie as tie
+
+same-figures-requires : tie.Need-same-figures-requires
+same-figures-requires c κs = search needs
+
+returns : tie.Need-returns
+unfolding agrees
+returns c = rw (sym (c .before .same-figures .ensures) ∙ not-true _ (c .if1 .taken))
+
+same-servers-requires : tie.Need-same-servers-requires
+same-servers-requires c κs = search needs
+
+returns-2 : tie.Need-returns-2
+unfolding agrees
+returns-2 c = rw (sym (c .before .before .before .same-figures .ensures) ∙ not-false _ (c .before .before .if1 .left), sym (c .before .same-servers .ensures) ∙ not-true _ (c .if2 .taken))
+
+same-front-requires : tie.Need-same-front-requires
+same-front-requires c κs = search needs
+
+returns-3 : tie.Need-returns-3
+unfolding agrees
+returns-3 c = rw (sym (c .before .before .before .before .before .before .before .before .before .before .before .same-figures .ensures) ∙ not-false _ (c .before .before .before .before .before .before .before .before .before .before .if1 .left), sym (c .before .before .before .before .before .before .before .before .before .same-servers .ensures) ∙ not-false _ (c .before .before .before .before .before .before .before .before .if2 .left), sym (c .before .same-front .ensures) ∙ not-true _ (c .if3 .taken))
+
+same-processors-requires : tie.Need-same-processors-requires
+same-processors-requires c κs = search needs
+
+returns-4 : tie.Need-returns-4
+unfolding agrees
+returns-4 c = rw (sym (c .before .before .before .before .before .before .before .before .before .before .before .before .same-figures .ensures) ∙ not-false _ (c .before .before .before .before .before .before .before .before .before .before .before .if1 .left), sym (c .before .before .before .before .before .before .before .before .before .before .same-servers .ensures) ∙ not-false _ (c .before .before .before .before .before .before .before .before .before .if2 .left), sym (c .before .before .same-front .ensures) ∙ not-false _ (c .before .if3 .left)) (c .same-processors .ensures)
+
+pub agree-spec : {M : Type 1} → statement M
+agree-spec =
+    tie.close
+    (tie.spec
+    same-figures-requires
+    returns
+    same-servers-requires
+    returns-2
+    same-front-requires
+    returns-3
+    same-processors-requires
+    returns-4)

@@ -1,0 +1,55 @@
+-- `check::makes_plan` meets its contract: the planner's own plan is made and compared.
+-- Assumes nothing.
+use borrow.Author.Needs.{needs}
+use mathlib.Core.Path.{_≡_, sym, ap, _∙_}
+use lib.ListN.{length, length-map}
+use native.Mathlib.Omega.{arith}
+use Rattle.refusals.specs.declared.Outcome.the-variants.{Done}
+use Rattle.plan.specs.declared.plan.Plan.{Plan}
+use Rattle.plan.specs.declared.planner.PlanAnswer.{PlanAnswer}
+use Rattle.plan.specs.Plan.{planMade}
+use Rattle.plan.specs.Planner.{planOutcome}
+use Rattle.plan.proofs.Made.{count-most, made-servers, needed-few, made-sum, plan-outcome, plan-is, outcome-clear}
+use Rattle.questions.proofs.Checked.{makes-refused, makes-by}
+use Rattle.questions.proofs.check.makes_plan.Statement.{statement}
+use Rattle.questions.proofs.check.makes_plan.Tie as tie
+
+-- a set's tasks have 64 places
+full : (c : tie.Start) → length (c .args .set .tasks) ≡ 64
+full c = sym (length-map (c .args .set .tasks) _) ∙ c .good .0 .1 .1 .1 .1 .0 .1 .0 .1
+
+-- where the planner is done, its plan is the set's
+done : (c : tie.After-enum-told) → planOutcome (c .before .before .before .args .set) ≡ Done
+done c =
+    sym (plan-outcome (c .before .before .before .args .set)) ∙ sym (ap (λ (a : PlanAnswer). a .outcome) (c .before .before .make .ensures)) ∙ c .enum-told .given .1
+
+made : (c : tie.After-enum-told) → c .before .before .make .result .plan ≡ planMade (c .before .before .before .args .set)
+made c = ap (λ (a : PlanAnswer). a .plan) (c .before .before .make .ensures) ∙ plan-is (c .before .before .before .args .set) (done c)
+
+make-requires : tie.Need-make-requires
+make-requires c κs = search needs
+
+enum-told : tie.Need-enum-told
+enum-told c = search needs
+
+enum-told-2 : tie.Need-enum-told-2
+enum-told-2 c = search needs
+
+returns : tie.Need-returns
+returns c = makes-refused _ _ (sym (ap (λ (a : PlanAnswer). a .outcome) (c .before .before .make .ensures)) ∙ c .enum-told2 .given .1)
+
+agree-requires : tie.Need-agree-requires
+agree-requires c κs =
+    let s = c .before .before .before in
+    let clear = outcome-clear (s .args .set) (done c) .0 in (
+      omega (arith, count-most (s .args .set) (full s) clear),
+      omega (arith, ap (λ (p : Plan). p .servers) (made c), made-servers (s .args .set) (full s) clear),
+      omega (arith, made-sum (s .args .set) (made c), needed-few (s .args .set) (full s) clear),
+    )
+
+returns-2 : tie.Need-returns-2
+returns-2 c = makes-by (c .before .before .before .before .args .set) (c .before .before .before .before .args .plan) (done (c .before)) (made (c .before)) (c .agree .ensures)
+
+pub makes-plan-spec : {M : Type 1} → statement M
+makes-plan-spec =
+    tie.close (tie.spec make-requires enum-told enum-told-2 returns agree-requires returns-2)

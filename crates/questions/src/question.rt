@@ -1,0 +1,160 @@
+// The two questions about a set and its plan: who runs on a processor at a tick, and does a server pass with a reserve.
+// What they mean stands in specs/Question.antt. Under each a function for a plan that is checked already.
+use crate::check::makes_plan;
+use plan::plan::Plan;
+use refusals::Outcome;
+use refusals::Refusal;
+use ring::clock::Tick;
+use ring::cover::Stand;
+use rows::charge;
+use servers::members::gather;
+use servers::members::own_horizon;
+use tasks::set::TaskSet;
+use verdict::answer::Reading;
+use verdict::answer::Verdict;
+ghost use mathlib.Core.Path.{_≡_};
+ghost use mathlib.Core.Bool.{true};
+ghost use lib.ListN.{take};
+ghost use Rattle.ring.specs.Who.{whoOf};
+ghost use Rattle.servers.specs.Placement.{loadsIn};
+ghost use Rattle.verdict.specs.Verdict.{verdictOf};
+ghost use Rattle.rows.specs.Charge.{loadsOfSet, lossOf};
+ghost use Rattle.plan.specs.Plan.{setPlacement, setReserves};
+ghost use Rattle.questions.specs.Agrees.{makes};
+ghost use Prim.Native.Nat.{_+_, _≤_};
+ghost use Rattle.questions.specs.Question.{isProcessor, isServer, allowed, whoRuns, doesPass, Standing};
+
+pub struct WhoAnswer {
+    pub outcome: Outcome,
+    pub server: u64,
+    pub left: u64,
+}
+
+// A refused question holds a yes of zeros, which says nothing.
+pub struct PassAnswer {
+    pub outcome: Outcome,
+    pub verdict: Verdict,
+}
+
+// The processors that are there are 1 to r + whole.
+pub fn is_processor(plan: Plan, processor: u64) -> bool
+    requires { ⌜ plan .ring + plan .whole ≤ 64 ⌝ }
+    ensures { λ r. ⌜ r ≡ isProcessor plan processor ⌝ }
+{
+    if processor < 1 {
+        return false;
+    }
+    processor <= plan.ring + plan.whole
+}
+
+// Who runs, by a plan that is checked already.
+pub fn who_stands(plan: Plan, processor: u64, tick: Tick) -> Stand
+    requires { ⌜ Standing plan processor ⌝ }
+    ensures { λ r. ⌜ r ≡ whoOf (plan .slot) (take (plan .servers) (plan .reserve)) processor tick ⌝ }
+{
+    let n = plan.servers as usize;
+    ring::who::who(&plan.reserve, n, plan.slot, processor, tick)
+}
+
+pub fn who(set: TaskSet, plan: Plan, processor: u64, tick: Tick) -> WhoAnswer
+    ensures { λ r. ⌜ r ≡ whoRuns set plan processor tick ⌝ }
+{
+    let refused = WhoAnswer {
+        outcome: Outcome::Refused(Refusal::Ask),
+        server: 0,
+        left: 0,
+    };
+    if !makes_plan(set, plan) {
+        return refused;
+    }
+    if !is_processor(plan, processor) {
+        return refused;
+    }
+    let stand = who_stands(plan, processor, tick);
+    WhoAnswer {
+        outcome: Outcome::Done,
+        server: stand.server,
+        left: stand.left,
+    }
+}
+
+// L + 1 ≤ R ≤ S − 1, or R = S.
+pub fn is_allowed(slot: u64, loss: u64, reserve: u64) -> bool
+    ensures { λ r. ⌜ r ≡ allowed slot loss reserve ⌝ }
+{
+    if reserve <= loss {
+        return reserve == slot;
+    }
+    if reserve < slot {
+        return true;
+    }
+    reserve == slot
+}
+
+pub fn is_server(plan: Plan, server: u64) -> bool
+    ensures { λ r. ⌜ r ≡ isServer plan server ⌝ }
+{
+    if server < 1 {
+        return false;
+    }
+    server <= plan.servers
+}
+
+// Does a server of a plan that is checked already pass with an allowed reserve.
+pub fn pass_judged(set: TaskSet, plan: Plan, server: u64, reserve: u64) -> Verdict
+    requires { ⌜ (makes set plan ≡ true) × (allowed (set .header .slot) (lossOf (set .header)) reserve ≡ true) ⌝ }
+    ensures { λ r. ⌜ r ≡ verdictOf (loadsIn (loadsOfSet set) (setPlacement set) server) (set .header .slot) (lossOf (set .header)) reserve ⌝ }
+{
+    let header = set.header;
+    let slot = header.slot as u64;
+    let loads = charge::loads(set);
+    let n = loads.count;
+    let own = gather(
+        &loads.costs,
+        &loads.deadlines,
+        &loads.periods,
+        &plan.server,
+        n,
+        server,
+    );
+    let horizon = own_horizon(own, slot);
+    let k = own.count;
+    let loss = charge::loss(header);
+    verdict::judge::verdict(
+        &own.costs,
+        &own.deadlines,
+        &own.periods,
+        k,
+        slot,
+        loss,
+        reserve,
+        horizon,
+    )
+}
+
+pub fn pass(set: TaskSet, plan: Plan, server: u64, reserve: u64) -> PassAnswer
+    ensures { λ r. ⌜ r ≡ doesPass set plan server reserve ⌝ }
+{
+    let refused = PassAnswer {
+        outcome: Outcome::Refused(Refusal::Ask),
+        verdict: Verdict::Yes(Reading {
+            length: 0,
+            demand: 0,
+            supply: 0,
+        }),
+    };
+    if !makes_plan(set, plan) {
+        return refused;
+    }
+    if !is_server(plan, server) {
+        return refused;
+    }
+    let header = set.header;
+    if !is_allowed(header.slot as u64, charge::loss(header), reserve) {
+        return refused;
+    }
+    PassAnswer {
+        outcome: Outcome::Done,
+        verdict: pass_judged(set, plan, server, reserve),
+    }
+}

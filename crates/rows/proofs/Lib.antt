@@ -1,0 +1,4 @@
+pub mod Outcomes
+pub mod Searches
+pub mod Charges
+pub mod Clears

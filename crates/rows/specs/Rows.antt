@@ -1,0 +1,58 @@
+-- Rows 7 to 9 of the refusals, each by its own test, and the first of rows 5 to 9 that holds of a set.
+-- Document 01, "Refusal numbers and their order".
+use Prim.Native.Nat.{ℕ, _≤_}
+use mathlib.Core.List.{map}
+use mathlib.Core.Path.{_≡_}
+use mathlib.Core.Bool.{Bool, false, _||_}
+use lib.Dec.{leb, ltb}
+use Rattle.refusals.specs.declared.Refusal.the-variants.{Slot, Tight, Horizon}
+use Rattle.refusals.specs.declared.Outcome.{Outcome}
+use Rattle.wholes.specs.Multiple.{leastMultipleOf}
+use Rattle.tasks.specs.declared.set.Header.{Header}
+use Rattle.tasks.specs.declared.set.Task.{Task}
+use Rattle.tasks.specs.declared.set.TaskSet.{TaskSet}
+use Rattle.tasks.specs.Set.{mostTasks, members}
+use Rattle.tasks.specs.Rows.{firstOf, when, firstTask, atTask, boardRow, rangeRow, figuresOutcome}
+use Rattle.rows.specs.Charge.{loadOf}
+
+-- 7 SLOT: a task has D < S
+unfoldable pub slotRow : Header → Task → Bool
+slotRow h t = ltb (t .deadline) (h .slot)
+
+-- 8 TIGHT: a task has RelJ ≥ D or c > d
+unfoldable pub tightRow : Header → Task → Bool
+tightRow h t = leb (t .deadline) (h .relj) || ltb (loadOf h t .deadline) (loadOf h t .cost)
+
+-- the horizon H: the least common multiple of S and every T of the file
+unfoldable pub horizonOf : TaskSet → ℕ
+horizonOf set = leastMultipleOf (set .header .slot) (map (λ (t : Task). t .period) (members set))
+
+-- H is at most 10,000,000
+abbrev pub longestHorizon : ℕ
+longestHorizon = 10000000
+
+-- 9 HORIZON: H > 10,000,000
+unfoldable pub horizonRow : TaskSet → Bool
+horizonRow set = ltb longestHorizon (horizonOf set)
+
+-- rows 5 to 9 in order, each over all tasks before the next
+unfoldable pub chargedOutcome : TaskSet → Outcome
+chargedOutcome set =
+    firstOf (figuresOutcome set)
+    (firstOf (atTask Slot (firstTask (slotRow (set .header)) (members set)))
+    (firstOf (atTask Tight (firstTask (tightRow (set .header)) (members set))) (when (horizonRow set) Horizon)))
+
+-- what charging a set and its horizon ask: at most 64 tasks, and rows 5, 6 and 8 clear
+pub record Chargeable (set : TaskSet) : Type 0 where
+  pub few : set .count ≤ mostTasks
+  pub board : boardRow (set .header) ≡ false
+  pub range : firstTask rangeRow (members set) ≡ 0
+  pub tight : firstTask (tightRow (set .header)) (members set) ≡ 0
+
+-- rows 5 to 9 are clear
+pub record RowsClear (set : TaskSet) : Type 0 where
+  pub board : boardRow (set .header) ≡ false
+  pub range : firstTask rangeRow (members set) ≡ 0
+  pub slot : firstTask (slotRow (set .header)) (members set) ≡ 0
+  pub tight : firstTask (tightRow (set .header)) (members set) ≡ 0
+  pub horizon : horizonRow set ≡ false
