@@ -14,9 +14,9 @@ use Rattle.servers.specs.Members.{held}
 use Rattle.servers.specs.Placement.{loadsIn}
 use Rattle.servers.specs.declared.Servers.{Servers}
 use Rattle.servers.specs.declared.members.Members.{Members}
-use Rattle.ring.specs.Laid.{Laid}
+use Rattle.ring.specs.Slotted.{SlottedFirst}
 use Rattle.ring.specs.Reserves.{ringTicks, wholes, ringProcessors, processorsOf}
-use Rattle.ring.specs.Who.{firstOf}
+use Rattle.ring.specs.Who.{firstReserve}
 use Rattle.ring.proofs.Starts.{wholes-below, ring-holds, taken-length, length-room}
 use Rattle.plan.specs.declared.plan.Plan.{Plan}
 use Rattle.plan.specs.Plan.{upTo, ringStart, laidOut}
@@ -40,7 +40,7 @@ processors-few S rs h =
     let t : ringTicks S rs ≤ (length rs - wholes S rs) * S = omega (arith, ring-and-whole S rs, ap (λ (n : ℕ). n * S) e) in
     omega (arith, e, ceiling-least (ringTicks S rs) S h .least (length rs - wholes S rs) t)
 
-module _ {S n : ℕ} {rs : List ℕ} (laid : Laid S rs n) {r : ℕ} (e : r ≡ ringProcessors S (take n rs)) where
+module _ {S n : ℕ} {rs : List ℕ} (laid : SlottedFirst S rs n) {r : ℕ} (e : r ≡ ringProcessors S (take n rs)) where
   -- the ring's length has room
   pub ring-fits : r * S < 2 ^ 41
   ring-fits = rw e (length-room laid)
@@ -91,13 +91,13 @@ module _ {m : Members} {sv : Servers} {S : ℕ} (ok : Layable m sv S) where
       t ≡ ringTicks S (take (sv .count) (sv .reserve)) →
       st ≡ row (upTo (ringStart S (take (sv .count) (sv .reserve))) (sv .count)) →
       ta ≡ row (upTo (λ (q : ℕ). length (loadsIn (held m) (take (m .count) (sv .server)) q)) (sv .count)) →
-      fi ≡ row (upTo (λ (p : ℕ). firstOf S (take (sv .count) (sv .reserve)) p .server) (r + w)) →
-      du ≡ row (upTo (λ (p : ℕ). firstOf S (take (sv .count) (sv .reserve)) p .left) (r + w)) →
+      fi ≡ row (upTo (λ (p : ℕ). firstReserve S (take (sv .count) (sv .reserve)) p .server) (r + w)) →
+      du ≡ row (upTo (λ (p : ℕ). firstReserve S (take (sv .count) (sv .reserve)) p .left) (r + w)) →
       plan-of w r (sv .count) S (r * S - t) (sv .reserve) st ta (sv .server) fi du ≡ laidOut S (held m) (take (m .count) (sv .server)) (take (sv .count) (sv .reserve))
   unfolding laidOut
   laid-made {w} {r} {t} p1 p2 p3 p4 p5 p6 p7 =
       let sum : r + w ≡ processorsOf S reserves = rw (p1, p2) in
       same-plan S p1 p2 counted (rw (p2, p3)) (sym (ok .reserve-room)) (p4 ∙ ap (λ (n : ℕ). row (upTo (ringStart S reserves) n)) counted)
       (p5 ∙ ap (λ (n : ℕ). row (upTo (λ (q : ℕ). length (loadsIn (held m) placement q)) n)) counted) (sym (ok .server-room))
-      (p6 ∙ ap (λ (n : ℕ). row (upTo (λ (p : ℕ). firstOf S reserves p .server) n)) sum)
-      (p7 ∙ ap (λ (n : ℕ). row (upTo (λ (p : ℕ). firstOf S reserves p .left) n)) sum)
+      (p6 ∙ ap (λ (n : ℕ). row (upTo (λ (p : ℕ). firstReserve S reserves p .server) n)) sum)
+      (p7 ∙ ap (λ (n : ℕ). row (upTo (λ (p : ℕ). firstReserve S reserves p .left) n)) sum)

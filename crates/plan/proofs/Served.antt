@@ -18,7 +18,7 @@ use Rattle.servers.proofs.RowLaws.{row-length, row-take}
 use Rattle.servers.proofs.PlacementLaws.{placement-length}
 use Rattle.servers.proofs.ServerClaims.{servers-few}
 use Rattle.servers.proofs.ServedLaws.{reserves-count, reserves-range}
-use Rattle.ring.specs.Laid.{Laid}
+use Rattle.ring.specs.Slotted.{SlottedFirst}
 use Rattle.plan.specs.Plan.{laidOut}
 use Rattle.plan.specs.Layable.{Layable}
 use Rattle.rows.proofs.Clears.{members-count, members-held}
@@ -32,7 +32,7 @@ module _ (ls : List Load) (S L : ℕ) (few : length ls ≤ 64) (sound : Every So
   count-few = omega (arith, servers-few ls S L)
 
   -- a row of 64 that begins with the reserves is laid
-  pub laid-by : (rs : List ℕ) (n : ℕ) → length rs ≡ 64 → n ≡ serversIn (placementOf ls S L) → take n rs ≡ reservesOf ls S L → Laid S rs n
+  pub laid-by : (rs : List ℕ) (n : ℕ) → length rs ≡ 64 → n ≡ serversIn (placementOf ls S L) → take n rs ≡ reservesOf ls S L → SlottedFirst S rs n
   laid-by rs n full e t = record {
     there = omega (arith, full, e, count-few);
     few = omega (arith, e, count-few);

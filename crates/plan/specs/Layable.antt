@@ -6,11 +6,11 @@ use lib.ListN.{take}
 use Rattle.servers.specs.Row.{row}
 use Rattle.servers.specs.declared.Servers.{Servers}
 use Rattle.servers.specs.declared.members.Members.{Members}
-use Rattle.ring.specs.Laid.{Laid}
+use Rattle.ring.specs.Slotted.{SlottedFirst}
 
 pub record Layable (m : Members) (served : Servers) (S : ℕ) : Type 0 where
   pub tasks-few : m .count ≤ 64
   pub servers-few : served .count ≤ 64
-  pub laid : Laid S (served .reserve) (served .count)
+  pub laid : SlottedFirst S (served .reserve) (served .count)
   pub reserve-room : row (take (served .count) (served .reserve)) ≡ served .reserve
   pub server-room : row (take (m .count) (served .server)) ≡ served .server

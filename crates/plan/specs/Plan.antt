@@ -11,7 +11,7 @@ use Rattle.servers.specs.Placement.{loadsIn, placementOf}
 use Rattle.servers.specs.Row.{row}
 use Rattle.servers.specs.Reserve.{reservesOf}
 use Rattle.ring.specs.Reserves.{reserveOf, wholes, startOf, ringProcessors, idlePositions, processorsOf}
-use Rattle.ring.specs.Who.{firstOf}
+use Rattle.ring.specs.Who.{firstReserve}
 use Rattle.plan.specs.declared.plan.Plan.{Plan}
 use Rattle.rows.specs.Charge.{loadsOfSet, lossOf}
 
@@ -37,8 +37,8 @@ laidOut S ls placement reserves =
       start = row (upTo (ringStart S reserves) (length reserves));
       tasks = row (upTo (λ q. length (loadsIn ls placement q)) (length reserves));
       server = row placement;
-      first = row (upTo (λ p. firstOf S reserves p .server) (processorsOf S reserves));
-      duration = row (upTo (λ p. firstOf S reserves p .left) (processorsOf S reserves));
+      first = row (upTo (λ p. firstReserve S reserves p .server) (processorsOf S reserves));
+      duration = row (upTo (λ p. firstReserve S reserves p .left) (processorsOf S reserves));
     }
 
 -- the placement and the reserves that document 01 gives a set

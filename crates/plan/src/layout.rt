@@ -14,15 +14,15 @@ ghost use lib.ListN.{length, take};
 ghost use Rattle.servers.specs.Row.{row};
 ghost use Rattle.servers.specs.Members.{held};
 ghost use Rattle.servers.specs.Placement.{loadsIn};
-ghost use Rattle.ring.specs.Laid.{Laid};
+ghost use Rattle.ring.specs.Slotted.{SlottedFirst};
 ghost use Rattle.ring.specs.Reserves.{processorsOf};
-ghost use Rattle.ring.specs.Who.{firstOf};
+ghost use Rattle.ring.specs.Who.{firstReserve};
 ghost use Rattle.plan.specs.Plan.{upTo, ringStart, laidOut};
 ghost use Rattle.plan.specs.Layable.{Layable};
 
 // Where server q stands on the ring; 0 for a server that has a whole processor.
 fn start_of(reserves: &[u64], n: usize, slot: u64, q: usize) -> u64
-    requires { ⌜ Laid slot (now reserves) n × (1 ≤ q) × (q ≤ n) ⌝ }
+    requires { ⌜ SlottedFirst slot (now reserves) n × (1 ≤ q) × (q ≤ n) ⌝ }
     ensures { λ r. ⌜ r ≡ ringStart slot (take n (now (reserves .entry))) q ⌝ }
 {
     let before = q - 1;
@@ -35,7 +35,7 @@ fn start_of(reserves: &[u64], n: usize, slot: u64, q: usize) -> u64
 
 // The ring starts of all servers.
 fn starts(reserves: &[u64], n: usize, slot: u64) -> [u64; 64]
-    requires { ⌜ Laid slot (now reserves) n × (n ≤ 64) ⌝ }
+    requires { ⌜ SlottedFirst slot (now reserves) n × (n ≤ 64) ⌝ }
     ensures { λ r. ⌜ r ≡ row (upTo (ringStart slot (take n (now (reserves .entry)))) n) ⌝ }
 {
     let mut starts = [0u64; 64];
@@ -85,9 +85,9 @@ pub struct Firsts {
 }
 
 fn first_reserves(reserves: &[u64], n: usize, slot: u64, processors: usize) -> Firsts
-    requires { ⌜ Laid slot (now reserves) n × (processors ≤ processorsOf slot (take n (now reserves))) × (processors ≤ 64) ⌝ }
-    ensures { λ r. ⌜ r .server ≡ row (upTo (λ (p : ℕ). firstOf slot (take n (now (reserves .entry))) p .server) processors) ⌝ }
-    ensures { λ r. ⌜ r .duration ≡ row (upTo (λ (p : ℕ). firstOf slot (take n (now (reserves .entry))) p .left) processors) ⌝ }
+    requires { ⌜ SlottedFirst slot (now reserves) n × (processors ≤ processorsOf slot (take n (now reserves))) × (processors ≤ 64) ⌝ }
+    ensures { λ r. ⌜ r .server ≡ row (upTo (λ (p : ℕ). firstReserve slot (take n (now (reserves .entry))) p .server) processors) ⌝ }
+    ensures { λ r. ⌜ r .duration ≡ row (upTo (λ (p : ℕ). firstReserve slot (take n (now (reserves .entry))) p .left) processors) ⌝ }
 {
     let mut server = [0u64; 64];
     let mut duration = [0u64; 64];

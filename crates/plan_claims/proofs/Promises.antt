@@ -24,7 +24,7 @@ use Rattle.servers.proofs.LoadLaws.{every-in}
 use Rattle.ring.specs.declared.clock.Tick.{Tick}
 use Rattle.ring.specs.Who.{whoOf}
 use Rattle.ring.specs.Reserves.{ringProcessors, wholes, processorsOf}
-use Rattle.ring.proofs.Theorems.{whoServes, whoStays}
+use Rattle.ring_claims.proofs.Claims.{who-serves, who-stays}
 use Rattle.tasks.specs.declared.set.TaskSet.{TaskSet}
 use Rattle.plan.specs.declared.plan.Plan.{Plan}
 use Rattle.questions.specs.declared.question.PassAnswer.{PassAnswer}
@@ -129,8 +129,8 @@ module _ (set : TaskSet) (plan : Plan) (full : length (set .tasks) ≡ 64) (e : 
 
     who-tells : (x : Tick) → WhoTells set plan p x
     who-tells x =
-        let served = whoServes (set .header .slot) (setReserves set) p x from-one among in
-        let stays = whoStays (set .header .slot) (setReserves set) p x (asked .slot) from-one among in
+        let served = who-serves (set .header .slot) (setReserves set) p x from-one among in
+        let stays = who-stays (set .header .slot) (setReserves set) p x (asked .slot) from-one among in
         record {
           done = rw (who-is x);
           names = rw (known .reserves, who-is x) (served .names);

@@ -16,8 +16,8 @@ use Rattle.verdict.specs.Claims.{FailsFirst}
 use Rattle.servers.specs.Placement.{loadsIn}
 use Rattle.ring.specs.declared.clock.Tick.{Tick}
 use Rattle.ring.specs.Reserves.{ringProcessors, wholes}
-use Rattle.ring.specs.Serves.{Serves}
-use Rattle.ring.specs.Held.{later}
+use Rattle.ring_claims.specs.Serves.{Serves}
+use Rattle.ring_claims.specs.Held.{later}
 use Rattle.tasks.specs.declared.set.Task.{Task}
 use Rattle.tasks.specs.declared.set.TaskSet.{TaskSet}
 use Rattle.tasks.specs.Set.{members, zeroTask}

@@ -22,12 +22,12 @@ use Rattle.servers.specs.Row.{row}
 use Rattle.servers.specs.Placement.{loadsIn}
 use Rattle.servers.proofs.LoadLaws.{in-few}
 use Rattle.ring.specs.Reserves.{reserveOf, wholes, startOf, ringProcessors, ringLength, processorsOf}
-use Rattle.ring.specs.Who.{firstOf}
+use Rattle.ring.specs.Who.{firstReserve}
 use Rattle.ring.specs.declared.cover.Stand.{Stand}
 use Rattle.ring.proofs.Starts.{ring-part, ring-holds}
-use Rattle.ring.proofs.FirstLaws.{first-reserve}
+use Rattle.ring_claims.proofs.Claims.{first-reserve}
 use Rattle.ring.proofs.WhoLaws.{first-whole}
-use Rattle.ring.proofs.WholeLaws.{whole-at}
+use Rattle.ring_claims.proofs.OwnLaws.{whole-at}
 use Rattle.plan.specs.declared.plan.Plan.{Plan}
 use Rattle.rows.specs.Charge.{loadsOfSet}
 use Rattle.plan.specs.Plan.{planMade, laidOut, setPlacement, setReserves, upTo, ringStart}
@@ -165,7 +165,7 @@ module _ (set : TaskSet) (plan : Plan) (full : length (set .tasks) ≡ 64) (m : 
       (omega (arith, accepted set plan full m .placed .there (i + 1) (omega arith) (omega arith) .1, counted .servers))
 
   -- a first reserve names a server that is there, for at most a slot
-  first-most : (p : ℕ) → 1 ≤ p → p ≤ processorsOf S rs → (firstOf S rs p .server ≤ length rs) × (firstOf S rs p .left ≤ S)
+  first-most : (p : ℕ) → 1 ≤ p → p ≤ processorsOf S rs → (firstReserve S rs p .server ≤ length rs) × (firstReserve S rs p .left ≤ S)
   first-most p some there =
       elim (decLt (ringProcessors S rs) p) [
         | yes past ↦
@@ -186,20 +186,20 @@ module _ (set : TaskSet) (plan : Plan) (full : length (set .tasks) ≡ 64) (m : 
     k : i < processorsOf S rs
     k = omega (arith, g, made-ring, made-whole)
 
-    bounds : (firstOf S rs (i + 1) .server ≤ length rs) × (firstOf S rs (i + 1) .left ≤ S)
+    bounds : (firstReserve S rs (i + 1) .server ≤ length rs) × (firstReserve S rs (i + 1) .left ≤ S)
     bounds = first-most (i + 1) (omega arith) (omega (arith, k))
 
-    first-at : getD (plan .first) i 0 ≡ firstOf S rs (i + 1) .server
+    first-at : getD (plan .first) i 0 ≡ firstReserve S rs (i + 1) .server
     unfolding planMade laidOut S rs
     first-at =
         front-at (plan .ring + plan .whole) (planMade set .ring + planMade set .whole) (plan .first) (planMade set .first) (same .first) i h g
-        ∙ row-up (λ (p : ℕ). firstOf S rs p .server) (processorsOf S rs) i k
+        ∙ row-up (λ (p : ℕ). firstReserve S rs p .server) (processorsOf S rs) i k
 
-    duration-at : getD (plan .duration) i 0 ≡ firstOf S rs (i + 1) .left
+    duration-at : getD (plan .duration) i 0 ≡ firstReserve S rs (i + 1) .left
     unfolding planMade laidOut S rs
     duration-at =
         front-at (plan .ring + plan .whole) (planMade set .ring + planMade set .whole) (plan .duration) (planMade set .duration) (same .duration) i h g
-        ∙ row-up (λ (p : ℕ). firstOf S rs p .left) (processorsOf S rs) i k
+        ∙ row-up (λ (p : ℕ). firstReserve S rs p .left) (processorsOf S rs) i k
 
   pub fit-fields : FitFields set plan
   unfolding S

@@ -16,9 +16,9 @@ use Rattle.servers.proofs.LoadLaws.{every-in, in-some}
 use Rattle.servers.proofs.PlacementLaws.{placement-length}
 use Rattle.servers.proofs.ServedLaws.{reserves-count, reserves-range}
 use Rattle.servers.proofs.ServerClaims.{each-in-one, smallest-reserves}
-use Rattle.ring.specs.Laid.{Reserved}
+use Rattle.ring_claims.specs.Slotted.{Slotted}
 use Rattle.ring.specs.Reserves.{reserveOf}
-use Rattle.ring.specs.Serves.{RingServer, WholeProcessor}
+use Rattle.ring_claims.specs.Serves.{RingServer, WholeProcessor}
 use Rattle.tasks.specs.declared.set.TaskSet.{TaskSet}
 use Rattle.tasks.proofs.Carried.{count-within, ask-count}
 use Rattle.rows.specs.Charge.{loadsOfSet}
@@ -54,7 +54,7 @@ module _ (set : TaskSet) (ok : Accepted set) where
   server-sound q = every-in Sound (loadsOfSet set) (setPlacement set) q (asked .sound)
 
   -- the reserves are as the rules of the ring ask
-  pub set-reserved : Reserved (slotOf set) (setReserves set)
+  pub set-reserved : Slotted (slotOf set) (setReserves set)
   unfolding setReserves
   set-reserved = record {
     slot-some = slot-some;

@@ -12,8 +12,8 @@ use lib.Seq.{getD-at, getD-take}
 use Rattle.servers.specs.Row.{row}
 use Rattle.servers.proofs.RowLaws.{row-take}
 use Rattle.ring.specs.Reserves.{reserveOf, startOf, processorsOf}
-use Rattle.ring.specs.Who.{firstOf}
-use Rattle.ring.specs.Serves.{RingServer}
+use Rattle.ring.specs.Who.{firstReserve}
+use Rattle.ring_claims.specs.Serves.{RingServer}
 use Rattle.tasks.specs.declared.set.TaskSet.{TaskSet}
 use Rattle.plan.specs.declared.plan.Plan.{Plan}
 use Rattle.plan.specs.Plan.{upTo, ringStart, laidOut, setReserves, planMade}
@@ -71,17 +71,17 @@ module _ (set : TaskSet) (plan : Plan) (full : length (set .tasks) ≡ 64) (e : 
 
   module _ (p : ℕ) (some : 1 ≤ p) (there : p ≤ processorsOf (slotOf set) (setReserves set)) where
     -- the first server of a processor
-    first-at : getD (plan .first) (p - 1) 0 ≡ firstOf (slotOf set) (setReserves set) p .server
+    first-at : getD (plan .first) (p - 1) 0 ≡ firstReserve (slotOf set) (setReserves set) p .server
     unfolding planMade laidOut
     first-at =
-        printed (λ k. firstOf (slotOf set) (setReserves set) k .server) (plan .first) (planMade set .first) (plan .ring + plan .whole)
+        printed (λ k. firstReserve (slotOf set) (setReserves set) k .server) (plan .first) (planMade set .first) (plan .ring + plan .whole)
         (planMade set .ring + planMade set .whole) all-processors refl (made .first) p some there
 
     -- and its first duration
-    duration-at : getD (plan .duration) (p - 1) 0 ≡ firstOf (slotOf set) (setReserves set) p .left
+    duration-at : getD (plan .duration) (p - 1) 0 ≡ firstReserve (slotOf set) (setReserves set) p .left
     unfolding planMade laidOut
     duration-at =
-        printed (λ k. firstOf (slotOf set) (setReserves set) k .left) (plan .duration) (planMade set .duration) (plan .ring + plan .whole)
+        printed (λ k. firstReserve (slotOf set) (setReserves set) k .left) (plan .duration) (planMade set .duration) (plan .ring + plan .whole)
         (planMade set .ring + planMade set .whole) all-processors refl (made .duration) p some there
 
   -- every figure that is used

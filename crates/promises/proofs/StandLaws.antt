@@ -10,10 +10,11 @@ use native.Mathlib.Omega.{arith}
 use Rattle.ring.specs.declared.clock.Tick.{Tick}
 use Rattle.ring.specs.Reserves.{reserveOf, startOf, ringProcessors}
 use Rattle.ring.specs.Phase.{phase}
-use Rattle.ring.specs.Serves.{RingServer, WholeProcessor, OnBoard, UsableOnRing, Usable, sinceStart}
-use Rattle.ring.proofs.PhaseLaws.{since-form, since-is, phase-agrees}
-use Rattle.ring.proofs.ServeLaws.{serves-since}
-use Rattle.ring.proofs.Theorems.{onBoardWhen, usableWhen}
+use Rattle.ring_claims.specs.Serves.{RingServer, WholeProcessor, OnBoard, UsableOnRing, Usable, sinceStart}
+use Rattle.ring_claims.proofs.TurnLaws.{since-form, since-is}
+use Rattle.ring_claims.proofs.PhaseLaws.{phase-agrees}
+use Rattle.ring_claims.proofs.ServeLaws.{serves-since}
+use Rattle.ring_claims.proofs.Claims.{on-board-when, usable-when}
 use Rattle.windows.specs.Window.{since, usableAt}
 use Rattle.windows.proofs.Since.{since-is-right, usable-means}
 use Rattle.promises.specs.Counted.{UsableWith, UsableOnce}
@@ -70,13 +71,13 @@ module _ (S : ℕ) (rs : List ℕ) (h : 1 ≤ S) (q : ℕ) where
     -- a ring server is on the board where the test without loss says so
     pub board-tested : (x : Tick) → OnBoard S rs q x ↔ Tested 0 (reserveOf rs q) x
     board-tested x =
-        let w = onBoardWhen S rs x h .ring q s in
+        let w = on-board-when S rs x h .ring q s in
         (λ b. tested 0 (reserveOf rs q) x (zero-le, w .0 b), λ e. w .1 (told 0 (reserveOf rs q) x e .1))
 
     -- and a tick is usable to it where the test says so
     pub usable-tested : (L : ℕ) (x : Tick) → Usable S L rs q x ↔ Tested L (reserveOf rs q) x
     usable-tested L x =
-        let w = usableWhen S L rs q x h s in
+        let w = usable-when S L rs q x h s in
         (λ u. tested L (reserveOf rs q) x (w .0 u), λ e. w .1 (told L (reserveOf rs q) x e))
 
     -- a processor in the reserve has passed as many positions of it as there are ticks since the start
@@ -110,7 +111,7 @@ module _ (S : ℕ) (rs : List ℕ) (h : 1 ≤ S) (q : ℕ) where
           ⊎-elim
           (stands-there w)
           (λ (o : WholeProcessor S rs q). absurd (omega (arith, o .whole, s .ring)))
-          (usableWhen S L rs q x h s .1 (w .0, omega (arith, w .1)))
+          (usable-when S L rs q x h s .1 (w .0, omega (arith, w .1)))
 
       -- a reserve cut to R, with its start kept
       pub cut-tested : UsableWith S L rs q R x ↔ Tested L R x

@@ -17,8 +17,8 @@ use Rattle.verdict.proofs.Sizing.{one-less}
 use Rattle.tasks.specs.declared.set.TaskSet.{TaskSet}
 use Rattle.ring.specs.declared.clock.Tick.{Tick}
 use Rattle.ring.specs.Reserves.{reserveOf, startOf}
-use Rattle.ring.specs.Serves.{RingServer, WholeProcessor, OnBoard, UsableOnRing, Usable}
-use Rattle.ring.proofs.Theorems.{oneServer, oneProcessor, onBoardWhen, usableWhen, inAnySlot}
+use Rattle.ring_claims.specs.Serves.{RingServer, WholeProcessor, OnBoard, UsableOnRing, Usable}
+use Rattle.ring_claims.proofs.Claims.{one-server, one-processor, on-board-when, usable-when, held-in-slot}
 use Rattle.windows.specs.Window.{usableAt, usableIn, FallsShort}
 use Rattle.windows.proofs.Worst.{in-any-slot}
 use Rattle.windows.proofs.Covers.{passes-is-covered, passing-covers, whole-covers, smaller-falls-short}
@@ -32,11 +32,11 @@ use Rattle.promises.proofs.AcceptLaws.{slot-some, server-sound, set-res
 
 -- at each tick a processor serves at most one server
 pub one-server-a-processor : OneServerAProcessor
-one-server-a-processor set ok p q q′ x a b = oneServer (slotOf set) (setReserves set) p q q′ x a b
+one-server-a-processor set ok p q q′ x a b = one-server (slotOf set) (setReserves set) p q q′ x a b
 
 -- and a server has at most one processor
 pub one-processor-a-server : OneProcessorAServer
-one-processor-a-server set ok p p′ q x a b = oneProcessor (slotOf set) (setReserves set) p p′ q x (slot-some set ok) a b
+one-processor-a-server set ok p p′ q x a b = one-processor (slotOf set) (setReserves set) p p′ q x (slot-some set ok) a b
 
 -- a server with loads falls short with any reserve below the slot that is not allowed or does not pass
 short-of : (ks : List Load) (S L R start : ℕ) → 1 ≤ length ks → Every Sound ks → 1 ≤ S → R < S →
@@ -72,7 +72,7 @@ module _ (set : TaskSet) (ok : Accepted set) (q : ℕ) where
       whole : WholeProcessor S reserves q → Counted (OnBoard S reserves q) a S R
       whole w =
           subst (Counted (OnBoard S reserves q) a S) (sym (w .whole))
-          (counts-all (OnBoard S reserves q) a (λ x. onBoardWhen S reserves x (slot-some set ok) .whole q w) S)
+          (counts-all (OnBoard S reserves q) a (λ x. on-board-when S reserves x (slot-some set ok) .whole q w) S)
 
   -- on the ring a passing reserve covers; on a whole processor every tick is usable
   window-covered : IsServer set q → (a t : ℕ) → S ≤ a → CoveredWindow set q a t
@@ -150,16 +150,16 @@ reserve-in-any-slot set ok q s a = any-slot set ok q s a
 
 -- and holds R processor ticks
 pub held-in-any-slot : HeldInAnySlot
-held-in-any-slot set ok q s x = inAnySlot (slotOf set) (setReserves set) q x (set-reserved set ok) (s .some) (s .there)
+held-in-any-slot set ok q s x = held-in-slot (slotOf set) (setReserves set) q x (set-reserved set ok) (s .some) (s .there)
 
 -- usable ticks are ticks on the board
 pub usable-is-served : UsableIsServed
 usable-is-served set ok q x u =
-    let board = onBoardWhen (slotOf set) (setReserves set) x (slot-some set ok) in
+    let board = on-board-when (slotOf set) (setReserves set) x (slot-some set ok) in
     ⊎-elim
     (λ (f : (p : ℕ) × UsableOnRing (slotOf set) (entryLossOf set) (setReserves set) q x p).
     let r = f .1 .server in
-    board .ring q r .1 (usableWhen (slotOf set) (entryLossOf set) (setReserves set) q x (slot-some set ok) r .0 u .1))
+    board .ring q r .1 (usable-when (slotOf set) (entryLossOf set) (setReserves set) q x (slot-some set ok) r .0 u .1))
     (λ (w : WholeProcessor (slotOf set) (setReserves set) q). board .whole q w)
     u
 

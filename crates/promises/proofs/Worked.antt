@@ -16,7 +16,7 @@ use Rattle.verdict.specs.Reserve.{enough, smallestReserve}
 use Rattle.servers.specs.Placement.{loadsIn, serversIn, takes, fit, placeFrom, placementOf}
 use Rattle.servers.specs.Reserve.{reservesUpTo, reservesOf}
 use Rattle.ring.specs.Reserves.{ringTicks, wholes}
-use Rattle.ring.specs.Serves.{RingServer, WholeProcessor}
+use Rattle.ring_claims.specs.Serves.{RingServer, WholeProcessor}
 use Rattle.tasks.specs.declared.set.Task.{Task}
 use Rattle.tasks.specs.declared.set.TaskSet.{TaskSet}
 use Rattle.tasks.specs.Set.{setOf}

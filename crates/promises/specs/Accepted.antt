@@ -9,8 +9,8 @@ use Rattle.demand.specs.Load.{Load}
 use Rattle.tasks.specs.declared.set.TaskSet.{TaskSet}
 use Rattle.servers.specs.Placement.{loadsIn}
 use Rattle.ring.specs.Reserves.{startOf, ringProcessors, wholes, processorsOf}
-use Rattle.ring.specs.Who.{firstOf}
-use Rattle.ring.specs.Serves.{RingServer}
+use Rattle.ring.specs.Who.{firstReserve}
+use Rattle.ring_claims.specs.Serves.{RingServer}
 use Rattle.plan.specs.declared.plan.Plan.{Plan}
 use Rattle.rows.specs.Charge.{loadsOfSet, lossOf}
 use Rattle.plan.specs.Plan.{setPlacement, setReserves}
@@ -45,5 +45,5 @@ pub record PrintsRota (set : TaskSet) (plan : Plan) : Type 0 where
   pub ring : plan .ring ≡ ringProcessors (slotOf set) (setReserves set)
   pub whole : plan .whole ≡ wholes (slotOf set) (setReserves set)
   pub first : (p : ℕ) → 1 ≤ p → p ≤ processorsOf (slotOf set) (setReserves set) →
-      (getD (plan .first) (p - 1) 0 ≡ firstOf (slotOf set) (setReserves set) p .server)
-      × (getD (plan .duration) (p - 1) 0 ≡ firstOf (slotOf set) (setReserves set) p .left)
+      (getD (plan .first) (p - 1) 0 ≡ firstReserve (slotOf set) (setReserves set) p .server)
+      × (getD (plan .duration) (p - 1) 0 ≡ firstReserve (slotOf set) (setReserves set) p .left)

@@ -10,8 +10,8 @@ use Rattle.demand.specs.Passes.{Passes}
 use Rattle.tasks.specs.declared.set.TaskSet.{TaskSet}
 use Rattle.ring.specs.declared.clock.Tick.{Tick}
 use Rattle.ring.specs.Reserves.{reserveOf}
-use Rattle.ring.specs.Serves.{Serves, Usable, RingServer, WholeProcessor, OnBoard}
-use Rattle.ring.specs.Held.{held}
+use Rattle.ring_claims.specs.Serves.{Serves, Usable, RingServer, WholeProcessor, OnBoard}
+use Rattle.ring_claims.specs.Held.{held}
 use Rattle.plan.specs.declared.plan.Plan.{Plan}
 use Rattle.plan.specs.Plan.{setReserves}
 use Rattle.questions.specs.Agrees.{makes}

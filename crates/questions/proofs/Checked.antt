@@ -16,7 +16,7 @@ use Rattle.servers.specs.Row.{row}
 use Rattle.servers.specs.Placement.{serversIn}
 use Rattle.servers.proofs.RowLaws.{row-take}
 use Rattle.servers.proofs.PlacementLaws.{placement-length}
-use Rattle.ring.specs.Laid.{Laid}
+use Rattle.ring.specs.Slotted.{SlottedFirst}
 use Rattle.ring.specs.declared.clock.Tick.{Tick}
 use Rattle.ring.specs.Who.{whoOf}
 use Rattle.tasks.specs.declared.set.TaskSet.{TaskSet}
@@ -109,7 +109,7 @@ module _ (set : TaskSet) (full : length (set .tasks) ≡ 64) (plan : Plan) where
     }
 
     -- its reserves are laid, and a processor that is there may be asked
-    laid-in : length (plan .reserve) ≡ 64 → Laid (set .header .slot) (plan .reserve) (plan .servers)
+    laid-in : length (plan .reserve) ≡ 64 → SlottedFirst (set .header .slot) (plan .reserve) (plan .servers)
     unfolding setPlacement setReserves
     laid-in room =
         laid-by (loadsOfSet set) (set .header .slot) (lossOf (set .header)) (few-loads set full clear-set) (sound set full clear-set)
@@ -119,7 +119,7 @@ module _ (set : TaskSet) (full : length (set .tasks) ≡ 64) (plan : Plan) where
     pub standing : length (plan .reserve) ≡ 64 → (p : ℕ) → isProcessor plan p ≡ true → Standing plan p
     unfolding isProcessor needed
     standing room p t = record {
-      laid = subst (λ (S : ℕ). Laid S (plan .reserve) (plan .servers)) (sym (of-set .slot)) (laid-in room);
+      laid = subst (λ (S : ℕ). SlottedFirst S (plan .reserve) (plan .servers)) (sym (of-set .slot)) (laid-in room);
       from-one = leb-true 1 p (and-left (leb 1 p) (leb p (plan .ring + plan .whole)) t);
       there = rw (of-set .slot, of-set .reserves) (omega (arith, leb-true p (plan .ring + plan .whole) (and-right (leb 1 p) (leb p (plan .ring + plan .whole)) t), of-set .processors));
     }

@@ -11,7 +11,7 @@ use Rattle.verdict.specs.declared.answer.Verdict.the-variants.{Yes}
 use Rattle.verdict.specs.Verdict.{verdictOf}
 use Rattle.ring.specs.declared.clock.Tick.{Tick}
 use Rattle.ring.specs.declared.cover.Stand.{Stand}
-use Rattle.ring.specs.Laid.{Laid}
+use Rattle.ring.specs.Slotted.{SlottedFirst}
 use Rattle.ring.specs.Reserves.{processorsOf}
 use Rattle.ring.specs.Who.{whoOf}
 use Rattle.servers.specs.Placement.{loadsIn}
@@ -36,7 +36,7 @@ isServer plan q = leb 1 q && leb q (plan .servers)
 
 -- what asking a plan that is checked already asks: its reserves are laid, and the processor is there
 pub record Standing (plan : Plan) (p : ℕ) : Type 0 where
-  pub laid : Laid (plan .slot) (plan .reserve) (plan .servers)
+  pub laid : SlottedFirst (plan .slot) (plan .reserve) (plan .servers)
   pub from-one : 1 ≤ p
   pub there : p ≤ processorsOf (plan .slot) (take (plan .servers) (plan .reserve))
 

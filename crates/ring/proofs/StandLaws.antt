@@ -9,7 +9,7 @@ use lib.ListN.{length, getD, take}
 use lib.Seq.{take-take, getD-take}
 use Rattle.ring.specs.declared.clock.Position.{Position}
 use Rattle.ring.specs.declared.cover.Stand.{Stand}
-use Rattle.ring.specs.Laid.{Laid}
+use Rattle.ring.specs.Slotted.{SlottedFirst}
 use Rattle.ring.specs.Reserves.{reserveOf, ringTicks, startOf, ringProcessors, ringLength}
 use Rattle.ring.specs.Cover.{covererUpTo, leftFrom, standAt}
 use Rattle.ring.proofs.CoverLaws.{Covers, covers-there, coverer-is, coverer-none}
@@ -34,7 +34,7 @@ module _ (S : ℕ) (rs : List ℕ) (at : Position) where
   stand-idle l = stand-by 0 (coverer-none S rs at (length rs) l)
 
 -- the same of the first n of a slice, as a pass over it finds them
-module _ {S : ℕ} {rs : List ℕ} {n : ℕ} (laid : Laid S rs n) (at : Position) where
+module _ {S : ℕ} {rs : List ℕ} {n : ℕ} (laid : SlottedFirst S rs n) (at : Position) where
   pub stand-found : (i end : ℕ) → i < n → getD rs i 0 < S → end ≡ ringTicks S (take i rs) → end ≤ at .0 → at .0 < end + getD rs i 0 →
       _≡_ {A = Stand} (record { server = i + 1; left = end + getD rs i 0 - at .0 }) (standAt S (take n rs) at)
   stand-found i end h l e from before =

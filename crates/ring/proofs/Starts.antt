@@ -14,7 +14,7 @@ use lib.Seq.{take-suc, take-add, take-take, length-take-le, getD-take}
 use Rattle.laws.proofs.Orders.{le-or-lt}
 use Rattle.laws.proofs.Choices.{cond-ltb, cond-ltb-not}
 use Rattle.wholes.proofs.CeilingLaws.{ceiling-least}
-use Rattle.ring.specs.Laid.{Laid, Reserved}
+use Rattle.ring.specs.Slotted.{SlottedFirst}
 use Rattle.ring.specs.Reserves.{ringTicks, wholes, ringProcessors, ringLength}
 
 -- ---- a sum over a list, by the first element and the rest
@@ -137,20 +137,12 @@ module _ (S : ℕ) where
 
 -- ---- the first n of a slice
 
-module _ {S : ℕ} {rs : List ℕ} {n : ℕ} (laid : Laid S rs n) where
+module _ {S : ℕ} {rs : List ℕ} {n : ℕ} (laid : SlottedFirst S rs n) where
   pub taken-length : length (take n rs) ≡ n
   taken-length = length-take-le n rs (laid .there)
 
-  -- the list of the first n reserves is as the rules ask
-  pub reserved : Reserved S (take n rs)
-  reserved = record {
-    slot-some = laid .slot-some;
-    some = λ i h. let l : i < n = omega (arith, taken-length) in rw (getD-take n rs i 0 l) (laid .some i l);
-    within = λ i h. let l : i < n = omega (arith, taken-length) in rw (getD-take n rs i 0 l) (laid .within i l);
-  }
-
   -- fewer are as good
-  pub fewer : (i : ℕ) → i ≤ n → Laid S rs i
+  pub fewer : (i : ℕ) → i ≤ n → SlottedFirst S rs i
   fewer i h = record {
     there = omega (arith, laid .there);
     few = omega (arith, laid .few);
@@ -164,26 +156,8 @@ module _ {S : ℕ} {rs : List ℕ} {n : ℕ} (laid : Laid S rs n) where
   pub taken-start : (i : ℕ) → i ≤ n → ringTicks S (take i (take n rs)) ≡ ringTicks S (take i rs)
   taken-start i h = ap (ringTicks S) (take-take i n rs h)
 
-  -- a turn of a pass over the reserves
-  pub pass-more : (i : ℕ) → i < n → getD rs i 0 < S → ringTicks S (take (i + 1) rs) ≡ ringTicks S (take i rs) + getD rs i 0
-  pass-more i h l = rw add-one (ring-more S rs i (le-trans h (laid .there)) l)
-
-  pub pass-same : (i : ℕ) → i < n → S ≤ getD rs i 0 → ringTicks S (take (i + 1) rs) ≡ ringTicks S (take i rs)
-  pass-same i h l = rw add-one (ring-same S rs i (le-trans h (laid .there)) l)
-
-  pub count-same : (i : ℕ) → i < n → getD rs i 0 < S → wholes S (take (i + 1) rs) ≡ wholes S (take i rs)
-  count-same i h l = rw add-one (wholes-same S rs i (le-trans h (laid .there)) l)
-
-  pub count-more : (i : ℕ) → i < n → S ≤ getD rs i 0 → wholes S (take (i + 1) rs) ≡ wholes S (take i rs) + 1
-  count-more i h l = rw (add-one i) (wholes-more S rs i (le-trans h (laid .there)) l)
-
-  pub count-room : (i : ℕ) → i ≤ n → wholes S (take i rs) ≤ 256
-  count-room i h =
-      let b = laid .few in
-      omega (arith, wholes-below S (take i rs), length-take-le i rs (le-trans h (laid .there)))
-
-  -- the sums have room
-  pub ring-room : (i : ℕ) → i ≤ n → ringTicks S (take i rs) ≤ 256 * S
+  -- the sum has room
+  ring-room : (i : ℕ) → i ≤ n → ringTicks S (take i rs) ≤ 256 * S
   ring-room i h =
       le-trans (ring-below S (take i rs))
       (rw (length-take-le i rs (le-trans h (laid .there))) (mul-le-mul-right S (le-trans h (laid .few))))
@@ -193,3 +167,47 @@ module _ {S : ℕ} {rs : List ℕ} {n : ℕ} (laid : Laid S rs n) where
       let b = laid .slot-below in
       let t = ring-tight S (take n rs) (laid .slot-some) in
       omega (arith, ring-room n (le-refl n))
+
+-- ---- a pass over the first n of a slice that sums them
+
+-- `sum` is what F sums of the first i
+pub record Summed (F : List ℕ → ℕ) (rs : List ℕ) (n sum i : ℕ) : Type 0 where
+  pub within : i ≤ n
+  pub so-far : sum ≡ F (take i rs)
+
+module _ {F : List ℕ → ℕ} {rs : List ℕ} {n : ℕ} where
+  -- of none it is nothing
+  pub summed-none : F [] ≡ 0 → Summed F rs n 0 0
+  summed-none e = record { within = omega arith; so-far = sym e }
+
+  -- the next one adds its term
+  summed-next : {sum more i : ℕ} (term : ℕ) → Summed F rs n sum i → i < n → more ≡ sum + term → F (take (suc i) rs) ≡ F (take i rs) + term → Summed F rs n more (i + 1)
+  summed-next {sum} {more} {i} term l h e g = record { within = omega arith; so-far = rw (add-one i) (omega (arith, l .so-far)) }
+
+  -- after the last it is that of all
+  pub summed-all : {sum i : ℕ} → Summed F rs n sum i → n ≤ i → sum ≡ F (take n rs)
+  summed-all {sum} {i} l h =
+      let e : i ≡ n = omega (arith, l .within) in
+      l .so-far ∙ ap (λ (k : ℕ). F (take k rs)) e
+
+module _ {S : ℕ} {rs : List ℕ} {n : ℕ} (laid : SlottedFirst S rs n) {sum more i : ℕ} where
+  pub ticks-more : Summed (ringTicks S) rs n sum i → i < n → getD rs i 0 < S → more ≡ sum + getD rs i 0 → Summed (ringTicks S) rs n more (i + 1)
+  ticks-more l h w e = summed-next (getD rs i 0) l h e (ring-more S rs i (le-trans h (laid .there)) w)
+
+  pub ticks-same : Summed (ringTicks S) rs n sum i → i < n → S ≤ getD rs i 0 → more ≡ sum → Summed (ringTicks S) rs n more (i + 1)
+  ticks-same l h w e = summed-next 0 l h (omega arith) (omega (arith, ring-same S rs i (le-trans h (laid .there)) w))
+
+  pub count-more : Summed (wholes S) rs n sum i → i < n → S ≤ getD rs i 0 → more ≡ sum + 1 → Summed (wholes S) rs n more (i + 1)
+  count-more l h w e = summed-next 1 l h e (wholes-more S rs i (le-trans h (laid .there)) w)
+
+  pub count-same : Summed (wholes S) rs n sum i → i < n → getD rs i 0 < S → more ≡ sum → Summed (wholes S) rs n more (i + 1)
+  count-same l h w e = summed-next 0 l h (omega arith) (omega (arith, wholes-same S rs i (le-trans h (laid .there)) w))
+
+-- a sum has room for the next
+module _ {S : ℕ} {rs : List ℕ} {n : ℕ} (laid : SlottedFirst S rs n) {sum i : ℕ} where
+  pub ticks-room : Summed (ringTicks S) rs n sum i → sum ≤ 256 * S
+  ticks-room l = omega (arith, l .so-far, ring-room laid i (l .within))
+
+  pub count-room : Summed (wholes S) rs n sum i → sum ≤ 256
+  count-room l =
+      omega (arith, l .so-far, l .within, laid .few, wholes-below S (take i rs), length-take-le i rs (le-trans (l .within) (laid .there)))

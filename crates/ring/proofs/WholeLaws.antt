@@ -1,4 +1,4 @@
--- The servers that have a whole processor, in server order: each processor past the ring has one, and no two have the same.
+-- The servers that have a whole processor, in server order, by the first reserve and along the first n of a slice.
 -- Assumes nothing.
 use Prim.Native.Nat.{ℕ, zero, suc, _+_, _-_, _≤_, _<_}
 use mathlib.Core.Path.{_≡_, refl, sym, ap, _∙_}
@@ -10,7 +10,7 @@ use lib.ListN.{length, getD, take, drop, drop-of-length-le}
 use lib.Seq.{drop-cons, getD-take}
 use Rattle.laws.proofs.Orders.{le-or-lt}
 use Rattle.laws.proofs.Choices.{cond-ltb, cond-ltb-not}
-use Rattle.ring.specs.Laid.{Laid}
+use Rattle.ring.specs.Slotted.{SlottedFirst}
 use Rattle.ring.specs.Reserves.{wholes}
 use Rattle.ring.specs.Who.{wholeFrom}
 use Rattle.ring.proofs.Starts.{taken-length, wholes-cons, wholes-nil}
@@ -35,79 +35,8 @@ module _ (S : ℕ) where
   unfolding wholeFrom
   whole-nil q k = refl
 
-  -- each whole processor has a server that is there and has a slot
-  pub whole-at : (rs : List ℕ) (q k : ℕ) → k < wholes S rs →
-      (i : ℕ) × (i < length rs) × (wholeFrom S rs q k ≡ q + i) × (S ≤ getD rs i 0)
-  whole-at [] q k h = absurd (omega (arith, wholes-nil S))
-  whole-at (R ∷ Rs) q k h =
-      ⊎-elim
-      (λ (w : S ≤ R). own R Rs q k w h (λ j. whole-at Rs (suc q) j))
-      (λ (w : R < S).
-      let f = whole-at Rs (suc q) k (omega (arith, wholes-cons S R Rs, cond-ltb 0 1 w)) in (
-        suc (f .0),
-        omega (arith, f .1),
-        whole-past R Rs q k w ∙ omega (arith, f .2),
-        f .3,
-      ))
-      (le-or-lt S R)
-    where
-      own : (R : ℕ) (Rs : List ℕ) (q k : ℕ) → S ≤ R → k < wholes S (R ∷ Rs) →
-          ((j : ℕ) → j < wholes S Rs → (i : ℕ) × (i < length Rs) × (wholeFrom S Rs (suc q) j ≡ suc q + i) × (S ≤ getD Rs i 0)) →
-          (i : ℕ) × (i < length (R ∷ Rs)) × (wholeFrom S (R ∷ Rs) q k ≡ q + i) × (S ≤ getD (R ∷ Rs) i 0)
-      own R Rs q zero w h more = (0, omega arith, whole-here R Rs q w ∙ omega arith, w)
-      own R Rs q (suc k) w h more =
-          let f = more k (omega (arith, wholes-cons S R Rs, cond-ltb-not 0 1 w)) in
-          (suc (f .0), omega (arith, f .1), whole-next R Rs q k w ∙ omega (arith, f .2), f .3)
-
-  -- each server with a slot has a whole processor
-  pub whole-has : (rs : List ℕ) (q i : ℕ) → i < length rs → S ≤ getD rs i 0 →
-      (k : ℕ) × (k < wholes S rs) × (wholeFrom S rs q k ≡ q + i)
-  whole-has [] q i h l = absurd (omega arith)
-  whole-has (R ∷ Rs) q zero h l =
-      (0, omega (arith, wholes-cons S R Rs, cond-ltb-not 0 1 l), whole-here R Rs q l ∙ omega arith)
-  whole-has (R ∷ Rs) q (suc i) h l =
-      let f = whole-has Rs (suc q) i (omega arith) l in
-      ⊎-elim
-      (λ (w : S ≤ R). (
-        suc (f .0),
-        omega (arith, wholes-cons S R Rs, cond-ltb-not 0 1 w, f .1),
-        whole-next R Rs q (f .0) w ∙ omega (arith, f .2),
-      ))
-      (λ (w : R < S). (
-        f .0,
-        omega (arith, wholes-cons S R Rs, cond-ltb 0 1 w, f .1),
-        whole-past R Rs q (f .0) w ∙ omega (arith, f .2),
-      ))
-      (le-or-lt S R)
-
-  -- and no two whole processors have the same server
-  pub whole-once : (rs : List ℕ) (q k k′ : ℕ) → k < wholes S rs → k′ < wholes S rs → wholeFrom S rs q k ≡ wholeFrom S rs q k′ → k ≡ k′
-  whole-once [] q k k′ h h′ e = absurd (omega (arith, wholes-nil S))
-  whole-once (R ∷ Rs) q k k′ h h′ e =
-      ⊎-elim
-      (λ (w : S ≤ R). own R Rs q k k′ w h h′ e (λ j j′. whole-once Rs (suc q) j j′))
-      (λ (w : R < S).
-      whole-once Rs (suc q) k k′ (omega (arith, wholes-cons S R Rs, cond-ltb 0 1 w)) (omega (arith, wholes-cons S R Rs, cond-ltb 0 1 w))
-      (sym (whole-past R Rs q k w) ∙ e ∙ whole-past R Rs q k′ w))
-      (le-or-lt S R)
-    where
-      own : (R : ℕ) (Rs : List ℕ) (q k k′ : ℕ) → S ≤ R → k < wholes S (R ∷ Rs) → k′ < wholes S (R ∷ Rs) →
-          wholeFrom S (R ∷ Rs) q k ≡ wholeFrom S (R ∷ Rs) q k′ →
-          ((j j′ : ℕ) → j < wholes S Rs → j′ < wholes S Rs → wholeFrom S Rs (suc q) j ≡ wholeFrom S Rs (suc q) j′ → j ≡ j′) → k ≡ k′
-      own R Rs q zero zero w h h′ e more = refl
-      own R Rs q zero (suc k′) w h h′ e more =
-          let f = whole-at Rs (suc q) k′ (omega (arith, wholes-cons S R Rs, cond-ltb-not 0 1 w)) in
-          absurd (omega (arith, e, whole-here R Rs q w, whole-next R Rs q k′ w, f .2))
-      own R Rs q (suc k) zero w h h′ e more =
-          let f = whole-at Rs (suc q) k (omega (arith, wholes-cons S R Rs, cond-ltb-not 0 1 w)) in
-          absurd (omega (arith, e, whole-here R Rs q w, whole-next R Rs q k w, f .2))
-      own R Rs q (suc k) (suc k′) w h h′ e more =
-          ap suc
-          (more k k′ (omega (arith, wholes-cons S R Rs, cond-ltb-not 0 1 w)) (omega (arith, wholes-cons S R Rs, cond-ltb-not 0 1 w))
-          (sym (whole-next R Rs q k w) ∙ e ∙ whole-next R Rs q k′ w))
-
 -- the same along the first n of a slice
-module _ {S : ℕ} {rs : List ℕ} {n : ℕ} (laid : Laid S rs n) where
+module _ {S : ℕ} {rs : List ℕ} {n : ℕ} (laid : SlottedFirst S rs n) where
   rest : (i : ℕ) → i < n → drop i (take n rs) ≡ getD rs i 0 ∷ drop (suc i) (take n rs)
   rest i h =
       drop-cons (take n rs) i 0 (omega (arith, taken-length laid)) ∙

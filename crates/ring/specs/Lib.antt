@@ -1,9 +1,5 @@
-pub mod Laid
+pub mod Slotted
 pub mod Reserves
 pub mod Phase
 pub mod Cover
 pub mod Who
-pub mod Serves
-pub mod Held
-pub mod Rota
-pub mod Claims

@@ -27,7 +27,7 @@ whoOf S reserves p x =
     (record { server = wholeServer S reserves (p - ringProcessors S reserves - 1); left = S - x .0 % S })
 
 -- the first reserve of processor p: the server that covers position (p − 1)·S, or the whole processor's, for S ticks
-unfoldable pub firstOf : (S : ℕ) (reserves : List ℕ) (p : ℕ) → Stand
-firstOf S reserves p =
+unfoldable pub firstReserve : (S : ℕ) (reserves : List ℕ) (p : ℕ) → Stand
+firstReserve S reserves p =
     cond (leb p (ringProcessors S reserves)) (standAt S reserves (record { 0 = (p - 1) * S }))
     (record { server = wholeServer S reserves (p - ringProcessors S reserves - 1); left = S })

@@ -3,7 +3,7 @@
 ghost use mathlib.Core.Path.{_≡_};
 ghost use Prim.Native.Nat.{_<_};
 ghost use lib.ListN.{take};
-ghost use Rattle.ring.specs.Laid.{Laid};
+ghost use Rattle.ring.specs.Slotted.{SlottedFirst};
 ghost use Rattle.ring.specs.Reserves.{ringLength};
 ghost use Rattle.ring.specs.Cover.{standAt};
 use crate::clock::Position;
@@ -15,7 +15,7 @@ pub struct Stand {
 
 // Each ring reserve starts where the last ended, so the first that ends past the position covers it.
 pub fn stand_at(reserves: &[u64], n: usize, slot: u64, at: Position) -> Stand
-    requires { ⌜ Laid slot (now reserves) n × (at .0 < ringLength slot (take n (now reserves))) ⌝ }
+    requires { ⌜ SlottedFirst slot (now reserves) n × (at .0 < ringLength slot (take n (now reserves))) ⌝ }
     ensures { λ r. ⌜ r ≡ standAt slot (take n (now (reserves .entry))) at ⌝ }
 {
     let place = at.0;

@@ -3,12 +3,12 @@
 ghost use mathlib.Core.Path.{_≡_};
 ghost use Prim.Native.Nat.{_≤_};
 ghost use lib.ListN.{take};
-ghost use Rattle.ring.specs.Laid.{Laid};
-ghost use Rattle.ring.specs.Reserves.{ringTicks, wholes, startOf, ringProcessors, idlePositions};
+ghost use Rattle.ring.specs.Slotted.{SlottedFirst};
+ghost use Rattle.ring.specs.Reserves.{ringTicks, wholes, startOf, ringProcessors};
 
 // The sum of the reserves on the ring.
 pub fn ring_ticks(reserves: &[u64], n: usize, slot: u64) -> u64
-    requires { ⌜ Laid slot (now reserves) n ⌝ }
+    requires { ⌜ SlottedFirst slot (now reserves) n ⌝ }
     ensures { λ r. ⌜ r ≡ ringTicks slot (take n (now (reserves .entry))) ⌝ }
 {
     let mut sum: u64 = 0;
@@ -25,7 +25,7 @@ pub fn ring_ticks(reserves: &[u64], n: usize, slot: u64) -> u64
 
 // The servers that have a whole processor.
 pub fn whole_count(reserves: &[u64], n: usize, slot: u64) -> u64
-    requires { ⌜ Laid slot (now reserves) n ⌝ }
+    requires { ⌜ SlottedFirst slot (now reserves) n ⌝ }
     ensures { λ r. ⌜ r ≡ wholes slot (take n (now (reserves .entry))) ⌝ }
 {
     let mut count: u64 = 0;
@@ -41,25 +41,15 @@ pub fn whole_count(reserves: &[u64], n: usize, slot: u64) -> u64
 }
 
 pub fn ring_processors(reserves: &[u64], n: usize, slot: u64) -> u64
-    requires { ⌜ Laid slot (now reserves) n ⌝ }
+    requires { ⌜ SlottedFirst slot (now reserves) n ⌝ }
     ensures { λ r. ⌜ r ≡ ringProcessors slot (take n (now (reserves .entry))) ⌝ }
 {
     wholes::ceiling(ring_ticks(reserves, n, slot), slot)
 }
 
-// The positions after the last reserve.
-pub fn idle_positions(reserves: &[u64], n: usize, slot: u64) -> u64
-    requires { ⌜ Laid slot (now reserves) n ⌝ }
-    ensures { λ r. ⌜ r ≡ idlePositions slot (take n (now (reserves .entry))) ⌝ }
-{
-    let ticks = ring_ticks(reserves, n, slot);
-    let length = wholes::ceiling(ticks, slot) * slot;
-    length - ticks
-}
-
 // Where the reserve of ring server q starts: after all ring reserves of lower number.
 pub fn start(reserves: &[u64], n: usize, slot: u64, q: u64) -> u64
-    requires { ⌜ Laid slot (now reserves) n × (1 ≤ q) × (q ≤ n) ⌝ }
+    requires { ⌜ SlottedFirst slot (now reserves) n × (1 ≤ q) × (q ≤ n) ⌝ }
     ensures { λ r. ⌜ r ≡ startOf slot (take n (now (reserves .entry))) q ⌝ }
 {
     let before = (q - 1) as usize;

@@ -3,9 +3,9 @@
 ghost use mathlib.Core.Path.{_≡_};
 ghost use Prim.Native.Nat.{_≤_};
 ghost use lib.ListN.{take};
-ghost use Rattle.ring.specs.Laid.{Laid};
+ghost use Rattle.ring.specs.Slotted.{SlottedFirst};
 ghost use Rattle.ring.specs.Reserves.{processorsOf};
-ghost use Rattle.ring.specs.Who.{wholeServer, whoOf, firstOf};
+ghost use Rattle.ring.specs.Who.{wholeServer, whoOf, firstReserve};
 use crate::clock::Tick;
 use crate::cover::Stand;
 use crate::cover::stand_at;
@@ -14,7 +14,7 @@ use crate::reserves::ring_processors;
 
 // The k-th server, from 0, that has a whole processor; 0 where there is none.
 pub fn whole_server(reserves: &[u64], n: usize, slot: u64, k: u64) -> u64
-    requires { ⌜ Laid slot (now reserves) n ⌝ }
+    requires { ⌜ SlottedFirst slot (now reserves) n ⌝ }
     ensures { λ r. ⌜ r ≡ wholeServer slot (take n (now (reserves .entry))) k ⌝ }
 {
     let mut more = k;
@@ -33,7 +33,7 @@ pub fn whole_server(reserves: &[u64], n: usize, slot: u64, k: u64) -> u64
 }
 
 pub fn who(reserves: &[u64], n: usize, slot: u64, processor: u64, tick: Tick) -> Stand
-    requires { ⌜ Laid slot (now reserves) n × (1 ≤ processor) × (processor ≤ processorsOf slot (take n (now reserves))) ⌝ }
+    requires { ⌜ SlottedFirst slot (now reserves) n × (1 ≤ processor) × (processor ≤ processorsOf slot (take n (now reserves))) ⌝ }
     ensures { λ r. ⌜ r ≡ whoOf slot (take n (now (reserves .entry))) processor tick ⌝ }
 {
     let ring = ring_processors(reserves, n, slot);
@@ -49,19 +49,10 @@ pub fn who(reserves: &[u64], n: usize, slot: u64, processor: u64, tick: Tick) ->
     }
 }
 
-// Ring processor p is at position (p − 1)·S at tick 0; a whole processor's first reserve is a slot.
+// What runs at tick 0: ring processor p is at position (p − 1)·S then, and a whole processor's slot begins.
 pub fn first(reserves: &[u64], n: usize, slot: u64, processor: u64) -> Stand
-    requires { ⌜ Laid slot (now reserves) n × (1 ≤ processor) × (processor ≤ processorsOf slot (take n (now reserves))) ⌝ }
-    ensures { λ r. ⌜ r ≡ firstOf slot (take n (now (reserves .entry))) processor ⌝ }
+    requires { ⌜ SlottedFirst slot (now reserves) n × (1 ≤ processor) × (processor ≤ processorsOf slot (take n (now reserves))) ⌝ }
+    ensures { λ r. ⌜ r ≡ firstReserve slot (take n (now (reserves .entry))) processor ⌝ }
 {
-    let ring = ring_processors(reserves, n, slot);
-    if processor <= ring {
-        let at = position(slot, ring, processor, Tick(0));
-        return stand_at(reserves, n, slot, at);
-    }
-    let own = whole_server(reserves, n, slot, processor - ring - 1);
-    Stand {
-        server: own,
-        left: slot,
-    }
+    who(reserves, n, slot, processor, Tick(0))
 }

@@ -5,7 +5,7 @@ use mathlib.Core.Path.{_≡_}
 use native.Mathlib.Omega.{arith}
 use lib.ListN.{take}
 use Rattle.servers.specs.Row.{row}
-use Rattle.ring.specs.Who.{firstOf}
+use Rattle.ring.specs.Who.{firstReserve}
 use Rattle.plan.specs.Plan.{upTo}
 use Rattle.plan.proofs.UpTo.{row-none, row-next, row-end}
 use mathlib.Core.Path.{ap}
@@ -14,7 +14,7 @@ use Rattle.plan.proofs.layout.first_reserves.Statement.{statement}
 use Rattle.plan.proofs.layout.first_reserves.Tie as tie
 
 abbrev Inv-loop : tie.InvT-loop
-Inv-loop reserves n slot processors server₀ duration₀ i₀ server duration i = (i ≤ processors) × (server ≡ row (upTo (λ (p : ℕ). firstOf slot (take n reserves) p .server) i)) × (duration ≡ row (upTo (λ (p : ℕ). firstOf slot (take n reserves) p .left) i))
+Inv-loop reserves n slot processors server₀ duration₀ i₀ server duration i = (i ≤ processors) × (server ≡ row (upTo (λ (p : ℕ). firstReserve slot (take n reserves) p .server) i)) × (duration ≡ row (upTo (λ (p : ℕ). firstReserve slot (take n reserves) p .left) i))
 
 abbrev μ-loop : tie.MeasureT-loop
 μ-loop reserves n slot processors server₀ duration₀ i₀ server duration i = processors - i

@@ -1,59 +1,17 @@
--- `who::first` meets its contract: a ring processor by its position, any other by its own server.
+-- `who::first` meets its contract: the first reserve is what runs at tick 0.
 -- Assumes nothing.
-use Prim.Native.Nat.{_≤_, _<_}
-use mathlib.Core.Path.{_∙_}
-use native.Mathlib.Omega.{arith}
-use Rattle.ring.proofs.WhoLaws.{phase-asks, phase-lands, first-lands, first-own}
 use borrow.Author.Needs.{needs}
+use Rattle.ring.proofs.WhoLaws.{first-told}
 use Rattle.ring.proofs.who.first.Statement.{statement}
 use Rattle.ring.proofs.who.first.Tie as tie
 
-ring-processors-requires : tie.Need-ring-processors-requires
-ring-processors-requires c κs = search needs
-
-position-requires : tie.Need-position-requires
-position-requires c κs =
-    let s = c .before .before .before in
-    let l : s .args .processor ≤ c .before .ring-processors .result = omega (arith, c .if1 .taken) in
-    phase-asks (s .pre .0) (c .before .ring-processors .ensures) (s .pre .1) l
-
-stand-at-requires : tie.Need-stand-at-requires
-stand-at-requires c κs =
-    let s = c .before .before .before .before in
-    let l : s .args .processor ≤ c .before .before .ring-processors .result = omega (arith, c .before .if1 .taken) in
-    (s .pre .0, phase-lands (s .pre .0) (c .before .before .ring-processors .ensures) (c .position .result) _ (s .pre .1) l (c .position .ensures))
+who-requires : tie.Need-who-requires
+who-requires c κs = search needs
 
 returns : tie.Need-returns
 returns c =
-    let s = c .before .before .before .before .before in
-    let l : s .args .processor ≤ c .before .before .before .ring-processors .result = omega (arith, c .before .before .if1 .taken) in
-    c .stand-at .ensures ∙
-    first-lands (s .pre .0) (c .before .before .before .ring-processors .ensures) (c .before .position .result) (s .pre .1) l (c .before .position .ensures)
-
-sub-whole-server : tie.Need-sub-whole-server
-sub-whole-server c = search needs
-
-sub-whole-server-2 : tie.Need-sub-whole-server-2
-sub-whole-server-2 c = search needs
-
-whole-server-requires : tie.Need-whole-server-requires
-whole-server-requires c κs = search needs
-
-returns-2 : tie.Need-returns-2
-returns-2 c =
-    let s = c .before .before .before .before in
-    let l : c .before .before .ring-processors .result < s .args .processor = omega (arith, c .before .if1 .left) in
-    first-own (s .pre .0) (c .before .before .ring-processors .ensures) (c .whole-server .result) l (c .whole-server .ensures)
+    let s = c .before .before in
+    first-told (s .pre .0) (s .pre .1) (c .who .ensures)
 
 pub first-spec : {M : Type 1} → statement M
-first-spec =
-    tie.close
-    (tie.spec
-    ring-processors-requires
-    position-requires
-    stand-at-requires
-    returns
-    sub-whole-server
-    sub-whole-server-2
-    whole-server-requires
-    returns-2)
+first-spec = tie.close (tie.spec who-requires returns)

@@ -4,7 +4,7 @@ use Prim.Native.Nat.{ℕ, zero, suc, _+_, _*_, _-_, _%_, _≤_, _<_}
 use mathlib.Core.Path.{_≡_, refl, sym, ap, _∙_}
 use mathlib.Core.List.{List, [], _∷_}
 use mathlib.Core.Logic.{⊎-elim}
-use native.Mathlib.Nat.{le-trans, le-refl, mod-lt, mod-self, mod-add-mod, zero-mod, sub-zero, add-sub-cancel-left}
+use native.Mathlib.Nat.{le-trans, le-refl, mod-lt, mod-self, mod-add-mod, sub-zero, add-sub-cancel-left}
 use native.Mathlib.Numerals.{add-one}
 use native.Mathlib.Omega.{arith}
 use borrow.Author.Tests.{le-leb, lt-leb}
@@ -12,21 +12,22 @@ use lib.ListN.{length, getD, take, drop, length-drop}
 use lib.Seq.{getD-drop}
 use Rattle.laws.proofs.Orders.{le-or-lt}
 use Rattle.laws.proofs.Choices.{cond-ltb, cond-ltb-not}
 use Rattle.ring.specs.declared.clock.Tick.{Tick}
 use Rattle.ring.specs.declared.cover.Stand.{Stand}
-use Rattle.ring.specs.Laid.{Reserved}
+use Rattle.ring_claims.specs.Slotted.{Slotted}
 use Rattle.ring.specs.Reserves.{reserveOf, ringTicks, startOf, ringProcessors, idlePositions}
 use Rattle.ring.specs.Phase.{phase}
 use Rattle.ring.specs.Cover.{standAt}
-use Rattle.ring.specs.Who.{wholeServer, whoOf, firstOf}
-use Rattle.ring.specs.Held.{later}
-use Rattle.ring.specs.Rota.{ringFrom, fresh, afterLast, following, nextTick, unrolled}
+use Rattle.ring.specs.Who.{wholeServer, whoOf}
+use Rattle.ring_claims.specs.Held.{later}
+use Rattle.ring_claims.specs.Rota.{ringFrom, fresh, afterLast, following, nextTick, unrolled}
 use Rattle.ring.proofs.Starts.{ring-nil, ring-cons, ring-more, ring-part, ring-split, ring-between, ring-holds, ring-least}
 use Rattle.ring.proofs.CoverLaws.{Covers, covers-there}
 use Rattle.ring.proofs.StandLaws.{stand-covered, stand-idle}
-use Rattle.ring.proofs.PhaseLaws.{phase-below, phase-first, phase-later}
-use Rattle.ring.proofs.WhoLaws.{who-ring, who-whole, first-ring, first-whole}
-use Rattle.ring.proofs.ServeLaws.{stand-cases, stays}
+use Rattle.ring.proofs.PhaseLaws.{phase-below}
+use Rattle.ring_claims.proofs.PhaseLaws.{phase-later}
+use Rattle.ring.proofs.WhoLaws.{who-ring, who-whole, first-who}
+use Rattle.ring_claims.proofs.ServeLaws.{stand-cases, stays}
 
 -- ---- the first ring server of a list
 
@@ -61,7 +62,7 @@ module _ (S : ℕ) where
       (λ (w : R < S). absurd (omega (arith, ring-cons S R Rs, cond-ltb R 0 w, f 0 (omega arith))))
       (le-or-lt S R)
 
-module _ (S : ℕ) (rs : List ℕ) (res : Reserved S rs) where
+module _ (S : ℕ) (rs : List ℕ) (res : Slotted S rs) where
   abbrev r : ℕ
   r = ringProcessors S rs
 
@@ -228,19 +229,8 @@ module _ (S : ℕ) (rs : List ℕ) (res : Reserved S rs) where
         (le-or-lt p r))
         (le-or-lt 2 (whoOf S rs p x .left))
 
-    -- the first reserve is what runs at tick 0
-    first-who : firstOf S rs p ≡ whoOf S rs p (record { 0 = 0 })
-    first-who =
-        ⊎-elim
-        (λ (l : p ≤ r).
-        first-ring S rs p l ∙ ap (standAt S rs) (sym (phase-first S r p (res .slot-some) some l)) ∙
-        sym (who-ring S rs p (record { 0 = 0 }) l))
-        (λ (l : r < p).
-        first-whole S rs p l ∙ sym (who-whole S rs p (record { 0 = 0 }) l ∙ rw (zero-mod S, sub-zero S)))
-        (le-or-lt p r)
-
     pub unrolled-who : (x : ℕ) → unrolled S rs p x ≡ whoOf S rs p (record { 0 = x })
     unfolding unrolled
-    unrolled-who zero = first-who
+    unrolled-who zero = first-who S rs p (res .slot-some) some
     unrolled-who (suc x) =
         ap (nextTick S rs p) (unrolled-who x) ∙ tick-on (record { 0 = x }) ∙ ap (λ (k : ℕ). whoOf S rs p (record { 0 = k })) (add-one x)

@@ -10,22 +10,24 @@ use native.Mathlib.Omega.{arith}
 use lib.ListN.{length, getD, take}
 use lib.Seq.{take-length}
 use Rattle.laws.proofs.Orders.{le-or-lt}
 use Rattle.ring.specs.declared.clock.Tick.{Tick}
 use Rattle.ring.specs.declared.clock.Position.{Position}
 use Rattle.ring.specs.declared.cover.Stand.{Stand}
 use Rattle.ring.specs.Reserves.{reserveOf, ringTicks, startOf, wholes, ringProcessors, ringLength, processorsOf}
 use Rattle.ring.specs.Phase.{phase}
 use Rattle.ring.specs.Cover.{covererUpTo, standAt}
 use Rattle.ring.specs.Who.{wholeServer, whoOf}
-use Rattle.ring.specs.Serves.{ServesOnRing, ServesWhole, Serves}
-use Rattle.ring.specs.Held.{later}
-use Rattle.ring.specs.Claims.{Answers, Stays}
+use Rattle.ring_claims.specs.Serves.{ServesOnRing, ServesWhole, Serves}
+use Rattle.ring_claims.specs.Held.{later}
+use Rattle.ring_claims.specs.Claims.{Answers, Stays}
 use Rattle.ring.proofs.Starts.{ring-more, ring-part, ring-holds}
 use Rattle.ring.proofs.CoverLaws.{Covers, covers-told, covers-is, covers-there, no-overlap, found, coverer-is, coverer-covers}
 use Rattle.ring.proofs.StandLaws.{stand-covered, stand-idle, stand-server}
-use Rattle.ring.proofs.WholeLaws.{whole-at, whole-once}
-use Rattle.ring.proofs.PhaseLaws.{since, since-is, phase-below, phase-agrees, phase-once, phase-later}
+use Rattle.ring_claims.proofs.OwnLaws.{whole-at, whole-once}
+use Rattle.ring_claims.proofs.TurnLaws.{since, since-is}
+use Rattle.ring.proofs.PhaseLaws.{phase-below}
+use Rattle.ring_claims.proofs.PhaseLaws.{phase-agrees, phase-once, phase-later}
 use Rattle.ring.proofs.WhoLaws.{who-ring, who-whole}
 
 module _ (S : ℕ) (rs : List ℕ) where
   abbrev r : ℕ

@@ -13,14 +13,14 @@ use lib.ListN.{length}
 use Rattle.laws.proofs.Tests.{never-true}
 use Rattle.laws.proofs.Orders.{le-or-lt}
 use Rattle.laws.proofs.Choices.{cond-ltb, cond-ltb-not}
 use Rattle.ring.specs.declared.clock.Tick.{Tick}
 use Rattle.ring.specs.Reserves.{reserveOf, startOf, processorsOf}
 use Rattle.ring.specs.Who.{whoOf}
-use Rattle.ring.specs.Serves.{RingServer, WholeProcessor, ServesOnRing, ServesWhole, Serves, OnBoard, sinceStart}
-use Rattle.ring.specs.Held.{later, countTo, heldAt, held}
-use Rattle.ring.proofs.PhaseLaws.{since-below, since-later}
-use Rattle.ring.proofs.ServeLaws.{one-processor, named-served, served-named}
-use Rattle.ring.proofs.BoardLaws.{board-ring, board-whole}
+use Rattle.ring_claims.specs.Serves.{RingServer, WholeProcessor, ServesOnRing, ServesWhole, Serves, OnBoard, sinceStart}
+use Rattle.ring_claims.specs.Held.{later, countTo, heldAt, held}
+use Rattle.ring_claims.proofs.TurnLaws.{since-below, since-later}
+use Rattle.ring_claims.proofs.ServeLaws.{one-processor, named-served, served-named}
+use Rattle.ring_claims.proofs.BoardLaws.{board-ring, board-whole}
 
 -- ---- counting
 
@@ -156,8 +156,8 @@ module _ (S : ℕ) (rs : List ℕ) (q : ℕ) (x : Tick) (h : 1 ≤ S) where
   whole-held s zero = refl
   whole-held s (suc t) = omega (arith, whole-held s t, held-whole S rs q h (s .some) (later x t) s)
 
-  pub in-any-slot : reserveOf rs q ≤ S → 1 ≤ q → q ≤ length rs → held S rs q x S ≡ reserveOf rs q
-  in-any-slot w some there =
+  pub held-slot : reserveOf rs q ≤ S → 1 ≤ q → q ≤ length rs → held S rs q x S ≡ reserveOf rs q
+  held-slot w some there =
       ⊎-elim
       (λ (l : S ≤ reserveOf rs q).
       let e : reserveOf rs q ≡ S = le-antisymm w l in

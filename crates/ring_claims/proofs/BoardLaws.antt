@@ -7,17 +7,18 @@ use mathlib.Core.Logic.{inl, inr, ⊎-elim, _↔_}
 use native.Mathlib.Nat.{le-trans, le-of-eq}
 use native.Mathlib.Omega.{arith}
 use Rattle.laws.proofs.Orders.{le-or-lt}
 use Rattle.ring.specs.declared.clock.Tick.{Tick}
 use Rattle.ring.specs.Reserves.{reserveOf, ringTicks, startOf, ringProcessors, ringLength}
 use Rattle.ring.specs.Phase.{phase}
 use Rattle.ring.specs.Who.{wholeServer}
-use Rattle.ring.specs.Serves.{RingServer, WholeProcessor, ServesOnRing, ServesWhole, OnBoard, UsableOnRing, Usable, sinceStart}
-use Rattle.ring.specs.Claims.{Board}
+use Rattle.ring_claims.specs.Serves.{RingServer, WholeProcessor, ServesOnRing, ServesWhole, OnBoard, UsableOnRing, Usable, sinceStart}
+use Rattle.ring_claims.specs.Claims.{Board}
 use Rattle.ring.proofs.Starts.{ring-holds}
 use Rattle.ring.proofs.CoverLaws.{Covers, covers-is, none-past}
-use Rattle.ring.proofs.WholeLaws.{whole-has}
-use Rattle.ring.proofs.PhaseLaws.{since-back, phase-agrees, phase-reached}
-use Rattle.ring.proofs.ServeLaws.{serves-covers, serves-since, own-slot}
+use Rattle.ring_claims.proofs.OwnLaws.{whole-has}
+use Rattle.ring_claims.proofs.TurnLaws.{since-back}
+use Rattle.ring_claims.proofs.PhaseLaws.{phase-agrees, phase-reached}
+use Rattle.ring_claims.proofs.ServeLaws.{serves-covers, serves-since, own-slot}
 
 module _ (S : ℕ) (rs : List ℕ) (x : Tick) (h : 1 ≤ S) where
   abbrev r : ℕ

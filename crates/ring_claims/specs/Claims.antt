@@ -1,21 +1,21 @@
 -- What is promised of the ring, in the words of document 01, rules 3 to 5 and the question "who runs".
--- The proofs stand in proofs/Theorems.antt, one for each claim.
+-- The proofs stand in proofs/Claims.antt, one for each claim.
 use Prim.Native.Nat.{ℕ, _+_, _*_, _-_, _%_, _≤_, _<_}
 use mathlib.Core.Path.{_≡_}
 use mathlib.Core.List.{List}
 use mathlib.Core.Bool.{true}
 use mathlib.Core.Logic.{_↔_}
 use lib.ListN.{length}
 use Rattle.ring.specs.declared.clock.Tick.{Tick}
 use Rattle.ring.specs.declared.clock.Position.{Position}
-use Rattle.ring.specs.Laid.{Reserved}
+use Rattle.ring_claims.specs.Slotted.{Slotted}
 use Rattle.ring.specs.Reserves.{reserveOf, startOf, ringTicks, ringProcessors, ringLength, idlePositions, processorsOf}
 use Rattle.ring.specs.Phase.{phase}
 use Rattle.ring.specs.Cover.{covers, covererUpTo}
-use Rattle.ring.specs.Who.{whoOf, firstOf}
-use Rattle.ring.specs.Serves.{RingServer, WholeProcessor, Serves, OnBoard, Usable, sinceStart}
-use Rattle.ring.specs.Held.{later, held}
-use Rattle.ring.specs.Rota.{unrolled}
+use Rattle.ring.specs.Who.{whoOf, firstReserve}
+use Rattle.ring_claims.specs.Serves.{RingServer, WholeProcessor, Serves, OnBoard, Usable, sinceStart}
+use Rattle.ring_claims.specs.Held.{later, held}
+use Rattle.ring_claims.specs.Rota.{unrolled}
 
 -- ---- rule 3: reserves stand one after another
 
@@ -66,7 +66,7 @@ pub record First (S : ℕ) (reserves : List ℕ) (p q left : ℕ) : Type 0 where
 abbrev pub FirstReserve : Type 0
 FirstReserve =
     (S : ℕ) (reserves : List ℕ) (p : ℕ) → 1 ≤ S → 1 ≤ p → p ≤ ringProcessors S reserves →
-    First S reserves p (firstOf S reserves p .server) (firstOf S reserves p .left)
+    First S reserves p (firstReserve S reserves p .server) (firstReserve S reserves p .left)
 
 -- ---- rule 4: the phase
 
@@ -114,7 +114,7 @@ WhoStays =
 -- the printed rota, unrolled from each processor's first reserve, is the answer at every tick
 abbrev pub RotaUnrolled : Type 0
 RotaUnrolled =
-    (S : ℕ) (reserves : List ℕ) (p x : ℕ) → Reserved S reserves → 1 ≤ p → p ≤ processorsOf S reserves →
+    (S : ℕ) (reserves : List ℕ) (p x : ℕ) → Slotted S reserves → 1 ≤ p → p ≤ processorsOf S reserves →
     unrolled S reserves p x ≡ whoOf S reserves p (record { 0 = x })
 
 -- ---- a server's ticks
@@ -134,6 +134,6 @@ UsableWhen =
     Usable S L reserves q x ↔ ((L ≤ sinceStart S reserves q x) × (sinceStart S reserves q x < reserveOf reserves q))
 
 -- in any S consecutive ticks a server holds exactly R processor ticks
-abbrev pub InAnySlot : Type 0
-InAnySlot =
-    (S : ℕ) (reserves : List ℕ) (q : ℕ) (x : Tick) → Reserved S reserves → 1 ≤ q → q ≤ length reserves → held S reserves q x S ≡ reserveOf reserves q
+abbrev pub HeldInSlot : Type 0
+HeldInSlot =
+    (S : ℕ) (reserves : List ℕ) (q : ℕ) (x : Tick) → Slotted S reserves → 1 ≤ q → q ≤ length reserves → held S reserves q x S ≡ reserveOf reserves q

@@ -9,17 +9,17 @@ use native.Mathlib.Omega.{arith}
 use lib.ListN.{length, getD, take}
 use lib.Seq.{take-length}
 use Rattle.laws.proofs.Orders.{le-or-lt}
 use Rattle.ring.specs.declared.clock.Position.{Position}
 use Rattle.ring.specs.declared.cover.Stand.{Stand}
 use Rattle.ring.specs.Reserves.{reserveOf, ringTicks, startOf, ringProcessors, ringLength, idlePositions}
 use Rattle.ring.specs.Cover.{covererUpTo}
-use Rattle.ring.specs.Who.{firstOf}
-use Rattle.ring.specs.Serves.{RingServer}
-use Rattle.ring.specs.Claims.{CoveredOnce, CoveredNever, FilledRing, First}
+use Rattle.ring.specs.Who.{firstReserve}
+use Rattle.ring_claims.specs.Serves.{RingServer}
+use Rattle.ring_claims.specs.Claims.{CoveredOnce, CoveredNever, FilledRing, First}
 use Rattle.ring.proofs.Starts.{ring-more, ring-mono, ring-holds, ring-least, ring-tight}
 use Rattle.ring.proofs.CoverLaws.{Covers, covers-told, covers-is, covers-there, covers-before, no-overlap, none-past, found, coverer-is, coverer-none}
 use Rattle.ring.proofs.StandLaws.{stand-covered}
 use Rattle.ring.proofs.WhoLaws.{first-ring}
 
 module _ (S : ℕ) (rs : List ℕ) where
   -- below the sum of the reserves a ring server covers
@@ -107,14 +107,14 @@ module _ (S : ℕ) (rs : List ℕ) where
             (t, omega arith)
 
     by-server : (q : ℕ) → 1 ≤ q → Covers S rs q ((p - 1) * S) → p ≤ ringProcessors S rs →
-        First S rs p (firstOf S rs p .server) (firstOf S rs p .left)
+        First S rs p (firstReserve S rs p .server) (firstReserve S rs p .left)
     by-server zero k c l = absurd (omega arith)
     by-server (suc j) k c l =
         subst (λ (s : Stand). First S rs p (s .server) (s .left))
         (sym (first-ring S rs p l ∙ stand-covered S rs (record { 0 = (p - 1) * S }) j c))
         (first-of j c)
 
-    pub first-reserve : 1 ≤ S → 1 ≤ p → p ≤ ringProcessors S rs → First S rs p (firstOf S rs p .server) (firstOf S rs p .left)
+    pub first-reserve : 1 ≤ S → 1 ≤ p → p ≤ ringProcessors S rs → First S rs p (firstReserve S rs p .server) (firstReserve S rs p .left)
     first-reserve h some l =
         let f = covered ((p - 1) * S) (ring-least S rs h (omega arith)) in
         let s = f .1 in

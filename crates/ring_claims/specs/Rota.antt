@@ -5,9 +5,9 @@ use mathlib.Core.List.{List, [], _∷_}
 use mathlib.Core.Bool.{cond}
 use lib.ListN.{drop}
 use lib.Dec.{leb, ltb}
 use Rattle.ring.specs.declared.cover.Stand.{Stand}
 use Rattle.ring.specs.Reserves.{reserveOf, ringProcessors, idlePositions}
-use Rattle.ring.specs.Who.{firstOf}
+use Rattle.ring.specs.Who.{firstReserve}
 
 -- the first server on the ring, where these reserves begin with server q; 0 where there is none
 unfoldable pub ringFrom : (S : ℕ) (reserves : List ℕ) (q : ℕ) → ℕ
@@ -36,5 +36,5 @@ nextTick S reserves p s =
 
 -- x ticks after the first reserve of processor p began
 unfoldable pub unrolled : (S : ℕ) (reserves : List ℕ) (p x : ℕ) → Stand
-unrolled S reserves p zero = firstOf S reserves p
+unrolled S reserves p zero = firstReserve S reserves p
 unrolled S reserves p (suc x) = nextTick S reserves p (unrolled S reserves p x)

@@ -1,0 +1,9 @@
+pub mod TurnLaws
+pub mod PhaseLaws
+pub mod OwnLaws
+pub mod ServeLaws
+pub mod BoardLaws
+pub mod HeldLaws
+pub mod FirstLaws
+pub mod RotaLaws
+pub mod Claims

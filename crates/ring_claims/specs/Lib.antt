@@ -1,0 +1,5 @@
+pub mod Slotted
+pub mod Serves
+pub mod Held
+pub mod Rota
+pub mod Claims
