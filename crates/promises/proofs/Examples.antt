@@ -33,15 +33,9 @@ use Rattle.servers.specs.Reserve.{reservesUpTo, reservesOf}
 use Rattle.ring.specs.Cover.{covers, covererUpTo, standAt}
 use Rattle.ring.specs.Phase.{phase}
 use Rattle.ring.specs.Reserves.{ringTicks, wholes}
-<<<<<<< HEAD
 use Rattle.ring.specs.Who.{wholeFrom, whoOf, firstReserve}
 use Rattle.rows.specs.Charge.{loadOf, loadsOfSet, lossOf}
 use Rattle.rows.specs.Rows.{slotRow, tightRow, horizonOf, horizonRow, chargedOutcome}
-=======
-use Rattle.ring.specs.Who.{wholeFrom, whoOf, firstReserve}
-use Rattle.plan.specs.Charge.{loadOf, loadsOfSet, lossOf}
-use Rattle.plan.specs.Rows.{slotRow, tightRow, horizonOf, horizonRow, chargedOutcome}
->>>>>>> 6ad868f (ring: its claims stand in ring_claims; one invariant for the passes that sum; first is who at tick 0; idle_positions goes)
 use Rattle.plan.specs.Plan.{upTo, laidOut, setPlacement, setReserves, planMade}
 use Rattle.questions.specs.Agrees.{sameFigures, sameServers, sameProcessors, agrees}
 use Rattle.plan.specs.Planner.{needed, fullRow, planOutcome, planOf}
