@@ -19,7 +19,8 @@ use Rattle.servers.specs.declared.members.Members.{Members}
 use Rattle.servers.proofs.ServedLaws.{reserves-count}
 use Rattle.tasks.specs.declared.set.TaskSet.{TaskSet}
 use Rattle.tasks.specs.Set.{mostTasks}
-use Rattle.tasks.specs.Rows.{firstOf, when, askRow}
+use Rattle.refusals.specs.First.{firstOf, when}
+use Rattle.tasks.specs.Rows.{askRow}
 use Rattle.tasks.proofs.Carried.{count-within, ask-count}
 use Rattle.plan.specs.declared.plan.Plan.{Plan}
 use Rattle.rows.specs.Charge.{loadsOfSet, lossOf}

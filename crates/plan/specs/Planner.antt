@@ -8,7 +8,8 @@ use Rattle.refusals.specs.declared.Refusal.the-variants.{Full, Ask}
 use Rattle.refusals.specs.declared.Outcome.{Outcome}
 use Rattle.refusals.specs.declared.Outcome.the-variants.{Done, Refused}
 use Rattle.tasks.specs.declared.set.TaskSet.{TaskSet}
-use Rattle.tasks.specs.Rows.{firstOf, when, askRow}
+use Rattle.refusals.specs.First.{firstOf, when}
+use Rattle.tasks.specs.Rows.{askRow}
 use Rattle.ring.specs.Reserves.{processorsOf}
 use Rattle.plan.specs.declared.plan.Plan.{Plan}
 use Rattle.plan.specs.declared.planner.PlanAnswer.{PlanAnswer}

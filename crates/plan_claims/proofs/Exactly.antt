@@ -15,8 +15,9 @@ use Rattle.refusals.specs.declared.Outcome.the-variants.{Done, Refused}
 use Rattle.tasks.specs.declared.set.Task.{Task}
 use Rattle.tasks.specs.declared.set.TaskSet.{TaskSet}
 use Rattle.tasks.specs.Set.{members, zeroTask}
-use Rattle.tasks.specs.Rows.{firstOf, when, firstTask, atTask, boardRow, rangeRow, figuresOutcome, askRow}
-use Rattle.tasks.proofs.Bools.{done-refused}
+use Rattle.refusals.specs.First.{firstOf, when}
+use Rattle.tasks.specs.Rows.{firstTask, atTask, boardRow, rangeRow, figuresOutcome, askRow}
+use Rattle.refusals.proofs.FirstLaws.{done-refused}
 use Rattle.tasks.proofs.Firsts.{at-none, at-some}
 use Rattle.tasks.proofs.FirstLaws.{Stops, first-stops, stops-first, first-none, none-first}
 use Rattle.rows.specs.Rows.{slotRow, tightRow, horizonRow, chargedOutcome}

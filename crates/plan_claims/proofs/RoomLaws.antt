@@ -7,16 +7,15 @@ use Rattle.refusals.specs.declared.Outcome.{Outcome}
 use Rattle.refusals.specs.declared.Outcome.the-variants.{Done, Refused}
 use Rattle.tasks.specs.declared.set.TaskSet.{TaskSet}
 use Rattle.tasks.specs.Rows.{countRow, figuresOutcome, askRow}
-use Rattle.tasks.proofs.Bools.{done-refused}
+use Rattle.refusals.proofs.FirstLaws.{done-refused}
 use Rattle.plan.specs.declared.plan.Plan.{Plan}
 use Rattle.rows.specs.Charge.{loadsOfSet}
 use Rattle.rows.specs.Rows.{horizonOf, horizonRow, chargedOutcome}
 use Rattle.plan.specs.Plan.{setPlacement, setReserves, planMade, zeroPlan}
 use Rattle.plan.specs.Planner.{needed, fullRow, planOutcome, answer, planOf}
-use Rattle.questions.specs.Agrees.{isDone, makes}
+use Rattle.questions.specs.Agrees.{isDone, makes, SamePlan}
 use Rattle.questions.specs.Question.{isProcessor, isServer, whoRuns, doesPass}
 use Rattle.plan_claims.specs.Claims.{SameSet, SetRoomIgnored, PlanRoomIgnored, RoomIgnored, MakesOwn, PlanGiven, PlanDetermined}
-use Rattle.questions.specs.Agrees.{SamePlan}
 use Rattle.questions.proofs.AgreeLaws.{agree-same, agree-self, agree-alike}
 use Rattle.plan.proofs.Made.{plan-outcome, plan-is}
 use Rattle.questions.proofs.Checked.{makes-done, makes-agrees}

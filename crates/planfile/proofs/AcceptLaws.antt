@@ -25,9 +25,8 @@ use Rattle.plan.specs.declared.planner.PlanAnswer.{PlanAnswer}
 use Rattle.rows.specs.Charge.{loadOf, loadsOfSet, lossOf}
 use Rattle.rows.specs.Rows.{RowsClear}
 use Rattle.plan.specs.Plan.{planMade, laidOut, setReserves}
-use Rattle.questions.specs.Agrees.{agrees, sameFigures}
+use Rattle.questions.specs.Agrees.{agrees, sameFigures, makes, isDone}
 use Rattle.plan.specs.Planner.{Clear, planOutcome, planOf, needed, fullRow}
-use Rattle.questions.specs.Agrees.{makes, isDone}
 use Rattle.questions.proofs.AgreeLaws.{agree-self}
 use Rattle.rows.proofs.Clears.{charged-clear}
 use Rattle.plan.proofs.Made.{plan-outcome, plan-is, outcome-clear, made-needs}

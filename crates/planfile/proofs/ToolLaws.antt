@@ -16,8 +16,8 @@ use Rattle.ring.specs.Who.{whoOf}
 use Rattle.servers.specs.Placement.{loadsIn}
 use Rattle.tasks.specs.declared.set.Header.{Header}
 use Rattle.tasks.specs.declared.set.TaskSet.{TaskSet}
-use Rattle.tasks.specs.declared.read.ReadAnswer.{ReadAnswer}
-use Rattle.tasks.specs.Read.{readOf}
+use Rattle.taskread.specs.declared.read.ReadAnswer.{ReadAnswer}
+use Rattle.taskread.specs.Read.{readOf}
 use Rattle.plan.specs.declared.plan.Plan.{Plan}
 use Rattle.plan.specs.declared.planner.PlanAnswer.{PlanAnswer}
 use Rattle.questions.specs.declared.question.WhoAnswer.{WhoAnswer}

@@ -7,7 +7,7 @@ use mathlib.Core.Bool.{true, false}
 use Rattle.refusals.specs.declared.Refusal.the-variants.{Ask}
 use Rattle.refusals.specs.declared.Written.{Written}
 use Rattle.refusals.specs.declared.Written.the-variants.{Refused}
-use Rattle.tasks.specs.Write.{leaves}
+use Rattle.refusals.specs.Leaves.{leaves}
 use Rattle.tasks.specs.declared.set.TaskSet.{TaskSet}
 use Rattle.plan.specs.declared.plan.Plan.{Plan}
 use Rattle.questions.specs.Agrees.{makes}

@@ -9,8 +9,8 @@ use Rattle.verdict.specs.declared.answer.Reading.{Reading}
 use Rattle.verdict.specs.declared.answer.Verdict.the-variants.{Yes}
 use Rattle.ring.specs.declared.clock.Tick.{Tick}
 use Rattle.tasks.specs.declared.set.TaskSet.{TaskSet}
-use Rattle.tasks.specs.declared.read.ReadAnswer.{ReadAnswer}
-use Rattle.tasks.specs.Read.{readOf}
+use Rattle.taskread.specs.declared.read.ReadAnswer.{ReadAnswer}
+use Rattle.taskread.specs.Read.{readOf}
 use Rattle.plan.specs.declared.planner.PlanAnswer.{PlanAnswer}
 use Rattle.questions.specs.declared.question.WhoAnswer.{WhoAnswer}
 use Rattle.questions.specs.declared.question.PassAnswer.{PassAnswer}

@@ -5,8 +5,8 @@ use mathlib.Core.List.{List}
 use Rattle.refusals.specs.declared.Outcome.{Outcome}
 use Rattle.refusals.specs.declared.Outcome.the-variants.{Done, Refused}
 use Rattle.tasks.specs.declared.set.TaskSet.{TaskSet}
-use Rattle.tasks.specs.declared.read.ReadAnswer.{ReadAnswer}
-use Rattle.tasks.specs.Read.{readOf}
+use Rattle.taskread.specs.declared.read.ReadAnswer.{ReadAnswer}
+use Rattle.taskread.specs.Read.{readOf}
 use Rattle.plan.specs.declared.planner.PlanAnswer.{PlanAnswer}
 use Rattle.plan.specs.Planner.{planOf}
 use Rattle.plantext.specs.Text.{planText, refusalText}

@@ -13,7 +13,7 @@ use refusals::Outcome;
 use refusals::Refusal;
 use ring::clock::Tick;
 use rows::charge::loss;
-use tasks::read::read;
+use taskread::read::read;
 use tasks::set::TaskSet;
 use verdict::answer::Reading;
 use verdict::answer::Verdict;

@@ -5,7 +5,7 @@ use plantext::fit::fit_plan;
 use plantext::fit::fit_refusal;
 use refusals::Outcome;
 use refusals::Written;
-use tasks::read::read;
+use taskread::read::read;
 use tasks::set::TaskSet;
 ghost use Rattle.plantext.specs.Fit.{Fits};
 ghost use Rattle.planfile.specs.Tool.{planned, answered};

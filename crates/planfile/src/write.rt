@@ -7,7 +7,7 @@ use refusals::Refusal;
 use refusals::Written;
 use tasks::set::TaskSet;
 ghost use mathlib.Core.Path.{_≡_};
-ghost use Rattle.tasks.specs.Write.{leaves};
+ghost use Rattle.refusals.specs.Leaves.{leaves};
 ghost use Rattle.plantext.specs.Text.{planText};
 ghost use Rattle.planfile.specs.Write.{writePlan};
 

@@ -19,10 +19,10 @@ use Rattle.refusals.specs.declared.Written.{Written}
 use Rattle.refusals.specs.declared.Written.the-variants.{Bytes, Refused}
 use Rattle.ring.specs.declared.clock.Tick.{Tick}
 use Rattle.tasks.specs.declared.set.TaskSet.{TaskSet}
-use Rattle.tasks.specs.declared.read.ReadAnswer.{ReadAnswer}
-use Rattle.tasks.specs.Read.{readOf}
-use Rattle.tasks.specs.Write.{leaves}
-use Rattle.tasks.proofs.Prefix.{read-looks-at, furthest-bytes}
+use Rattle.taskread.specs.declared.read.ReadAnswer.{ReadAnswer}
+use Rattle.taskread.specs.Read.{readOf}
+use Rattle.refusals.specs.Leaves.{leaves}
+use Rattle.tasks_claims.proofs.Prefix.{read-looks-at, furthest-bytes}
 use Rattle.plan.specs.declared.plan.Plan.{Plan}
 use Rattle.plan.specs.declared.planner.PlanAnswer.{PlanAnswer}
 use Rattle.plan.specs.Plan.{planMade}

@@ -32,8 +32,7 @@ use Rattle.plan.specs.declared.plan.Plan.{Plan}
 use Rattle.rows.specs.Charge.{loadsOfSet}
 use Rattle.plan.specs.Plan.{planMade, laidOut, setPlacement, setReserves, upTo, ringStart}
 use Rattle.plan.specs.Planner.{Clear}
-use Rattle.questions.specs.Agrees.{makes}
-use Rattle.questions.specs.Agrees.{SamePlan}
+use Rattle.questions.specs.Agrees.{makes, SamePlan}
 use Rattle.questions.proofs.AgreeLaws.{agree-same}
 use Rattle.questions.proofs.Checked.{OfSet, of-set}
 use Rattle.plan.proofs.Made.{set-count, slot-some, few-loads}

@@ -11,7 +11,7 @@ use Rattle.refusals.specs.declared.Written.{Written}
 use Rattle.refusals.specs.declared.Written.the-variants.{Bytes, Refused}
 use Rattle.ring.specs.declared.clock.Tick.{Tick}
 use Rattle.tasks.specs.declared.set.TaskSet.{TaskSet}
-use Rattle.tasks.specs.Write.{leaves}
+use Rattle.refusals.specs.Leaves.{leaves}
 use Rattle.plan.specs.declared.plan.Plan.{Plan}
 use Rattle.questions.specs.declared.question.WhoAnswer.{WhoAnswer}
 use Rattle.questions.specs.declared.question.PassAnswer.{PassAnswer}

@@ -9,7 +9,7 @@ use Rattle.digits.specs.Stored.{stored}
 use Rattle.refusals.specs.declared.Refusal.the-variants.{Room}
 use Rattle.refusals.specs.declared.Written.{Written}
 use Rattle.refusals.specs.declared.Written.the-variants.{Bytes, Refused}
-use Rattle.tasks.specs.Write.{leaves}
+use Rattle.refusals.specs.Leaves.{leaves}
 use Rattle.plantext.specs.Fit.{fitted, Fits}
 
 module _ (buffer text : List ℕ) where

@@ -11,7 +11,7 @@ use Rattle.refusals.specs.declared.Written.{Written}
 use Rattle.refusals.specs.declared.Written.the-variants.{Bytes, Refused}
 use Rattle.tasks.specs.declared.set.TaskSet.{TaskSet}
 use Rattle.tasks.specs.Set.{mostTasks}
-use Rattle.tasks.specs.Write.{leaves}
+use Rattle.refusals.specs.Leaves.{leaves}
 use Rattle.plan.specs.declared.plan.Plan.{Plan}
 
 -- a text of this length into this buffer

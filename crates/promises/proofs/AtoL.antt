@@ -7,8 +7,8 @@ use Rattle.refusals.specs.declared.Refusal.the-variants.{Horizon}
 use Rattle.refusals.specs.declared.Outcome.the-variants.{Done, Refused}
 use Rattle.demand.specs.Claims.{FakeDiffers}
 use Rattle.demand.proofs.Fake.{fake-differs}
-use Rattle.tasks.proofs.Examples.{bytesOf}
-use Rattle.tasks.specs.Read.{readOf}
+use Rattle.tasks_claims.proofs.Examples.{bytesOf}
+use Rattle.taskread.specs.Read.{readOf}
 use Rattle.rows.specs.Rows.{horizonOf}
 use Rattle.plan.specs.Planner.{planOf}
 use Rattle.planfile.specs.Tool.{answered}

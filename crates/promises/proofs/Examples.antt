@@ -8,7 +8,7 @@ use Rattle.refusals.specs.declared.Outcome.the-variants.{Done}
 use Rattle.verdict.specs.declared.answer.Reading.{Reading}
 use Rattle.verdict.specs.declared.answer.Verdict.the-variants.{No}
 use Rattle.ring.specs.declared.clock.Tick.{Tick}
-use Rattle.tasks.proofs.Examples.{bytesOf}
+use Rattle.tasks_claims.proofs.Examples.{bytesOf}
 use Rattle.questions.specs.declared.question.WhoAnswer.{WhoAnswer}
 use Rattle.questions.specs.declared.question.PassAnswer.{PassAnswer}
 use Rattle.digits.specs.Digit.{legal, valueOf, digitOf, allLegal}
@@ -17,8 +17,8 @@ use Rattle.frames.specs.Table.{kindOf, widthsOf, sum}
 use Rattle.frames.specs.Line.{line, after, closed, same, formed, fieldOf, fields, lineOf}
 use Rattle.tasks.specs.Set.{setOf}
 use Rattle.tasks.specs.Rows.{some, firstFrom, countRow, twiceRow, boardRow, rangeRow, figuresOutcome, headerOverflows, taskOverflows, askRow}
-use Rattle.tasks.specs.File.{past, tasksUpTo, seenUpTo, lineRow, orderRow, countLineRow, twiceLineRow, lineOutcome, linesOutcome, headerAt, taskAt, tasksFrom}
-use Rattle.tasks.specs.Read.{fileSet, readOutcome, readOf}
+use Rattle.taskread.specs.File.{past, tasksUpTo, seenUpTo, lineRow, orderRow, countLineRow, twiceLineRow, lineOutcome, linesOutcome, headerAt, taskAt, tasksFrom}
+use Rattle.taskread.specs.Read.{fileSet, readOutcome, readOf}
 use Rattle.wholes.specs.Ceiling.{ceilingOf}
 use Rattle.wholes.specs.Measure.{measureIn, commonMeasure}
 use Rattle.wholes.specs.Multiple.{leastMultiple, leastMultipleOf}
@@ -37,9 +37,8 @@ use Rattle.ring.specs.Who.{wholeFrom, whoOf, firstReserve}
 use Rattle.rows.specs.Charge.{loadOf, loadsOfSet, lossOf}
 use Rattle.rows.specs.Rows.{slotRow, tightRow, horizonOf, horizonRow, chargedOutcome}
 use Rattle.plan.specs.Plan.{upTo, laidOut, setPlacement, setReserves, planMade}
-use Rattle.questions.specs.Agrees.{sameFigures, sameServers, sameProcessors, agrees}
+use Rattle.questions.specs.Agrees.{sameFigures, sameServers, sameProcessors, agrees, makes}
 use Rattle.plan.specs.Planner.{needed, fullRow, planOutcome, planOf}
-use Rattle.questions.specs.Agrees.{makes}
 use Rattle.questions.specs.Question.{allowed, isProcessor, isServer, whoRuns, doesPass}
 use Rattle.plantext.specs.Text.{lines, planLine, serverLine, placedLine, processorLine, planText, refusalText}
 use Rattle.planfile.specs.Tool.{planned, answered}

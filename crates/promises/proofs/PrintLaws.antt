@@ -17,8 +17,7 @@ use Rattle.ring_claims.specs.Serves.{RingServer}
 use Rattle.tasks.specs.declared.set.TaskSet.{TaskSet}
 use Rattle.plan.specs.declared.plan.Plan.{Plan}
 use Rattle.plan.specs.Plan.{upTo, ringStart, laidOut, setReserves, planMade}
-use Rattle.questions.specs.Agrees.{makes}
-use Rattle.questions.specs.Agrees.{SamePlan}
+use Rattle.questions.specs.Agrees.{makes, SamePlan}
 use Rattle.plan.proofs.Made.{plan-outcome}
 use Rattle.plan.proofs.UpTo.{up-length}
 use Rattle.questions.proofs.Checked.{OfSet, of-set, same-made, makes-done}

@@ -23,10 +23,8 @@ use Rattle.tasks.specs.declared.set.TaskSet.{TaskSet}
 use Rattle.plan.specs.declared.plan.Plan.{Plan}
 use Rattle.rows.specs.Charge.{loadsOfSet, lossOf}
 use Rattle.plan.specs.Plan.{laidOut, setPlacement, setReserves, planMade}
-use Rattle.questions.specs.Agrees.{agrees}
-use Rattle.questions.specs.Agrees.{SamePlan}
+use Rattle.questions.specs.Agrees.{agrees, SamePlan, isDone, makes}
 use Rattle.plan.specs.Planner.{Clear, needed, planOutcome, planOf}
-use Rattle.questions.specs.Agrees.{isDone, makes}
 use Rattle.questions.specs.Question.{isProcessor, Standing}
 use Rattle.questions.proofs.AgreeLaws.{agree-same}
 use Rattle.rows.proofs.Clears.{loads-length}

@@ -7,8 +7,7 @@ use tasks::set::TaskSet;
 ghost use mathlib.Core.Path.{_≡_};
 ghost use Prim.Native.Nat.{_+_, _≤_};
 ghost use lib.ListN.{length};
-ghost use Rattle.questions.specs.Agrees.{sameFront, sameFigures, sameServers, sameProcessors, agrees};
-ghost use Rattle.questions.specs.Agrees.{makes};
+ghost use Rattle.questions.specs.Agrees.{sameFront, sameFigures, sameServers, sameProcessors, agrees, makes};
 
 fn same_front<'a>(a: &'a [u64], b: &'a [u64], n: usize) -> bool
     requires { ⌜ (n ≤ length (now a)) × (n ≤ length (now b)) ⌝ }

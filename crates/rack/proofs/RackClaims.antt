@@ -7,7 +7,7 @@ use native.Mathlib.Omega.{arith}
 use Rattle.refusals.specs.Refused.{numberOf, placeOf}
 use Rattle.refusals.specs.declared.Outcome.the-variants.{Done, Refused}
 use Rattle.refusals.specs.declared.Written.{Written}
-use Rattle.tasks.specs.Write.{leaves}
+use Rattle.refusals.specs.Leaves.{leaves}
 use Rattle.planfile.specs.Tool.{answered}
 use Rattle.planfile_claims.proofs.Claims.{text-exact, answered-short}
 use Rattle.rack.specs.Rack.{bytesOf, planBytes, planLeaves}

@@ -19,7 +19,7 @@ use Rattle.tasks.specs.declared.set.Task.{Task}
 use Rattle.tasks.specs.declared.set.TaskSet.{TaskSet}
 use Rattle.tasks.specs.Set.{members, zeroTask}
 use Rattle.tasks.proofs.FirstLaws.{first-none}
-use Rattle.tasks.proofs.Firsts.{members-length, member-at}
+use Rattle.tasks.proofs.SetLaws.{members-length, member-at}
 use Rattle.rows.specs.Charge.{loadOf}
 use Rattle.rows.specs.Rows.{tightRow, Chargeable}
 

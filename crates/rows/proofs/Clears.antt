@@ -27,9 +27,11 @@ use Rattle.tasks.specs.declared.set.Header.{Header}
 use Rattle.tasks.specs.declared.set.Task.{Task}
 use Rattle.tasks.specs.declared.set.TaskSet.{TaskSet}
 use Rattle.tasks.specs.Set.{mostTasks, mostProcessors, longestPeriod, members, zeroTask}
-use Rattle.tasks.specs.Rows.{firstOf, when, firstTask, atTask, some, boardRow, rangeRow, twiceRow, headerOverflows, overflows, taskOverflows, askRow, countRow, figuresOutcome}
+use Rattle.refusals.specs.First.{firstOf, when}
+use Rattle.tasks.specs.Rows.{firstTask, atTask, some, boardRow, rangeRow, twiceRow, headerOverflows, overflows, taskOverflows, askRow, countRow, figuresOutcome}
 use Rattle.tasks.proofs.FirstLaws.{first-none}
-use Rattle.tasks.proofs.Firsts.{members-length, at-some}
+use Rattle.tasks.proofs.SetLaws.{members-length}
+use Rattle.tasks.proofs.Firsts.{at-some}
 use Rattle.rows.specs.Charge.{loadOf, loadsOfSet, lossOf}
 use Rattle.rows.specs.Rows.{slotRow, tightRow, horizonOf, horizonRow, chargedOutcome, Chargeable, RowsClear}
 use Rattle.rows.proofs.Outcomes.{first-done, when-done, at-done}

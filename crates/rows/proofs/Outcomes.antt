@@ -6,8 +6,9 @@ use mathlib.Core.Bool.{Bool, true, false}
 use Rattle.refusals.specs.declared.Refusal.{Refusal}
 use Rattle.refusals.specs.declared.Outcome.{Outcome}
 use Rattle.refusals.specs.declared.Outcome.the-variants.{Done, Refused}
-use Rattle.tasks.specs.Rows.{firstOf, when, atTask}
-use Rattle.tasks.proofs.Bools.{done-refused}
+use Rattle.refusals.specs.First.{firstOf, when}
+use Rattle.tasks.specs.Rows.{atTask}
+use Rattle.refusals.proofs.FirstLaws.{done-refused}
 
 -- the first of two is done where both are
 pub first-done : (a b : Outcome) → firstOf a b ≡ Done → (a ≡ Done) × (b ≡ Done)

@@ -9,7 +9,8 @@ use Rattle.tasks.specs.declared.set.Task.{Task}
 use Rattle.tasks.specs.declared.set.TaskSet.{TaskSet}
 use Rattle.tasks.specs.Set.{members, zeroTask}
 use Rattle.tasks.specs.Rows.{firstTask, firstFrom}
-use Rattle.tasks.proofs.Firsts.{first-here, first-more, first-end, members-length, member-at}
+use Rattle.tasks.proofs.Firsts.{first-here, first-more, first-end}
+use Rattle.tasks.proofs.SetLaws.{members-length, member-at}
 
 module _ (p : Task → Bool) (set : TaskSet) (fits : set .count ≤ length (set .tasks)) (i : ℕ) where
   -- no task before place i, from 0, has the property: the first stands among the rest

@@ -12,7 +12,8 @@ use Rattle.tasks.specs.declared.set.Header.{Header}
 use Rattle.tasks.specs.declared.set.Task.{Task}
 use Rattle.tasks.specs.declared.set.TaskSet.{TaskSet}
 use Rattle.tasks.specs.Set.{mostTasks, members}
-use Rattle.tasks.specs.Rows.{firstOf, when, firstTask, atTask, boardRow, rangeRow, figuresOutcome}
+use Rattle.refusals.specs.First.{firstOf, when}
+use Rattle.tasks.specs.Rows.{firstTask, atTask, boardRow, rangeRow, figuresOutcome}
 use Rattle.rows.specs.Charge.{loadOf}
 
 -- 7 SLOT: a task has D < S

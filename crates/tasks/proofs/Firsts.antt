@@ -6,7 +6,7 @@ use mathlib.Core.List.{List, [], _∷_}
 use mathlib.Core.Bool.{Bool, true, false, cond}
 use mathlib.Core.Path.{_≡_, refl}
 use lib.ListN.{length, drop, getD, drop-of-length-le}
-use lib.Seq.{drop-cons, getD-take, length-take-le}
+use lib.Seq.{drop-cons}
 use Rattle.tasks.specs.declared.set.Task.{Task}
 use Rattle.tasks.specs.declared.set.TaskSet.{TaskSet}
 use Rattle.refusals.specs.declared.Refusal.{Refusal}
@@ -48,13 +48,6 @@ at-none r n e = rw e
 pub at-some : (r : ℕ → Refusal) (n : ℕ) → (n ≡ 0 → ⊥) → atTask r n ≡ Refused (r n)
 at-some r zero ne = absurd (ne refl)
 at-some r (suc n) ne = refl
-
--- a set's members where its count fits its room
-pub members-length : (set : TaskSet) → set .count ≤ length (set .tasks) → length (members set) ≡ set .count
-members-length set fits = length-take-le (set .count) (set .tasks) fits
-
-pub member-at : (set : TaskSet) (i : ℕ) (z : Task) → i < set .count → getD (members set) i z ≡ getD (set .tasks) i z
-member-at set i z lt = getD-take (set .count) (set .tasks) i z lt
 
 -- rows 5 and 6 where row 5 holds, and where it does not
 pub figures-board : (set : TaskSet) → boardRow (set .header) ≡ true → figuresOutcome set ≡ Refused Board

@@ -2,7 +2,7 @@
 -- Assumes nothing.
 use Prim.Native.Nat.{ℕ, zero, suc, _+_, _≤_, _<_}
 use mathlib.Core.Path.{_≡_, refl, sym, _∙_, ap}
-use mathlib.Core.Bool.{Bool, false, _||_}
+use mathlib.Core.Bool.{Bool, true, false, _||_}
 use mathlib.Core.List.{List, [], _∷_, _++_}
 use native.Mathlib.Numerals.{add-one}
 use native.Mathlib.Omega.{arith}
@@ -101,3 +101,17 @@ twice-more (u ∷ ts) t e f =
     ∙ or-neither
     (some-more (sameId u) ts t (or-left (some (sameId u) ts) (twiceRow ts) g) (other-way (u .id) (t .id) (or-left (sameId t u) (some (sameId t) ts) h)))
     (twice-more ts t (or-right (some (sameId u) ts) (twiceRow ts) g) (or-right (sameId t u) (some (sameId t) ts) h))
+
+-- whether a task has this id
+abbrev pub hasId : ℕ → Task → Bool
+hasId id u = eqb (u .id) id
+
+-- a test of tasks behind others
+pub some-append : (p : Task → Bool) (xs ys : List Task) → some p (xs ++ ys) ≡ (some p xs || some p ys)
+unfolding some
+some-append p [] ys = refl
+some-append p (x ∷ xs) ys = rw (some-append p xs ys) (swap (p x) (some p xs) (some p ys))
+  where
+    swap : (a b c : Bool) → (a || (b || c)) ≡ ((a || b) || c)
+    swap true b c = refl
+    swap false b c = refl

@@ -1,4 +1,4 @@
--- The refusal rows that speak of a set's figures, each by its own test, and the first of several outcomes.
+-- The refusal rows that speak of a set's figures, each by its own test.
 -- Document 01, "Refusal numbers and their order", rows 3 to 6 and 11.
 use Prim.Native.Nat.{ℕ, zero, suc, _^_}
 use mathlib.Core.List.{List, [], _∷_}
@@ -12,17 +12,8 @@ use Rattle.refusals.specs.declared.Outcome.the-variants.{Done, Refused}
 use Rattle.tasks.specs.declared.set.Header.{Header}
 use Rattle.tasks.specs.declared.set.Task.{Task}
 use Rattle.tasks.specs.declared.set.TaskSet.{TaskSet}
+use Rattle.refusals.specs.First.{firstOf, when}
 use Rattle.tasks.specs.Set.{mostTasks, mostProcessors, longestPeriod, members}
-
--- the first outcome that refuses
-abbrev pub firstOf : Outcome → Outcome → Outcome
-firstOf Done later = later
-firstOf (Refused r) later = Refused r
-
--- a refusal where its row holds
-abbrev pub when : Bool → Refusal → Outcome
-when true r = Refused r
-when false r = Done
 
 -- whether a test holds of some task, and the place from 1 of the first for which it does (0: none)
 unfoldable pub some : (Task → Bool) → List Task → Bool

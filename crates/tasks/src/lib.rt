@@ -1,7 +1,4 @@
-// Task files: the task set with its limits, the reader of any bytes and the writer of any set.
+// The task set with its limits, and the refusal rows that speak of a set alone.
 pub mod ask;
-pub mod line;
-pub mod read;
 pub mod rows;
 pub mod set;
-pub mod write;

@@ -24,7 +24,7 @@ fn say_same(same: bool) {
 
 fn say_written(set: TaskSet, text: &[u8]) {
     let mut again = io::buffer();
-    match tasks::write::write(set, &mut again) {
+    match taskwrite::write::write(set, &mut again) {
         Written::Bytes(n) => {
             if n <= 4096 {
                 say_same(check::same(&again[..n], text));
@@ -38,7 +38,7 @@ fn say_written(set: TaskSet, text: &[u8]) {
 }
 
 fn try_text(text: &[u8]) {
-    let answer = tasks::read::read(text);
+    let answer = taskread::read::read(text);
     let outcome = answer.outcome;
     let set = answer.set;
     match outcome {

@@ -6,8 +6,7 @@ use mathlib.Core.Logic.{_⊎_, inl, inr, ⊎-elim}
 use mathlib.Core.Bool.{Bool, true, false, false≢true, cond}
 use native.Mathlib.Nat.{le-suc-iff}
 use native.Mathlib.Decide.{decLt}
-use Rattle.verdict.specs.Search.{lastUpTo, firstUpTo, orElse}
-use Rattle.verdict.specs.Search.{NoneIn, Last, First}
+use Rattle.verdict.specs.Search.{lastUpTo, firstUpTo, orElse, NoneIn, Last, First}
 
 -- a stretch without p, grown by one number without p at its top
 pub none-more : {p : ℕ → Bool} {a n : ℕ} → NoneIn p a n → p (suc n) ≡ false → NoneIn p a (suc n)

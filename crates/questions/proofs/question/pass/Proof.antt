@@ -3,9 +3,8 @@
 use borrow.Author.Needs.{needs}
 use borrow.Author.Tests.{not-true, not-false}
 use mathlib.Core.Path.{sym, ap, _∙_}
-use Rattle.questions.specs.Question.{doesPass}
+use Rattle.questions.specs.Question.{doesPass, allowed}
 use Prim.Native.Nat.{ℕ}
-use Rattle.questions.specs.Question.{allowed}
 use Rattle.questions.proofs.question.pass.Statement.{statement}
 use Rattle.questions.proofs.question.pass.Tie as tie
 

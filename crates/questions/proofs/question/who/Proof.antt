@@ -4,9 +4,8 @@ use borrow.Author.Needs.{needs}
 use borrow.Author.Tests.{not-true, not-false}
 use mathlib.Core.Path.{_≡_, sym, ap, _∙_}
 use lib.ListN.{length, length-map}
-use Rattle.questions.specs.Question.{whoRuns}
+use Rattle.questions.specs.Question.{whoRuns, whoAnswer}
 use native.Mathlib.Omega.{arith}
-use Rattle.questions.specs.Question.{whoAnswer}
 use Rattle.plan.proofs.Made.{needed-few}
 use Rattle.questions.proofs.Checked.{of-set, standing, who-same}
 use Rattle.questions.proofs.question.who.Statement.{statement}

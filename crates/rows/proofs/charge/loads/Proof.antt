@@ -7,10 +7,9 @@ use native.Mathlib.Omega.{arith}
 use lib.ListN.{length, take, length-map}
 use Rattle.servers.specs.Members.{membersOf}
 use Rattle.rows.specs.Charge.{loadOf, loadsOfSet}
-use Rattle.rows.proofs.Charges.{set-early}
+use Rattle.rows.proofs.Charges.{set-early, loads-count, loads-step}
 use borrow.Author.Needs.{needs}
 use Prim.Native.Nat.{ℕ}
-use Rattle.rows.proofs.Charges.{loads-count, loads-step}
 use Rattle.rows.proofs.charge.loads.Statement.{statement}
 use Rattle.rows.proofs.charge.loads.Tie as tie
 

@@ -7,8 +7,9 @@ use native.Mathlib.Omega.{arith}
 use lib.ListN.{length, length-map}
 use Rattle.refusals.specs.declared.Outcome.the-variants.{Done}
 use Rattle.tasks.specs.Set.{members}
-use Rattle.tasks.proofs.Bools.{done-refused}
-use Rattle.tasks.proofs.Firsts.{first-within, members-length}
+use Rattle.refusals.proofs.FirstLaws.{done-refused}
+use Rattle.tasks.proofs.Firsts.{first-within}
+use Rattle.tasks.proofs.SetLaws.{members-length}
 use Rattle.rows.specs.Rows.{slotRow, tightRow}
 use Rattle.rows.proofs.Clears.{chargeable, charged-figures, charged-slot, charged-tight, charged-horizon, charged-none}
 use Rattle.rows.proofs.rows.charged.Statement.{statement}

@@ -7,7 +7,8 @@ use borrow.Author.Needs.{needs}
 use lib.ListN.{drop, length, getD, length-map}
 use mathlib.Core.Bool.{Bool, true, false}
 use Rattle.tasks.specs.declared.set.TaskSet.{TaskSet}
-use Rattle.tasks.proofs.Firsts.{first-here, first-more, first-end, members-length, member-at}
+use Rattle.tasks.proofs.Firsts.{first-here, first-more, first-end}
+use Rattle.tasks.proofs.SetLaws.{members-length, member-at}
 use Rattle.tasks.specs.Set.{members, zeroTask}
 use Rattle.tasks.specs.Rows.{rangeRow, firstTask, firstFrom}
 use Rattle.tasks.proofs.rows.first_out_of_range.Statement.{statement}

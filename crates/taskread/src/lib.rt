@@ -1,0 +1,3 @@
+// The reader of task files: the set of any bytes, or the first refusal.
+pub mod line;
+pub mod read;

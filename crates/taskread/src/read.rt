@@ -1,0 +1,76 @@
+// Reading a task file: the set, or the refusal and the all-zero set.
+// Lines are taken in order, then rows 5 and 6 of the figures.
+use crate::line::HeaderLine;
+use crate::line::TaskLine;
+use crate::line::header_line;
+use crate::line::header_outcome;
+use crate::line::task_line;
+use crate::line::task_outcome;
+use frames::table::Frame;
+use frames::table::length;
+use refusals::Outcome;
+use refusals::Refusal;
+use tasks::rows::figures;
+use tasks::set::Task;
+use tasks::set::TaskSet;
+ghost use mathlib.Core.Path.{_≡_};
+ghost use Prim.Native.Nat.{_<_};
+ghost use Rattle.tasks.specs.Set.{mostTasks, withTask};
+ghost use Rattle.taskread.specs.Read.{answer, readOf};
+
+pub struct ReadAnswer {
+    pub outcome: Outcome,
+    pub set: TaskSet,
+}
+
+// The set, or with a refusal the all-zero set.
+fn answered(outcome: Outcome, set: TaskSet) -> ReadAnswer
+    ensures { λ r. ⌜ r ≡ answer outcome set ⌝ }
+{
+    match outcome {
+        Outcome::Done => ReadAnswer {
+            outcome: Outcome::Done,
+            set,
+        },
+        Outcome::Refused(refusal) => ReadAnswer {
+            outcome: Outcome::Refused(refusal),
+            set: TaskSet::zero(),
+        },
+    }
+}
+
+// The set with one task more.
+fn with_task(set: TaskSet, task: Task) -> TaskSet
+    requires { ⌜ set .count < mostTasks ⌝ }
+    ensures { λ r. ⌜ r ≡ withTask set task ⌝ }
+{
+    let mut more = set;
+    let count = more.count;
+    more.tasks[count] = task;
+    more.count = count + 1;
+    more
+}
+
+pub fn read(text: &[u8]) -> ReadAnswer
+    ensures { λ r. ⌜ r ≡ readOf (now (text .entry)) ⌝ }
+{
+    let mut set = TaskSet::zero();
+    let first = header_line(text);
+    let HeaderLine::Header(header) = first else {
+        return answered(header_outcome(first), set);
+    };
+    set.header = header;
+    let mut at = length(Frame::Header) + 1;
+    while at < text.len() {
+        let line = task_line(text, at, set);
+        let TaskLine::Task(task) = line else {
+            return answered(task_outcome(line), set);
+        };
+        set = with_task(set, task);
+        at += length(Frame::Task) + 1;
+    }
+    if set.count == 0 {
+        return answered(Outcome::Refused(Refusal::Count(2)), set);
+    }
+    answered(figures(set), set)
+}

@@ -1,0 +1,50 @@
+-- The claims of specs/Claims, each under its own name.
+use Rattle.tasks_claims.specs.Claims.{ReadExactlyLine, ReadExactlyBoard, ReadExactlyRange, ReadExactlyDone, ReadRefuses, ReadDetermined, ReadLooksAt, ReadAccepted, WritesExactly, WritesLeave, WriteDetermined, ReadWritten, ReadWrittenSame, WrittenRead}
+use Rattle.tasks_claims.proofs.Exactly as exactly
+use Rattle.tasks_claims.proofs.Prefix as prefix
+use Rattle.tasks_claims.proofs.Accepted as accepted
+use Rattle.tasks_claims.proofs.WriteAnswers as answers
+use Rattle.tasks_claims.proofs.RoundTripSet as sets
+use Rattle.tasks_claims.proofs.RoundTripText as texts
+
+pub read-exactly-line : ReadExactlyLine
+read-exactly-line = exactly.read-exactly-line
+
+pub read-exactly-board : ReadExactlyBoard
+read-exactly-board = exactly.read-exactly-board
+
+pub read-exactly-range : ReadExactlyRange
+read-exactly-range = exactly.read-exactly-range
+
+pub read-exactly-done : ReadExactlyDone
+read-exactly-done = exactly.read-exactly-done
+
+pub read-refuses : ReadRefuses
+read-refuses = exactly.read-refuses
+
+pub read-determined : ReadDetermined
+read-determined = exactly.read-determined
+
+pub read-looks-at : ReadLooksAt
+read-looks-at = prefix.read-looks-at
+
+pub read-accepted : ReadAccepted
+read-accepted = accepted.read-accepted
+
+pub writes-exactly : WritesExactly
+writes-exactly = answers.writes-exactly
+
+pub writes-leave : WritesLeave
+writes-leave = answers.writes-leave
+
+pub write-determined : WriteDetermined
+write-determined = answers.write-determined
+
+pub read-written : ReadWritten
+read-written = sets.read-written
+
+pub read-written-same : ReadWrittenSame
+read-written-same = sets.read-written-same
+
+pub written-read : WrittenRead
+written-read = texts.written-read

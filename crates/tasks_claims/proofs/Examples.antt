@@ -1,0 +1,55 @@
+-- Task files and what reading answers for each, computed from the definitions of specs/.
+-- Document 01, example A and the rows of the refusals.
+use Prim.Native.Nat.{ℕ}
+use Prim.Native.Char.{code}
+use Prim.Native.String.{String}
+use mathlib.Core.List.{List, [], _∷_, map}
+use mathlib.Core.Path.{_≡_, refl}
+use Rattle.digits.specs.Digit.{legal, valueOf, allLegal}
+use Rattle.digits.specs.Number.{numberFrom}
+use Rattle.frames.specs.Table.{kindOf, widthsOf, sum}
+use Rattle.frames.specs.Line.{line, after, closed, same, formed, fieldOf}
+use Rattle.refusals.specs.declared.Refusal.the-variants.{Line, Order, Count, Twice, Board, Range}
+use Rattle.refusals.specs.declared.Outcome.{Outcome}
+use Rattle.refusals.specs.declared.Outcome.the-variants.{Done, Refused}
+use Rattle.tasks.specs.Set.{setOf}
+use Rattle.tasks.specs.Rows.{firstFrom, boardRow, rangeRow, figuresOutcome}
+use Rattle.taskread.specs.File.{past, tasksUpTo, seenUpTo, lineRow, orderRow, countLineRow, twiceLineRow, lineOutcome, linesOutcome, headerAt, taskAt, tasksFrom}
+use Rattle.taskread.specs.Read.{fileSet, readOutcome, readOf}
+
+-- the bytes of a text of plain characters
+abbrev pub bytesOf : String → List ℕ
+bytesOf String.[] = []
+bytesOf (String._∷_ c s) = code c ∷ bytesOf s
+
+abbrev pub answers : String → Outcome
+answers text = readOf (bytesOf text) .outcome
+
+-- a file, and what reading it answers
+pub record Example : Type 0 where
+  pub file : String
+  pub answer : Outcome
+
+abbrev pub examples : List Example
+examples =
+    -- A
+    record { file = "010200000A00000000000000000000\n020100000600000A00000A\n020200000600000A00000A\n020300000600000A00000A\n"; answer = Done }
+    -- nothing at all, and nothing but a header
+    ∷ record { file = ""; answer = Refused (Order 1) }
+    ∷ record { file = "010200000A00000000000000000000\n"; answer = Refused (Count 2) }
+    -- no LF at the end, CR before LF, a lower-case digit
+    ∷ record { file = "010200000A00000000000000000000\n020100000600000A00000A"; answer = Refused (Line 2) }
+    ∷ record { file = "010200000A00000000000000000000\r\n020100000600000A00000A\r\n"; answer = Refused (Line 1) }
+    ∷ record { file = "010200000a00000000000000000000\n020100000600000A00000A\n"; answer = Refused (Line 1) }
+    -- an id that repeats, a second header, an empty line
+    ∷ record { file = "010200000A00000000000000000000\n020100000600000A00000A\n020100000500000A00000A\n"; answer = Refused (Twice 3) }
+    ∷ record { file = "010200000A00000000000000000000\n020100000600000A00000A\n010200000A00000000000000000000\n"; answer = Refused (Order 3) }
+    ∷ record { file = "010200000A00000000000000000000\n\n020100000600000A00000A\n"; answer = Refused (Line 2) }
+    -- a header that breaks row 5, a task that breaks row 6
+    ∷ record { file = "010000000A00000000000000000000\n020100000600000A00000A\n"; answer = Refused Board }
+    ∷ record { file = "010200000A00000000000000000000\n020100000600000A00000A\n020200000B00000A00000A\n"; answer = Refused (Range 2) }
+    ∷ []
+
+pub examples-read : map (λ e. answers (e .file)) examples ≡ map (λ e. e .answer) examples
+unfolding legal valueOf allLegal numberFrom kindOf widthsOf sum line after closed same formed fieldOf setOf firstFrom boardRow rangeRow figuresOutcome past tasksUpTo seenUpTo lineRow orderRow countLineRow twiceLineRow lineOutcome linesOutcome headerAt taskAt tasksFrom fileSet readOutcome readOf
+examples-read = refl

@@ -1,0 +1,214 @@
+-- Reading looks no further than a header, 64 tasks and one line more: a text cut behind them is answered the same.
+use Prim.Native.Nat.{ℕ, zero, suc, _+_, _-_, _≤_, _<_}
+use native.Mathlib.Omega.{arith}
+use native.Mathlib.Decide.{decLt}
+use mathlib.Core.List.{List, [], _∷_, _++_}
+use mathlib.Core.Bool.{Bool, true, false, not}
+use mathlib.Core.Path.{_≡_, refl, sym, _∙_, ap, ap₂}
+use lib.ListN.{length, take, drop}
+use lib.Seq.{take-all, take-take, take-add, drop-at, length-take-le}
+use lib.Dec.{eqb}
+use Rattle.frames.specs.Line.{formed, fieldOf, line}
+use Rattle.frames.specs.Table.{lengthOf, widthsOf, sum}
+use Rattle.frames.specs.declared.table.Frame.{Frame}
+use Rattle.refusals.specs.declared.Refusal.{Refusal}
+use Rattle.refusals.specs.declared.Refusal.the-variants.{Count, Twice}
+use Rattle.refusals.specs.declared.Outcome.{Outcome}
+use Rattle.refusals.specs.declared.Outcome.the-variants.{Done, Refused}
+use Rattle.frames.proofs.Formed.{formed-prefix, formed-line}
+use Rattle.tasks.specs.declared.set.Task.{Task}
+use Rattle.refusals.specs.First.{firstOf, when}
+use Rattle.tasks.specs.Rows.{some}
+use Rattle.taskread.specs.File.{past, empty, lineRow, lineOutcome, linesOutcome, taskAt, tasksFrom}
+use Rattle.taskread.specs.Read.{readOf}
+use Rattle.taskread.specs.Shape.{Shaped, placeAfter}
+use Rattle.tasks_claims.specs.Claims.{furthest, ReadLooksAt}
+use Rattle.taskread.proofs.Past.{past-shaped, shaped-more, shaped-less}
+use Rattle.tasks.proofs.Some.{hasId}
+use Rattle.taskread.proofs.Lines.{lines-suc, reads-refused, line-refused, first-order, first-header, later-header, task-line, row-from, row-other, clear-task, clear-room, clear-header}
+use Rattle.taskread.proofs.Standing.{byte-there}
+
+-- a part of the front of a text is the front of a part
+drop-take : (p m : ℕ) (text : List ℕ) → p ≤ length text → drop p (take (p + m) text) ≡ take m (drop p text)
+drop-take p m text h = rw (take-add p m text) (drop-at (take p text) (take m (drop p text)) p (length-take-le p text h))
+
+-- what follows a formed line does not change its bytes, nor its fields
+line-prefix : (frame : Frame) (n : ℕ) (text : List ℕ) → lengthOf frame + 1 ≤ n → formed frame text ≡ true → line (take n text) ≡ line text
+line-prefix frame n text h f =
+    formed-line frame (take n text) (formed-prefix frame n text h ∙ f)
+    ∙ (take-take (lengthOf frame) n text (omega arith) ∙ sym (formed-line frame text f))
+
+field-line : (frame : Frame) (k : ℕ) (a b : List ℕ) → line a ≡ line b → fieldOf frame k a ≡ fieldOf frame k b
+unfolding fieldOf
+field-line frame k a b e = rw e
+
+task-same : (a b : List ℕ) → line a ≡ line b → taskAt a ≡ taskAt b
+unfolding taskAt
+task-same a b e =
+    λ i. record { id = field-line Frame.Task 0 a b e i; cost = field-line Frame.Task 1 a b e i; deadline = field-line Frame.Task 2 a b e i; period = field-line Frame.Task 3 a b e i }
+
+there-take : (n : ℕ) (rest : List ℕ) → 1 ≤ n → empty rest ≡ false → empty (take n rest) ≡ false
+there-take zero rest one e = absurd (omega arith)
+there-take (suc n) [] one e = e
+there-take (suc n) (b ∷ bs) one e = refl
+
+-- an outcome by the kind of the line, where one is there
+row-is : (text : List ℕ) (n : ℕ) → empty (past n text) ≡ false → formed Frame.Header (past n text) ≡ false → lineRow text (suc n) ≡ not (formed Frame.Task (past n text))
+row-is text n there header = row-from text n ∙ row-other (past n text) there header
+
+module _ (N : ℕ) (text : List ℕ) (far : furthest ≤ N) (long : N < length text) where
+  abbrev cut : List ℕ
+  cut = take N text
+
+  -- the front's first lines are those of the text
+  rest-cut : (m : ℕ) → placeAfter m ≤ N → Shaped text m → Shaped cut m → past (suc m) cut ≡ take (N - placeAfter m) (past (suc m) text)
+  unfolding widthsOf sum
+  rest-cut m fits s c =
+      let split : placeAfter m + (N - placeAfter m) ≡ N = omega arith in
+      past-shaped cut m c .0
+      ∙ (ap (λ (n : ℕ). drop (placeAfter m) (take n text)) (sym split)
+      ∙ (drop-take (placeAfter m) (N - placeAfter m) text (omega arith)
+      ∙ ap (take (N - placeAfter m)) (sym (past-shaped text m s .0))))
+
+  shaped-cut : (m : ℕ) → placeAfter m ≤ N → Shaped text m → Shaped cut m
+  unfolding widthsOf sum
+  shaped-cut zero fits s =
+      record { header = formed-prefix Frame.Header N text (omega arith) ∙ s .header; tasks = λ j lt. absurd (omega arith) }
+  shaped-cut (suc m) fits s =
+      let fewer : Shaped text m = shaped-less text m (suc m) (omega arith) s in
+      let c : Shaped cut m = shaped-cut m (omega arith) fewer in
+      shaped-more cut m c
+      (ap (formed Frame.Task) (rest-cut m (omega arith) fewer c)
+      ∙ (formed-prefix Frame.Task (N - placeAfter m) (past (suc m) text) (omega arith) ∙ s .tasks m (omega arith)))
+
+  tasks-cut : (m : ℕ) → placeAfter m ≤ N → Shaped text m → tasksFrom cut m ≡ tasksFrom text m
+  unfolding widthsOf sum tasksFrom
+  tasks-cut zero fits s = refl
+  tasks-cut (suc m) fits s =
+      let fewer : Shaped text m = shaped-less text m (suc m) (omega arith) s in
+      let c : Shaped cut m = shaped-cut m (omega arith) fewer in
+      ap₂ (λ (ts : List Task) (t : Task). ts ++ (t ∷ [])) (tasks-cut m (omega arith) fewer)
+      (task-same (past (suc m) cut) (past (suc m) text)
+      (ap line (rest-cut m (omega arith) fewer c)
+      ∙ line-prefix Frame.Task (N - placeAfter m) (past (suc m) text) (omega arith) (s .tasks m (omega arith))))
+
+  -- a line after at most 64 tasks is there, and is of the same kind in the front
+  there : (m : ℕ) → m ≤ 64 → Shaped text m → empty (past (suc m) text) ≡ false
+  unfolding widthsOf sum
+  there m most s = ap empty (past-shaped text m s .0) ∙ byte-there (placeAfter m) text (omega arith)
+
+  module _ (m : ℕ) (most : m ≤ 64) (s : Shaped text m) where
+    fits : placeAfter m + 31 ≤ N
+    unfolding widthsOf sum
+    fits = omega arith
+
+    shaped : Shaped cut m
+    shaped = shaped-cut m (omega (arith, fits)) s
+
+    same-rest : past (suc m) cut ≡ take (N - placeAfter m) (past (suc m) text)
+    same-rest = rest-cut m (omega (arith, fits)) s shaped
+
+    there-cut : empty (past (suc m) cut) ≡ false
+    there-cut = ap empty same-rest ∙ there-take (N - placeAfter m) (past (suc m) text) (omega (arith, fits)) (there m most s)
+
+    kind-cut : (frame : Frame) → lengthOf frame + 1 ≤ 31 → formed frame (past (suc m) cut) ≡ formed frame (past (suc m) text)
+    kind-cut frame short = ap (formed frame) same-rest ∙ formed-prefix frame (N - placeAfter m) (past (suc m) text) (omega (arith, fits, short))
+
+    header-cut : formed Frame.Header (past (suc m) cut) ≡ formed Frame.Header (past (suc m) text)
+    unfolding widthsOf sum
+    header-cut = kind-cut Frame.Header (omega arith)
+
+    task-cut : formed Frame.Task (past (suc m) cut) ≡ formed Frame.Task (past (suc m) text)
+    unfolding widthsOf sum
+    task-cut = kind-cut Frame.Task (omega arith)
+
+    id-cut : formed Frame.Task (past (suc m) text) ≡ true → fieldOf Frame.Task 0 (past (suc m) cut) ≡ fieldOf Frame.Task 0 (past (suc m) text)
+    unfolding widthsOf sum
+    id-cut task =
+        field-line Frame.Task 0 (past (suc m) cut) (past (suc m) text)
+        (ap line same-rest ∙ line-prefix Frame.Task (N - placeAfter m) (past (suc m) text) (omega (arith, fits)) task)
+
+    -- the line is answered the same
+    same-line : lineOutcome cut (suc (suc m)) ≡ lineOutcome text (suc (suc m))
+    same-line = kinds (formed Frame.Header (past (suc m) text)) (formed Frame.Task (past (suc m) text)) refl refl
+      where
+        kinds : (h t : Bool) → formed Frame.Header (past (suc m) text) ≡ h → formed Frame.Task (past (suc m) text) ≡ t → lineOutcome cut (suc (suc m)) ≡ lineOutcome text (suc (suc m))
+        kinds true t eh et = later-header cut m (header-cut ∙ eh) ∙ sym (later-header text m eh)
+        kinds false true eh et =
+            task-line cut m shaped (header-cut ∙ eh) (task-cut ∙ et)
+            ∙ (ap₂ (λ (id : ℕ) (ts : List Task). firstOf (when (eqb m 64) (Count (suc (suc m)))) (when (some (hasId id) ts) (Twice (suc (suc m))))) (id-cut et) (tasks-cut m (omega (arith, fits)) s)
+            ∙ sym (task-line text m s eh et))
+        kinds false false eh et =
+            line-refused cut (suc (suc m)) (row-is cut (suc m) there-cut (header-cut ∙ eh) ∙ ap not (task-cut ∙ et))
+            ∙ sym (line-refused text (suc (suc m)) (row-is text (suc m) (there m most s) eh ∙ ap not et))
+
+  -- both are refused alike
+  both-refused : (n : ℕ) (r : Refusal) → linesOutcome cut n ≡ Done → linesOutcome text n ≡ Done → lineOutcome cut (suc n) ≡ Refused r → lineOutcome text (suc n) ≡ Refused r → readOf cut ≡ readOf text
+  both-refused n r c t ec et = reads-refused cut n r c ec ∙ sym (reads-refused text n r t et)
+
+  -- a line is refused in both alike, or taken in both
+  step : (m : ℕ) → m ≤ 64 → Shaped text m → linesOutcome cut (suc m) ≡ Done → linesOutcome text (suc m) ≡ Done → (Shaped text (suc m) → suc m ≤ 64 → linesOutcome cut (suc (suc m)) ≡ Done → linesOutcome text (suc (suc m)) ≡ Done → readOf cut ≡ readOf text) → readOf cut ≡ readOf text
+  step m most s c t taken = at (lineOutcome text (suc (suc m))) refl
+    where
+      at : (o : Outcome) → lineOutcome text (suc (suc m)) ≡ o → readOf cut ≡ readOf text
+      at (Refused r) e = both-refused (suc m) r c t (same-line m most s ∙ e) e
+      at Done e =
+          let more : Shaped text (suc m) = shaped-more text m s (clear-task text m (there m most s) e) in
+          let room : m ≡ 64 → ⊥ = clear-room text m more e in
+          taken more (omega (arith, most, room)) (rw (lines-suc cut (suc m), c, same-line m most s, e)) (rw (lines-suc text (suc m), t, e))
+
+  -- in a text as long as that a line is refused, and the front's answer is the text's
+  going : (fuel m : ℕ) → 64 ≤ m + fuel → m ≤ 64 → Shaped text m → linesOutcome cut (suc m) ≡ Done → linesOutcome text (suc m) ≡ Done → readOf cut ≡ readOf text
+  going zero m enough most s c t = step m most s c t (λ more le c′ t′. absurd (omega arith))
+  going (suc fuel) m enough most s c t = step m most s c t (λ more le c′ t′. going fuel (suc m) (omega arith) le more c′ t′)
+
+  -- line 1 is answered the same
+  same-first : lineOutcome cut 1 ≡ lineOutcome text 1
+  unfolding widthsOf sum
+  same-first = header (formed Frame.Header text) refl
+    where
+      there-text : empty text ≡ false
+      there-text = byte-there 0 text (omega arith)
+
+      there-front : empty cut ≡ false
+      there-front = there-take N text (omega arith) there-text
+
+      kind : (frame : Frame) → lengthOf frame + 1 ≤ 31 → formed frame cut ≡ formed frame text
+      kind frame short = formed-prefix frame N text (omega (arith, short))
+
+      row : formed Frame.Header text ≡ false → lineRow cut 1 ≡ lineRow text 1
+      row e =
+          row-other cut there-front (kind Frame.Header (omega arith) ∙ e)
+          ∙ (ap not (kind Frame.Task (omega arith)) ∙ sym (row-other text there-text e))
+
+      rows : (b : Bool) → formed Frame.Header text ≡ false → lineRow text 1 ≡ b → lineOutcome cut 1 ≡ lineOutcome text 1
+      rows true eh e = line-refused cut 1 (row eh ∙ e) ∙ sym (line-refused text 1 e)
+      rows false eh e = first-order cut (row eh ∙ e) (kind Frame.Header (omega arith) ∙ eh) ∙ sym (first-order text e eh)
+
+      header : (h : Bool) → formed Frame.Header text ≡ h → lineOutcome cut 1 ≡ lineOutcome text 1
+      header true e = first-header cut (kind Frame.Header (omega arith) ∙ e) ∙ sym (first-header text e)
+      header false e = rows (lineRow text 1) e refl
+
+  pub long-prefix : readOf cut ≡ readOf text
+  unfolding linesOutcome
+  long-prefix = at (lineOutcome text 1) refl
+    where
+      at : (o : Outcome) → lineOutcome text 1 ≡ o → readOf cut ≡ readOf text
+      at (Refused r) e = both-refused 0 r refl refl (same-first ∙ e) e
+      at Done e =
+          going 64 0 (omega arith) (omega arith)
+          (record { header = clear-header text e; tasks = λ j lt. absurd (omega arith) })
+          (same-first ∙ e) e
+
+-- reading looks no further than that
+pub read-looks-at : ReadLooksAt
+read-looks-at N text far =
+    elim (decLt N (length text)) [
+      | yes long ↦ long-prefix N text far long
+      | no short ↦ ap readOf (take-all N text (omega (arith, short)))
+    ]
+
+-- in bytes: 31 + 64 · 23 + 31
+pub furthest-bytes : furthest ≡ 1534
+unfolding widthsOf sum
+furthest-bytes = refl

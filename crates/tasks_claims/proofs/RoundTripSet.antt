@@ -1,0 +1,202 @@
+-- A set that can be written, read again, is the same set: its text has the shape of a file, and each line gives its figures back.
+-- Assumes nothing.
+use Prim.Native.Nat.{ℕ, zero, suc, _+_, _-_, _^_, _≤_, _<_}
+use mathlib.Core.Path.{_≡_, refl, sym, _∙_, ap, ap₂}
+use mathlib.Core.Bool.{Bool, false, _||_}
+use mathlib.Core.List.{List, [], _∷_, _++_}
+use native.Mathlib.Numerals.{add-one}
+use native.Mathlib.Omega.{arith}
+use lib.Dec.{leb, eqb}
+use native.Mathlib.Nat.{min-le-left}
+use lib.ListN.{length, take, drop, getD, replicate, length-append, length-replicate, length-take}
+use lib.Seq.{take-suc, take-length, drop-length, drop-cons, drop-drop}
+use borrow.Author.Tests.{leb-false, ne-eqb, eqb-true, not-false}
+use Rattle.laws.proofs.Tests.{or-left, or-right}
+use Rattle.frames.specs.Table.{widthsOf}
+use Rattle.frames.specs.Line.{after, formed, fieldOf, lineOf}
+use Rattle.frames.specs.declared.table.Frame.{Frame}
+use Rattle.refusals.specs.declared.Refusal.the-variants.{Count, Twice, Range}
+use Rattle.refusals.specs.declared.Outcome.{Outcome}
+use Rattle.refusals.specs.declared.Outcome.the-variants.{Done}
+use Rattle.frames.proofs.Lines.{line-formed, line-after, field-line}
+use Rattle.frames.proofs.KindLaws.{not-formed}
+use Rattle.tasks.specs.declared.set.Header.{Header}
+use Rattle.tasks.specs.declared.set.Task.{Task}
+use Rattle.tasks.specs.declared.set.TaskSet.{TaskSet}
+use Rattle.tasks.specs.Set.{mostTasks, zeroTask, members, setOf}
+use Rattle.refusals.specs.First.{firstOf, when}
+use Rattle.tasks.specs.Rows.{some, atTask, firstTask, rangeRow, headerOverflows, taskOverflows, figuresOutcome}
+use Rattle.taskread.specs.File.{past, lineOutcome, linesOutcome, headerAt, taskAt, tasksFrom}
+use Rattle.taskread.specs.Read.{fileSet, answer}
+use Rattle.taskread.specs.Shape.{Shaped}
+use Rattle.tasks.specs.Values.{headerValues, taskValues}
+use Rattle.taskwrite.specs.Write.{taskLines, textOf, writerAsks}
+use Rattle.tasks_claims.specs.Claims.{Whole, ReadWritten, ReadWrittenSame}
+use Rattle.tasks.proofs.Carried.{count-within, ask-count, ask-twice, ask-header, ask-tasks}
+use Rattle.tasks.proofs.SetLaws.{members-length, members-set}
+use Rattle.tasks.proofs.Firsts.{at-none, figures-tasks}
+use Rattle.taskread.proofs.Past.{shaped-less}
+use Rattle.tasks.proofs.Some.{hasId, some-at, twice-before}
+use Rattle.taskread.proofs.Lines.{clear-lines, clear-past, first-header, task-line, shaped-all, reads-clear}
+use Rattle.taskwrite.proofs.WriteAsks.{first-some, writer-ask, writer-board, writer-range}
+use Rattle.taskwrite.proofs.WriteText.{lines-nil, lines-cons, text-size}
+
+-- a figure that is not too large, and the tests behind it
+fits-first : (limit figure : ℕ) (rest : Bool) → (leb limit figure || rest) ≡ false → (figure < limit) × (rest ≡ false)
+fits-first limit figure rest e = (leb-false limit figure (or-left (leb limit figure) rest e), or-right (leb limit figure) rest e)
+
+-- a header's line gives its figures back
+header-back : (h : Header) (rest : List ℕ) → headerOverflows h ≡ false → headerAt (lineOf Frame.Header (headerValues h) ++ rest) ≡ h
+unfolding headerAt headerOverflows widthsOf
+header-back h rest o =
+    let a = fits-first (16 ^ 2) (h .processors) _ o in
+    let b = fits-first (16 ^ 6) (h .slot) _ (a .1) in
+    let c = fits-first (16 ^ 4) (h .relj) _ (b .1) in
+    let d = fits-first (16 ^ 4) (h .relo) _ (c .1) in
+    let e = fits-first (16 ^ 4) (h .ctswo) _ (d .1) in
+    let f = fits-first (16 ^ 4) (h .resd) _ (e .1) in
+    λ i. record {
+      processors = back 0 (a .0) i;
+      slot = back 1 (b .0) i;
+      relj = back 2 (c .0) i;
+      relo = back 3 (d .0) i;
+      ctswo = back 4 (e .0) i;
+      resd = back 5 (f .0) i;
+      cpmdo = back 6 (leb-false (16 ^ 4) (h .cpmdo) (f .1)) i;
+    }
+  where
+    back : (k : ℕ) → getD (headerValues h) k 0 < 16 ^ getD (widthsOf Frame.Header) k 0 → fieldOf Frame.Header k (lineOf Frame.Header (headerValues h) ++ rest) ≡ getD (headerValues h) k 0
+    back k b = field-line Frame.Header (headerValues h) rest k b
+
+-- and a task's
+task-back : (t : Task) (rest : List ℕ) → taskOverflows t ≡ false → taskAt (lineOf Frame.Task (taskValues t) ++ rest) ≡ t
+unfolding taskAt taskOverflows widthsOf
+task-back t rest o =
+    let a = fits-first (16 ^ 2) (t .id) _ o in
+    let b = fits-first (16 ^ 6) (t .cost) _ (a .1) in
+    let c = fits-first (16 ^ 6) (t .deadline) _ (b .1) in
+    λ i. record {
+      id = back 0 (a .0) i;
+      cost = back 1 (b .0) i;
+      deadline = back 2 (c .0) i;
+      period = back 3 (leb-false (16 ^ 6) (t .period) (c .1)) i;
+    }
+  where
+    back : (k : ℕ) → getD (taskValues t) k 0 < 16 ^ getD (widthsOf Frame.Task) k 0 → fieldOf Frame.Task k (lineOf Frame.Task (taskValues t) ++ rest) ≡ getD (taskValues t) k 0
+    back k b = field-line Frame.Task (taskValues t) rest k b
+
+-- an id read alone
+id-back : (t : Task) (rest : List ℕ) → taskOverflows t ≡ false → fieldOf Frame.Task 0 (lineOf Frame.Task (taskValues t) ++ rest) ≡ t .id
+unfolding taskAt
+id-back t rest o = ap (λ (u : Task). u .id) (task-back t rest o)
+
+-- past k tasks stand the lines of those left
+after-lines : (ts : List Task) → after (taskLines ts) ≡ taskLines (drop 1 ts)
+after-lines [] = ap after lines-nil ∙ unfold after in sym lines-nil
+after-lines (t ∷ ts) = ap after (lines-cons t ts) ∙ line-after Frame.Task (taskValues t) (taskLines ts)
+
+past-text : (set : TaskSet) (k : ℕ) → past (suc k) (textOf set) ≡ taskLines (drop k (members set))
+unfolding past textOf
+past-text set zero = line-after Frame.Header (headerValues (set .header)) (taskLines (members set))
+past-text set (suc k) =
+    ap after (past-text set k)
+    ∙ after-lines (drop k (members set))
+    ∙ ap taskLines (drop-drop 1 k (members set) ∙ ap (λ (n : ℕ). drop n (members set)) (add-one k))
+
+past-at : (set : TaskSet) (k : ℕ) → k < length (members set) → past (suc k) (textOf set) ≡ lineOf Frame.Task (taskValues (getD (members set) k zeroTask)) ++ taskLines (drop (suc k) (members set))
+past-at set k h = past-text set k ∙ ap taskLines (drop-cons (members set) k zeroTask h) ∙ lines-cons (getD (members set) k zeroTask) (drop (suc k) (members set))
+
+-- the text of a set has the shape of a file
+shaped : (set : TaskSet) → Shaped (textOf set) (length (members set))
+unfolding textOf
+shaped set =
+    record {
+      header = line-formed Frame.Header (headerValues (set .header)) (taskLines (members set));
+      tasks = λ j h. ap (formed Frame.Task) (past-at set j h) ∙ line-formed Frame.Task (taskValues (getD (members set) j zeroTask)) (taskLines (drop (suc j) (members set)));
+    }
+
+ended : (set : TaskSet) → past (suc (length (members set))) (textOf set) ≡ []
+ended set = past-text set (length (members set)) ∙ ap taskLines (drop-length (members set)) ∙ lines-nil
+
+-- the tasks that the text holds are the set's
+tasks-back : (set : TaskSet) → some taskOverflows (members set) ≡ false → (i : ℕ) → i ≤ length (members set) → tasksFrom (textOf set) i ≡ take i (members set)
+unfolding tasksFrom
+tasks-back set o zero h = refl
+tasks-back set o (suc i) h =
+    ap₂ (λ (ts : List Task) (t : Task). ts ++ (t ∷ [])) (tasks-back set o i (omega arith))
+    (ap taskAt (past-at set i (omega arith)) ∙ task-back (getD (members set) i zeroTask) (taskLines (drop (suc i) (members set))) (some-at taskOverflows (members set) i zeroTask o (omega arith)))
+    ∙ sym (take-suc (members set) i zeroTask (omega arith))
+
+-- each of its lines is clear
+line-clear : (set : TaskSet) → writerAsks set ≡ false → length (members set) ≤ mostTasks → (i : ℕ) → i < length (members set) → lineOutcome (textOf set) (suc (suc i)) ≡ Done
+line-clear set ok most i h =
+    let text = textOf set in
+    let ask = writer-ask set ok in
+    let t = getD (members set) i zeroTask in
+    let whole = shaped set in
+    let formed = whole .tasks i h in
+    let less : Shaped text i = shaped-less text i (length (members set)) (omega arith) whole in
+    let fits : taskOverflows t ≡ false = some-at taskOverflows (members set) i zeroTask (ask-tasks set ask) h in
+    let id : fieldOf Frame.Task 0 (past (suc i) text) ≡ t .id = ap (fieldOf Frame.Task 0) (past-at set i h) ∙ id-back t (taskLines (drop (suc i) (members set))) fits in
+    let seen : some (hasId (fieldOf Frame.Task 0 (past (suc i) text))) (tasksFrom text i) ≡ false =
+    ap₂ (λ (n : ℕ) (ts : List Task). some (hasId n) ts) id (tasks-back set (ask-tasks set ask) i (omega arith)) ∙ twice-before (members set) i zeroTask (ask-twice set ask) h in
+    let room : eqb i 64 ≡ false = ne-eqb i 64 (λ (e : i ≡ 64). omega arith) in
+    task-line text i less (not-formed Frame.Task Frame.Header refl (past (suc i) text) formed) formed
+    ∙ ap₂ (λ (a b : Bool). firstOf (when a (Count (suc (suc i)))) (when b (Twice (suc (suc i))))) room seen
+
+lines-clear : (set : TaskSet) → writerAsks set ≡ false → length (members set) ≤ mostTasks → (j : ℕ) → j < suc (length (members set)) → lineOutcome (textOf set) (suc j) ≡ Done
+lines-clear set ok most zero h = first-header (textOf set) (shaped set .header)
+lines-clear set ok most (suc i) h = line-clear set ok most i (omega arith)
+
+all-clear : (set : TaskSet) (n : ℕ) → writerAsks set ≡ false → length (members set) ≡ suc n → suc n ≤ mostTasks → linesOutcome (textOf set) (length (textOf set) + 2) ≡ Done
+all-clear set n ok e most =
+    let text = textOf set in
+    let end : past (suc (suc n)) text ≡ [] = ap (λ (k : ℕ). past (suc k) text) (sym e) ∙ ended set in
+    let clear : linesOutcome text (suc (suc n)) ≡ Done = clear-lines text (suc (suc n)) (λ j h. lines-clear set ok (omega arith) j (omega arith)) in
+    let k : suc (suc n) + (length text + 2 - suc (suc n)) ≡ length text + 2 = omega (arith, text-size set) in
+    ap (linesOutcome text) (sym k) ∙ clear-past text n (length text + 2 - suc (suc n)) end clear
+
+-- the set that the text holds
+header-text : (set : TaskSet) → headerOverflows (set .header) ≡ false → headerAt (textOf set) ≡ set .header
+unfolding textOf
+header-text set o = header-back (set .header) (taskLines (members set)) o
+
+file-back : (set : TaskSet) → writerAsks set ≡ false → fileSet (textOf set) ≡ setOf (set .header) (members set)
+unfolding fileSet
+file-back set ok =
+    let ask = writer-ask set ok in
+    let ms = members set in
+    ap₂ setOf (header-text set (ask-header set ask))
+    (ap (tasksFrom (textOf set)) (shaped-all (textOf set) (length ms) (shaped set) (ended set)) ∙ tasks-back set (ask-tasks set ask) (length ms) (omega arith) ∙ take-length ms)
+
+-- rows 5 and 6 let it pass
+figures-pass : (set : TaskSet) → writerAsks set ≡ false → figuresOutcome (setOf (set .header) (members set)) ≡ Done
+unfolding setOf
+figures-pass set ok =
+    let new = setOf (set .header) (members set) in
+    let none : firstTask rangeRow (members set) ≡ 0 = eqb-true _ 0 (not-false _ (first-some rangeRow 0 (members set) ∙ writer-range set ok)) in
+    figures-tasks new (writer-board set ok)
+    ∙ ap (λ (ts : List Task). atTask Range (firstTask rangeRow ts)) (members-set (set .header) (members set))
+    ∙ at-none Range (firstTask rangeRow (members set)) none
+
+pub read-written : ReadWritten
+read-written set whole ok =
+    let within = count-within set (ask-count set (writer-ask set ok)) in
+    let size : length (members set) ≡ set .count = members-length set (omega (arith, whole, within .1)) in
+    let n : length (members set) ≡ suc (set .count - 1) = omega (arith, within .0) in
+    reads-clear (textOf set) (all-clear set (set .count - 1) ok n (omega (arith, within)))
+    ∙ ap (λ (s : TaskSet). answer (figuresOutcome s) s) (file-back set ok)
+    ∙ ap (λ (o : Outcome). answer o (setOf (set .header) (members set))) (figures-pass set ok)
+
+-- a set whose unused room is zero has all its places
+all-places : (set : TaskSet) → set ≡ setOf (set .header) (members set) → set .count ≤ mostTasks → Whole set
+unfolding setOf
+all-places set e most =
+    ap (λ (s : TaskSet). length (s .tasks)) e
+    ∙ length-append (members set) (replicate (mostTasks - length (members set)) zeroTask)
+    ∙ omega (arith, length-replicate (mostTasks - length (members set)) zeroTask, length-take (set .count) (set .tasks), min-le-left (set .count) (length (set .tasks)))
+
+pub read-written-same : ReadWrittenSame
+read-written-same set e ok =
+    let most = count-within set (ask-count set (writer-ask set ok)) .1 in
+    read-written set (all-places set e most) ok ∙ ap (answer Done) (sym e)

@@ -1,0 +1,155 @@
+-- What is claimed of task files: each refusal of reading exactly when its row says, what an accepted file is,
+-- what a write answers and leaves, and that reading and writing undo each other.
+-- Document 01, "Refusal numbers and their order" and "How tight each promise is".
+use Prim.Native.Nat.{ℕ, suc, _+_, _<_, _≤_}
+use mathlib.Core.List.{List, []}
+use mathlib.Core.Bool.{Bool, true, false}
+use mathlib.Core.Path.{_≡_}
+use mathlib.Core.Logic.{_↔_, _⊎_}
+use lib.ListN.{length, take, drop}
+use Rattle.frames.specs.Table.{lengthOf}
+use Rattle.refusals.specs.Refused.{numberOf}
+use Rattle.frames.specs.declared.table.Frame.{Frame}
+use Rattle.refusals.specs.declared.Refusal.{Refusal}
+use Rattle.refusals.specs.declared.Refusal.the-variants.{Line, Order, Count, Twice, Board, Range, Ask, Room}
+use Rattle.refusals.specs.declared.Outcome.the-variants.{Done, Refused}
+use Rattle.taskread.specs.declared.read.ReadAnswer.{ReadAnswer}
+use Rattle.tasks.specs.Set.{mostTasks, zeroSet, members, setOf}
+use Rattle.tasks.specs.Rows.{boardRow, rangeRow}
+use Rattle.taskread.specs.File.{past, tasksIn, lineRow, orderRow, countLineRow, twiceLineRow, lineOutcome, headerAt, taskAt, tasksFrom}
+use Rattle.taskread.specs.Read.{readOf, answer}
+use Rattle.taskread.specs.Shape.{Shaped, placeAfter}
+use Rattle.refusals.specs.declared.Written.{Written}
+use Rattle.tasks.specs.declared.set.TaskSet.{TaskSet}
+use Rattle.taskwrite.specs.Write.{textOf, writerAsks, writeOf, Wrote}
+
+-- rows 1 to 4, which are tested at a line
+pub data LineRow : Type 0 where
+  LINE ORDER COUNT TWICE : LineRow
+
+abbrev pub refusalAt : LineRow → ℕ → Refusal
+refusalAt LINE k = Line k
+refusalAt ORDER k = Order k
+refusalAt COUNT k = Count k
+refusalAt TWICE k = Twice k
+
+abbrev pub holdsAt : LineRow → List ℕ → ℕ → Bool
+holdsAt LINE text k = lineRow text k
+holdsAt ORDER text k = orderRow text k
+holdsAt COUNT text k = countLineRow text k
+holdsAt TWICE text k = twiceLineRow text k
+
+-- no row holds at any line before line k, or at any line
+abbrev pub Clear : List ℕ → ℕ → Type 0
+Clear text k = (j : ℕ) → 1 ≤ j → j < k → lineOutcome text j ≡ Done
+
+abbrev pub AllClear : List ℕ → Type 0
+AllClear text = (j : ℕ) → 1 ≤ j → lineOutcome text j ≡ Done
+
+-- rows 1 to 4 with place k: no row holds before line k, and of those that hold there this is the lowest
+pub record FirstAt (row : LineRow) (text : List ℕ) (k : ℕ) : Type 0 where
+  pub counted : 1 ≤ k
+  pub clear : Clear text k
+  pub lower : (other : LineRow) → numberOf (refusalAt other k) < numberOf (refusalAt row k) → holdsAt other text k ≡ false
+  pub holds : holdsAt row text k ≡ true
+
+abbrev pub ReadExactlyLine : Type 0
+ReadExactlyLine = (row : LineRow) (text : List ℕ) (k : ℕ) → (readOf text .outcome ≡ Refused (refusalAt row k)) ↔ FirstAt row text k
+
+-- row 5: every line is clear, and the header breaks it
+abbrev pub ReadExactlyBoard : Type 0
+ReadExactlyBoard =
+    (text : List ℕ) → (readOf text .outcome ≡ Refused Board) ↔ (AllClear text × (boardRow (headerAt text) ≡ true))
+
+-- row 6 with place k: every line is clear, the header is right, and task k is the first out of range
+pub record FirstRange (text : List ℕ) (k : ℕ) : Type 0 where
+  pub clear : AllClear text
+  pub board : boardRow (headerAt text) ≡ false
+  pub counted : 1 ≤ k
+  pub within : k ≤ tasksIn text
+  pub holds : rangeRow (taskAt (past k text)) ≡ true
+  pub earlier : (j : ℕ) → 1 ≤ j → j < k → rangeRow (taskAt (past j text)) ≡ false
+
+abbrev pub ReadExactlyRange : Type 0
+ReadExactlyRange = (text : List ℕ) (k : ℕ) → (readOf text .outcome ≡ Refused (Range k)) ↔ FirstRange text k
+
+-- accepted: none of rows 1 to 6 holds
+pub record NoRow (text : List ℕ) : Type 0 where
+  pub clear : AllClear text
+  pub board : boardRow (headerAt text) ≡ false
+  pub range : (j : ℕ) → 1 ≤ j → j ≤ tasksIn text → rangeRow (taskAt (past j text)) ≡ false
+
+abbrev pub ReadExactlyDone : Type 0
+ReadExactlyDone = (text : List ℕ) → (readOf text .outcome ≡ Done) ↔ NoRow text
+
+-- the reader gives 1 to 6, and with a refusal the all-zero set
+abbrev pub ReadRefuses : Type 0
+ReadRefuses = (text : List ℕ) (r : Refusal) → readOf text .outcome ≡ Refused r → (numberOf r ≤ 6) × (readOf text .set ≡ zeroSet)
+
+-- two answers that keep the reader's promise coincide
+abbrev pub ReadDetermined : Type 0
+ReadDetermined = (text : List ℕ) (a b : ReadAnswer) → a ≡ readOf text → b ≡ readOf text → a ≡ b
+
+-- reading looks no further than a header, 64 tasks and the longest line after them
+abbrev pub furthest : ℕ
+furthest = placeAfter mostTasks + (lengthOf Frame.Header + 1)
+
+abbrev pub ReadLooksAt : Type 0
+ReadLooksAt = (n : ℕ) (text : List ℕ) → furthest ≤ n → readOf (take n text) ≡ readOf text
+
+-- an accepted file is a header and 1 to 64 tasks, nothing after them, and the answer holds those
+pub record Accepted (text : List ℕ) : Type 0 where
+  pub any : 1 ≤ tasksIn text
+  pub most : tasksIn text ≤ mostTasks
+  pub shaped : Shaped text (tasksIn text)
+  pub bytes : length text ≡ placeAfter (tasksIn text)
+  pub ended : past (suc (tasksIn text)) text ≡ []
+  pub header : readOf text .set .header ≡ headerAt text
+  pub count : readOf text .set .count ≡ tasksIn text
+  pub tasks : members (readOf text .set) ≡ tasksFrom text (tasksIn text)
+
+abbrev pub ReadAccepted : Type 0
+ReadAccepted = (text : List ℕ) → readOf text .outcome ≡ Done → Accepted text
+
+-- ASK exactly where row 11 holds of the set. ROOM exactly where it does not and the buffer is shorter than the text.
+-- A number of bytes exactly where neither holds, and it is the text's length. No other refusal is given.
+pub record WriteExactly (set : TaskSet) (before : List ℕ) : Type 0 where
+  pub ask : (writeOf set before ≡ Written.Refused Ask) ↔ (writerAsks set ≡ true)
+  pub room : (writeOf set before ≡ Written.Refused Room) ↔ ((writerAsks set ≡ false) × (length before < length (textOf set)))
+  pub bytes : (n : ℕ) → (writeOf set before ≡ Written.Bytes n) ↔ ((writerAsks set ≡ false) × ((length (textOf set) ≤ length before) × (n ≡ length (textOf set))))
+  pub others : (r : Refusal) → writeOf set before ≡ Written.Refused r → (r ≡ Ask) ⊎ (r ≡ Room)
+
+abbrev pub WritesExactly : Type 0
+WritesExactly = (set : TaskSet) (before : List ℕ) → WriteExactly set before
+
+-- An accepted write leaves the text at the buffer's start and each byte behind it; a refused one leaves all. The length stays.
+pub record WriteLeaves (before : List ℕ) (set : TaskSet) (written : Written) (left : List ℕ) : Type 0 where
+  pub size : length left ≡ length before
+  pub text : (n : ℕ) → written ≡ Written.Bytes n → take n left ≡ textOf set
+  pub behind : (n : ℕ) → written ≡ Written.Bytes n → drop n left ≡ drop n before
+  pub nothing : (r : Refusal) → written ≡ Written.Refused r → left ≡ before
+
+abbrev pub WritesLeave : Type 0
+WritesLeave = (set : TaskSet) (before left : List ℕ) (written : Written) → Wrote set before written left → WriteLeaves before set written left
+
+-- Two results that keep the writer's promise coincide.
+abbrev pub WriteDetermined : Type 0
+WriteDetermined =
+    (set : TaskSet) (before left other : List ℕ) (a b : Written) → Wrote set before a left → Wrote set before b other → (a ≡ b) × (left ≡ other)
+
+-- A set as its type has it: 64 places, whatever stands in those that are not used.
+abbrev pub Whole : TaskSet → Type 0
+Whole set = length (set .tasks) ≡ mostTasks
+
+-- A set that can be written, read again, is the same set, its unused room at zero.
+abbrev pub ReadWritten : Type 0
+ReadWritten = (set : TaskSet) → Whole set → writerAsks set ≡ false → readOf (textOf set) ≡ answer Done (setOf (set .header) (members set))
+
+-- So one whose unused room is zero comes back as it was.
+abbrev pub ReadWrittenSame : Type 0
+ReadWrittenSame = (set : TaskSet) → set ≡ setOf (set .header) (members set) → writerAsks set ≡ false → readOf (textOf set) ≡ answer Done set
+
+-- A file that is accepted can be written again, and has the same bytes.
+abbrev pub WrittenRead : Type 0
+WrittenRead =
+    (text : List ℕ) → readOf text .outcome ≡ Done → (writerAsks (readOf text .set) ≡ false) × (textOf (readOf text .set) ≡ text)

@@ -1,0 +1,2 @@
+pub mod WriteAsks
+pub mod WriteText
