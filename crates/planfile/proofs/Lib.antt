@@ -1,3 +1,4 @@
 pub mod WriteLaws
 pub mod AcceptLaws
-pub mod ToolLaws
+pub mod FileLaws
+pub mod MadeLaws

@@ -1,3 +1,4 @@
 pub mod Write
+pub mod File
 pub mod Tool
-pub mod Asked
+pub mod OfFile

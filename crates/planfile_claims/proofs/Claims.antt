@@ -20,25 +20,23 @@ use Rattle.refusals.specs.declared.Written.the-variants.{Bytes, Refused}
 use Rattle.ring.specs.declared.clock.Tick.{Tick}
 use Rattle.tasks.specs.declared.set.TaskSet.{TaskSet}
 use Rattle.taskread.specs.declared.read.ReadAnswer.{ReadAnswer}
-use Rattle.taskread.specs.Read.{readOf}
 use Rattle.refusals.specs.Leaves.{leaves}
 use Rattle.tasks_claims.proofs.Prefix.{read-looks-at, furthest-bytes}
 use Rattle.plan.specs.declared.plan.Plan.{Plan}
-use Rattle.plan.specs.declared.planner.PlanAnswer.{PlanAnswer}
-use Rattle.plan.specs.Plan.{planMade}
-use Rattle.plan.specs.Planner.{planOutcome, planOf}
-use Rattle.plan.proofs.Made.{plan-outcome, plan-is}
+use Rattle.questions.specs.Agrees.{makes}
 use Rattle.plantext.specs.Text.{planText}
 use Rattle.plantext.specs.Fit.{fitted, Fits, Counted}
-use Rattle.planfile.specs.Tool.{printed, planned, answered}
-use Rattle.planfile.specs.Asked.{whoOfSet, passOfSet, unlessWho, unlessPass, whoIn, passIn}
+use Rattle.planfile.specs.File.{unless, refusedFile, plannedSet, filedOf}
+use Rattle.planfile.specs.Tool.{printed, answered}
+use Rattle.planfile.specs.OfFile.{whoOfFile, passOfFile, whoIn, passIn}
 use Rattle.planfile_claims.specs.Claims.{Determined, TextExact, RefusedStoresNothing, PrefixEnough, AnsweredShort, TextTells, TextTellsPlan}
 use Rattle.planfile_claims.proofs.TellLaws.{same-count, told}
 use Rattle.planfile_claims.proofs.FieldLaws.{fit-fields}
 use Rattle.plantext.proofs.LineLaws.{refusal-bytes}
 use Rattle.plantext.proofs.TextLaws.{text-bytes}
 use Rattle.plantext.proofs.FitLaws.{fitted-room, fitted-bytes}
-use Rattle.planfile.proofs.AcceptLaws.{made-counted}
+use Rattle.planfile.proofs.AcceptLaws.{makes-counted}
+use Rattle.planfile.proofs.FileLaws.{filed-makes}
 
 pub determined : Determined
 determined =
@@ -70,39 +68,31 @@ refused-stores-nothing =
       answer = λ text buffer r f. f .holds ∙ ap (λ (w : Written). leaves w buffer (answered text)) (sym (f .answered));
     }
 
--- a file's first bytes are read as the file is
-same-read : (n : ℕ) (text : List ℕ) → 1534 ≤ n → readOf (take n text) ≡ readOf text
-same-read n text h = read-looks-at n text (omega (arith, furthest-bytes))
+-- a file's first bytes are read as the file is, and so they have its set and its plan
+same-filed : (n : ℕ) (text : List ℕ) → 1534 ≤ n → filedOf (take n text) ≡ filedOf text
+unfolding filedOf
+same-filed n text h = ap (λ (a : ReadAnswer). unless refusedFile (a .outcome) (plannedSet (a .set))) (read-looks-at n text (omega (arith, furthest-bytes)))
 
 pub prefix-enough : PrefixEnough
 unfolding answered whoIn passIn
 prefix-enough =
     record {
-      answer = λ n text h. ap (λ (a : ReadAnswer). printed (a .outcome) (planned (a .set))) (same-read n text h);
-      who = λ n text h p x. ap (λ (a : ReadAnswer). unlessWho (a .outcome) (whoOfSet (a .set) p x)) (same-read n text h);
-      pass = λ n text h q R. ap (λ (a : ReadAnswer). unlessPass (a .outcome) (passOfSet (a .set) q R)) (same-read n text h);
+      answer = λ n text h. ap printed (same-filed n text h);
+      who = λ n text h p x. ap (whoOfFile p x) (same-filed n text h);
+      pass = λ n text h q R. ap (passOfFile q R) (same-filed n text h);
     }
 
 -- a text that counts no more than 64 of each
 text-short : (set : TaskSet) (plan : Plan) → Counted set plan → length (planText set plan) ≤ 2647
 text-short set plan few = omega (arith, text-bytes set plan, few .servers, few .tasks, few .processors)
 
-printed-short : (o : Outcome) (text : List ℕ) → (o ≡ Done → length text ≤ 2647) → length (printed o text) ≤ 2647
-printed-short Done text h = h refl
-printed-short (RefusedBy r) text h = omega (arith, refusal-bytes r)
-
-planned-short : (set : TaskSet) → length (planned set) ≤ 2647
-unfolding planned
-planned-short set = printed-short (planOf set .outcome) (planText set (planOf set .plan)) made
-  where
-    made : planOf set .outcome ≡ Done → length (planText set (planOf set .plan)) ≤ 2647
-    made e =
-        let done : planOutcome set ≡ Done = sym (plan-outcome set) ∙ e in
-        rw (plan-is set done) (text-short set (planMade set) (made-counted set done))
+printed-short : (o : Outcome) (set : TaskSet) (plan : Plan) → (o ≡ Done → makes set plan ≡ true) → length (printed (record { outcome = o; set = set; plan = plan })) ≤ 2647
+printed-short Done set plan made = text-short set plan (makes-counted set plan (made refl))
+printed-short (RefusedBy r) set plan made = omega (arith, refusal-bytes r)
 
 pub answered-short : AnsweredShort
 unfolding answered
-answered-short text = printed-short (readOf text .outcome) (planned (readOf text .set)) (λ e. planned-short (readOf text .set))
+answered-short text = printed-short (filedOf text .outcome) (filedOf text .set) (filedOf text .plan) (filed-makes text refl)
 
 pub text-tells : TextTells
 text-tells set₁ set₂ plan₁ plan₂ fit₁ fit₂ e = (same-count set₁ set₂ plan₁ plan₂ fit₁ fit₂ e, told set₁ set₂ plan₁ plan₂ fit₁ fit₂ e)

@@ -20,7 +20,7 @@ use Rattle.plantext.specs.Text.{planText}
 use Rattle.plantext.specs.Fit.{fitted, Fits}
 use Rattle.planfile.specs.Write.{writePlan}
 use Rattle.planfile.specs.Tool.{answered}
-use Rattle.planfile.specs.Asked.{whoIn, passIn}
+use Rattle.planfile.specs.OfFile.{whoIn, passIn}
 
 -- what the plan writer's contract says of its answer and of the buffer
 abbrev pub Writes : TaskSet → Plan → (buffer : List ℕ) → Written → (left : List ℕ) → Type 0

@@ -41,8 +41,9 @@ use Rattle.questions.specs.Agrees.{sameFigures, sameServers, sameProcessors, ag
 use Rattle.plan.specs.Planner.{needed, fullRow, planOutcome, planOf}
 use Rattle.questions.specs.Question.{allowed, isProcessor, isServer, whoRuns, doesPass}
 use Rattle.plantext.specs.Text.{lines, planLine, serverLine, placedLine, processorLine, planText, refusalText}
-use Rattle.planfile.specs.Tool.{planned, answered}
-use Rattle.planfile.specs.Asked.{whoOfSet, whoIn, passOfSet, passIn}
+use Rattle.planfile.specs.File.{plannedSet, filedOf}
+use Rattle.planfile.specs.Tool.{answered}
+use Rattle.planfile.specs.OfFile.{whoIn, passIn}
 
 -- what is asked of a file: its plan, who runs on a processor at a tick, does a server pass with a reserve
 pub data Question : Type 0 where
@@ -92,5 +93,5 @@ examples =
     ∷ []
 
 pub examples-answered : map (λ (e : Example). answerOf (e .asked)) examples ≡ map (λ (e : Example). e .given) examples
-unfolding legal valueOf digitOf allLegal numberFrom hex kindOf widthsOf sum line after closed same formed fieldOf fields lineOf setOf some firstFrom countRow twiceRow boardRow rangeRow figuresOutcome headerOverflows taskOverflows askRow past tasksUpTo seenUpTo lineRow orderRow countLineRow twiceLineRow lineOutcome linesOutcome headerAt taskAt tasksFrom fileSet readOutcome readOf ceilingOf measureIn commonMeasure leastMultiple leastMultipleOf effectiveDeadline effectiveCost entryLoss jobs demand gap supplyPast supply enough smallestReserve lastUpTo firstUpTo short failing ownHorizon firstFailing verdictAt verdictOf passing loadsIn serversIn takes fit placeFrom placementOf reservesUpTo reservesOf covers covererUpTo standAt phase ringTicks wholes wholeFrom whoOf firstReserve loadOf loadsOfSet lossOf slotRow tightRow horizonOf horizonRow chargedOutcome upTo laidOut setPlacement setReserves planMade sameFigures sameServers sameProcessors agrees needed fullRow planOutcome planOf makes allowed isProcessor isServer whoRuns doesPass lines planLine serverLine placedLine processorLine planText refusalText planned answered whoOfSet whoIn passOfSet passIn
+unfolding legal valueOf digitOf allLegal numberFrom hex kindOf widthsOf sum line after closed same formed fieldOf fields lineOf setOf some firstFrom countRow twiceRow boardRow rangeRow figuresOutcome headerOverflows taskOverflows askRow past tasksUpTo seenUpTo lineRow orderRow countLineRow twiceLineRow lineOutcome linesOutcome headerAt taskAt tasksFrom fileSet readOutcome readOf ceilingOf measureIn commonMeasure leastMultiple leastMultipleOf effectiveDeadline effectiveCost entryLoss jobs demand gap supplyPast supply enough smallestReserve lastUpTo firstUpTo short failing ownHorizon firstFailing verdictAt verdictOf passing loadsIn serversIn takes fit placeFrom placementOf reservesUpTo reservesOf covers covererUpTo standAt phase ringTicks wholes wholeFrom whoOf firstReserve loadOf loadsOfSet lossOf slotRow tightRow horizonOf horizonRow chargedOutcome upTo laidOut setPlacement setReserves planMade sameFigures sameServers sameProcessors agrees needed fullRow planOutcome planOf makes allowed isProcessor isServer whoRuns doesPass lines planLine serverLine placedLine processorLine planText refusalText plannedSet filedOf answered whoIn passIn
 examples-answered = refl

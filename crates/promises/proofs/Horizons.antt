@@ -29,8 +29,8 @@ use Rattle.demand.specs.Charging.{effectiveDeadline, effectiveCost}
 use Rattle.rows.specs.Charge.{loadOf}
 use Rattle.rows.specs.Rows.{slotRow, tightRow, horizonOf, horizonRow, chargedOutcome}
 use Rattle.plantext.specs.Text.{refusalText}
+use Rattle.planfile.specs.File.{plannedSet, filedOf}
 use Rattle.planfile.specs.Tool.{answered}
-use Rattle.planfile.proofs.ToolLaws.{answered-done, planned-refused}
 
 -- S 128, T 1,000,000 and 78,125
 abbrev pub fileJ : String
@@ -61,11 +61,8 @@ K-line = refl
 
 -- K: from the bytes of the file to the line of refusal 9
 pub K-refused : answered (bytesOf fileK) ≡ bytesOf "1F0900\n"
-unfolding setOfFile
-K-refused =
-    sym (answered-done (bytesOf fileK) (readOf (bytesOf fileK)) refl K-read)
-    ∙ sym (planned-refused (setOfFile fileK) (planOf (setOfFile fileK)) refl Horizon refused)
-    ∙ K-line
+unfolding setOfFile answered filedOf plannedSet
+K-refused = rw (K-read, refused, K-line)
   where
     refused : planOf (setOfFile fileK) .outcome ≡ Refused Horizon
     refused = sym (ap (λ (a : PlanAnswer). a .outcome) (plan-charged (setOfFile fileK) K-carried K-horizon))

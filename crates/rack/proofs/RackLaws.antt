@@ -20,7 +20,7 @@ use Rattle.questions.specs.declared.question.WhoAnswer.{WhoAnswer}
 use Rattle.questions.specs.declared.question.PassAnswer.{PassAnswer}
 use Rattle.plantext.specs.Fit.{Fits}
 use Rattle.planfile.specs.Tool.{answered}
-use Rattle.planfile.specs.Asked.{whoIn, passIn}
+use Rattle.planfile.specs.OfFile.{whoIn, passIn}
 use Rattle.rack.specs.Rack.{bytesOf, planBytes, planLeaves, statusOf, toldOf, leavesNumbers, whoNumbers, whoTold, verdictNumbers, passNumbers, passTold}
 
 -- the number of a refusal is 1 to 12

@@ -20,7 +20,7 @@ use Rattle.questions.specs.declared.question.WhoAnswer.{WhoAnswer}
 use Rattle.questions.specs.declared.question.PassAnswer.{PassAnswer}
 use Rattle.plantext.specs.Fit.{fitted}
 use Rattle.planfile.specs.Tool.{answered}
-use Rattle.planfile.specs.Asked.{whoIn, passIn}
+use Rattle.planfile.specs.OfFile.{whoIn, passIn}
 
 -- the bytes that were written
 abbrev pub bytesOf : Written → ℕ

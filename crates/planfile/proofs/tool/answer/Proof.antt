@@ -1,19 +1,24 @@
--- The reader's answer taken apart: what its set's plan comes to, or its refusal's line.
+-- A file's answer taken apart: the text of its plan, or its refusal's line.
 -- Assumes nothing.
+use Rattle.plantext.specs.Text.{planText, refusalText}
 use Rattle.plantext.proofs.FitLaws.{fits-as}
-use Rattle.planfile.proofs.ToolLaws.{answered-done, answered-refused}
+use Rattle.planfile.specs.declared.file.FileAnswer.{FileAnswer}
+use Rattle.planfile.specs.Tool.{answered}
+use Rattle.planfile.proofs.AcceptLaws.{makes-counted}
+use Rattle.planfile.proofs.FileLaws.{when-done, when-refused, filed-makes}
 use borrow.Author.Needs.{needs}
 use Rattle.planfile.proofs.tool.answer.Statement.{statement}
 use Rattle.planfile.proofs.tool.answer.Tie as tie
 
-read-requires : tie.Need-read-requires
-read-requires c κs = search needs
+filed-requires : tie.Need-filed-requires
+filed-requires c κs = search needs
 
 enum-told : tie.Need-enum-told
 enum-told c = search needs
 
-answer-set-requires : tie.Need-answer-set-requires
-answer-set-requires c κs = search needs
+fit-plan-requires : tie.Need-fit-plan-requires
+fit-plan-requires c κs =
+    makes-counted _ _ (filed-makes (c .before .before .before .before .before .before .before .before .args .text .now) (c .before .before .before .before .before .filed .ensures) (c .before .enum-told .given .1))
 
 enum-known-outcome : tie.Need-enum-known-outcome
 enum-known-outcome c = search needs
@@ -25,25 +30,29 @@ same-length : tie.Need-same-length
 same-length c = search needs
 
 returns : tie.Need-returns
+unfolding answered
 returns c =
-    let file = c .before .before .before .before .before .before .before .read in
-    fits-as (answered-done (c .before .before .before .before .before .before .before .before .before .before .args .text .now) (file .result) (file .ensures) (c .before .before .before .before .enum-told .given .1)) (c .before .before .answer-set .ensures)
+    fits-as
+    (when-done refusalText (λ (f : FileAnswer). f .outcome) (λ (f : FileAnswer). planText (f .set) (f .plan)) (c .before .before .before .before .before .before .before .before .filed .ensures) (c .before .before .before .before .enum-told .given .1))
+    (c .before .before .fit-plan .ensures)
 
 same-length-2 : tie.Need-same-length-2
 same-length-2 c = search needs
 
 returns-2 : tie.Need-returns-2
+unfolding answered
 returns-2 c =
-    let file = c .before .before .before .before .before .before .before .before .read in
-    fits-as (answered-refused (c .before .before .before .before .before .before .before .before .before .before .before .args .text .now) (file .result) (file .ensures) _ (c .before .before .before .before .before .outcome .given .1)) (c .before .before .fit-refusal .ensures)
+    fits-as
+    (when-refused refusalText (λ (f : FileAnswer). f .outcome) (λ (f : FileAnswer). planText (f .set) (f .plan)) (c .before .before .before .before .before .before .before .before .before .filed .ensures) (c .before .before .before .before .before .outcome .given .1))
+    (c .before .before .fit-refusal .ensures)
 
 pub answer-spec : {M : Type 1} → statement M
 answer-spec =
     tie.close
     (tie.spec
-    read-requires
+    filed-requires
     enum-told
-    answer-set-requires
+    fit-plan-requires
     enum-known-outcome
     fit-refusal-requires
     same-length

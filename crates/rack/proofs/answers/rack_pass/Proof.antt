@@ -1,9 +1,9 @@
--- `rack::questions::rack_pass` meets its contract: the verdict as numbers, or the question's refusal. Assumes nothing.
+-- `rack::answers::rack_pass` meets its contract: the verdict as numbers, or the question's refusal. Assumes nothing.
 use Rattle.refusals.specs.declared.Outcome.the-variants.{Done, Refused}
 use Rattle.rack.proofs.RackLaws.{pass-told, told-refused}
 use borrow.Author.Needs.{needs}
-use Rattle.rack.proofs.questions.rack_pass.Statement.{statement}
-use Rattle.rack.proofs.questions.rack_pass.Tie as tie
+use Rattle.rack.proofs.answers.rack_pass.Statement.{statement}
+use Rattle.rack.proofs.answers.rack_pass.Tie as tie
 
 pass-in-requires : tie.Need-pass-in-requires
 pass-in-requires c κs = search needs

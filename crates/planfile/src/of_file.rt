@@ -1,7 +1,7 @@
-// The two questions asked of a task file. A file that is refused, or whose plan is, refuses the question as it was refused.
-// What is answered stands in specs/Asked.antt. A set is planned once.
+// The two questions of a task file. A file that is refused, or whose plan is, refuses the question as it was refused.
+// What is answered stands in specs/OfFile.antt.
+use crate::file::filed;
 use plan::plan::Plan;
-use plan::planner::make;
 use questions::question::PassAnswer;
 use questions::question::WhoAnswer;
 use questions::question::is_allowed;
@@ -13,7 +13,6 @@ use refusals::Outcome;
 use refusals::Refusal;
 use ring::clock::Tick;
 use rows::charge::loss;
-use taskread::read::read;
 use tasks::set::TaskSet;
 use verdict::answer::Reading;
 use verdict::answer::Verdict;
@@ -21,7 +20,7 @@ ghost use mathlib.Core.Path.{_≡_};
 ghost use mathlib.Core.Bool.{true};
 ghost use Rattle.questions.specs.Agrees.{makes};
 ghost use Rattle.questions.specs.Question.{whoRuns, doesPass};
-ghost use Rattle.planfile.specs.Asked.{refusedWho, refusedPass, whoOfSet, passOfSet, whoIn, passIn};
+ghost use Rattle.planfile.specs.OfFile.{refusedWho, refusedPass, whoIn, passIn};
 
 fn refused_who(refusal: Refusal) -> WhoAnswer
     ensures { λ r. ⌜ r ≡ refusedWho refusal ⌝ }
@@ -49,27 +48,15 @@ fn who_made(set: TaskSet, plan: Plan, processor: u64, tick: Tick) -> WhoAnswer
     }
 }
 
-// Who runs, of a set.
-fn who_of(set: TaskSet, processor: u64, tick: Tick) -> WhoAnswer
-    ensures { λ r. ⌜ r ≡ whoOfSet set processor tick ⌝ }
-{
-    let made = make(set);
-    let outcome = made.outcome;
-    let plan = made.plan;
-    match outcome {
-        Outcome::Done => who_made(set, plan, processor, tick),
-        Outcome::Refused(refusal) => refused_who(refusal),
-    }
-}
-
 pub fn who_in(text: &[u8], processor: u64, tick: Tick) -> WhoAnswer
     ensures { λ r. ⌜ r ≡ whoIn (now (text .entry)) processor tick ⌝ }
 {
-    let file = read(text);
+    let file = filed(text);
     let outcome = file.outcome;
     let set = file.set;
+    let plan = file.plan;
     match outcome {
-        Outcome::Done => who_of(set, processor, tick),
+        Outcome::Done => who_made(set, plan, processor, tick),
         Outcome::Refused(refusal) => refused_who(refusal),
     }
 }
@@ -105,27 +92,15 @@ fn pass_made(set: TaskSet, plan: Plan, server: u64, reserve: u64) -> PassAnswer
     }
 }
 
-// Does a server pass, of a set.
-fn pass_of(set: TaskSet, server: u64, reserve: u64) -> PassAnswer
-    ensures { λ r. ⌜ r ≡ passOfSet set server reserve ⌝ }
-{
-    let made = make(set);
-    let outcome = made.outcome;
-    let plan = made.plan;
-    match outcome {
-        Outcome::Done => pass_made(set, plan, server, reserve),
-        Outcome::Refused(refusal) => refused_pass(refusal),
-    }
-}
-
 pub fn pass_in(text: &[u8], server: u64, reserve: u64) -> PassAnswer
     ensures { λ r. ⌜ r ≡ passIn (now (text .entry)) server reserve ⌝ }
 {
-    let file = read(text);
+    let file = filed(text);
     let outcome = file.outcome;
     let set = file.set;
+    let plan = file.plan;
     match outcome {
-        Outcome::Done => pass_of(set, server, reserve),
+        Outcome::Done => pass_made(set, plan, server, reserve),
         Outcome::Refused(refusal) => refused_pass(refusal),
     }
 }

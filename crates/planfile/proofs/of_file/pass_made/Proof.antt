@@ -3,11 +3,11 @@
 use Prim.Native.Nat.{ℕ}
 use mathlib.Core.Path.{sym, _∙_, ap}
 use Rattle.questions.specs.Question.{allowed}
-use Rattle.planfile.proofs.ToolLaws.{pass-absent, pass-barred, pass-there}
+use Rattle.planfile.proofs.MadeLaws.{pass-absent, pass-barred, pass-there}
 use borrow.Author.Tests.{not-true, not-false}
 use borrow.Author.Needs.{needs}
-use Rattle.planfile.proofs.asked.pass_made.Statement.{statement}
-use Rattle.planfile.proofs.asked.pass_made.Tie as tie
+use Rattle.planfile.proofs.of_file.pass_made.Statement.{statement}
+use Rattle.planfile.proofs.of_file.pass_made.Tie as tie
 
 is-server-requires : tie.Need-is-server-requires
 is-server-requires c κs = search needs

@@ -1,10 +1,10 @@
--- `rack::questions::rack_who` meets its contract: the question's answer as numbers, or its refusal. Assumes nothing.
+-- `rack::answers::rack_who` meets its contract: the question's answer as numbers, or its refusal. Assumes nothing.
 use mathlib.Core.List.{[], _∷_}
 use Rattle.refusals.specs.declared.Outcome.the-variants.{Done, Refused}
 use Rattle.rack.proofs.RackLaws.{who-told, told-refused}
 use borrow.Author.Needs.{needs}
-use Rattle.rack.proofs.questions.rack_who.Statement.{statement}
-use Rattle.rack.proofs.questions.rack_who.Tie as tie
+use Rattle.rack.proofs.answers.rack_who.Statement.{statement}
+use Rattle.rack.proofs.answers.rack_who.Tie as tie
 
 who-in-requires : tie.Need-who-in-requires
 who-in-requires c κs = search needs

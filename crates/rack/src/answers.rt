@@ -2,8 +2,8 @@
 // A status of 0 says that the answer stands there; any other is the refusal, and the memory is as before.
 use crate::status::code;
 use crate::status::put_numbers;
-use planfile::asked::pass_in;
-use planfile::asked::who_in;
+use planfile::of_file::pass_in;
+use planfile::of_file::who_in;
 use refusals::Outcome;
 use ring::clock::Tick;
 use verdict::answer::Verdict;

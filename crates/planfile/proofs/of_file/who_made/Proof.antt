@@ -4,11 +4,11 @@ use mathlib.Core.Path.{_≡_, sym, _∙_}
 use lib.ListN.{length, length-map}
 use Rattle.questions.proofs.Checked.{standing, who-same}
 use Rattle.planfile.proofs.AcceptLaws.{makes-counted}
-use Rattle.planfile.proofs.ToolLaws.{who-absent, who-there}
+use Rattle.planfile.proofs.MadeLaws.{who-absent, who-there}
 use borrow.Author.Tests.{not-true, not-false}
 use borrow.Author.Needs.{needs}
-use Rattle.planfile.proofs.asked.who_made.Statement.{statement}
-use Rattle.planfile.proofs.asked.who_made.Tie as tie
+use Rattle.planfile.proofs.of_file.who_made.Statement.{statement}
+use Rattle.planfile.proofs.of_file.who_made.Tie as tie
 
 -- a set's tasks have 64 places
 full : (s : tie.Start) → length (s .args .set .tasks) ≡ 64

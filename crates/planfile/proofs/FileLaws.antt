@@ -1,0 +1,47 @@
+-- Laws of an answer that hands a refusal on, and of a file's set and plan: the planner makes the plan of the set.
+-- Assumes nothing.
+use Prim.Native.Nat.{ℕ}
+use mathlib.Core.Path.{_≡_, refl, sym, _∙_, ap}
+use mathlib.Core.List.{List}
+use mathlib.Core.Bool.{true}
+use native.Mathlib.Omega.{arith}
+use Rattle.refusals.specs.declared.Refusal.{Refusal}
+use Rattle.refusals.specs.declared.Outcome.{Outcome}
+use Rattle.refusals.specs.declared.Outcome.the-variants.{Done, Refused}
+use Rattle.tasks.specs.declared.set.TaskSet.{TaskSet}
+use Rattle.taskread.specs.declared.read.ReadAnswer.{ReadAnswer}
+use Rattle.taskread.specs.Read.{readOf}
+use Rattle.plan.specs.declared.planner.PlanAnswer.{PlanAnswer}
+use Rattle.plan.specs.Planner.{planOf}
+use Rattle.questions.specs.Agrees.{makes}
+use Rattle.planfile.specs.declared.file.FileAnswer.{FileAnswer}
+use Rattle.planfile.specs.File.{unless, refusedFile, plannedSet, filedOf}
+use Rattle.planfile.proofs.AcceptLaws.{answer-makes}
+
+-- what is made of an answer a, known to be b: done, or its refusal is handed on
+module _ {A B : Type 0} (refused : Refusal → A) (outcome : B → Outcome) (f : B → A) {a b : B} (e : a ≡ b) where
+  as-known : unless refused (outcome a) (f a) ≡ unless refused (outcome b) (f b)
+  as-known = ap (λ (x : B). unless refused (outcome x) (f x)) e
+
+  pub when-done : outcome a ≡ Done → f a ≡ unless refused (outcome b) (f b)
+  when-done d = sym (ap (λ (o : Outcome). unless refused o (f a)) d) ∙ as-known
+
+  pub when-refused : {r : Refusal} → outcome a ≡ Refused r → refused r ≡ unless refused (outcome b) (f b)
+  when-refused d = sym (ap (λ (o : Outcome). unless refused o (f a)) d) ∙ as-known
+
+-- the planner makes this file's plan of its set
+abbrev Makes : FileAnswer → Type 0
+Makes file = file .outcome ≡ Done → makes (file .set) (file .plan) ≡ true
+
+planned-makes : (set : TaskSet) (o : Outcome) → planOf set .outcome ≡ o → Makes (unless refusedFile o (record { outcome = Done; set = set; plan = planOf set .plan }))
+planned-makes set Done e d = answer-makes set (planOf set) refl e
+planned-makes set (Refused r) e d = let z : _≡_ {A = ℕ} 0 1 = cc in absurd (omega arith)
+
+read-makes : (o : Outcome) (set : TaskSet) → Makes (unless refusedFile o (plannedSet set))
+unfolding plannedSet
+read-makes Done set d = planned-makes set (planOf set .outcome) refl d
+read-makes (Refused r) set d = let z : _≡_ {A = ℕ} 0 1 = cc in absurd (omega arith)
+
+pub filed-makes : (text : List ℕ) {file : FileAnswer} → file ≡ filedOf text → Makes file
+unfolding filedOf
+filed-makes text e d = rw e (read-makes (readOf text .outcome) (readOf text .set) (sym (ap (λ (g : FileAnswer). g .outcome) e) ∙ d))

@@ -1,0 +1,50 @@
+-- The reader's answer taken apart: its set, planned, or its refusal.
+-- Assumes nothing.
+use mathlib.Core.Path.{_∙_}
+use Rattle.taskread.specs.declared.read.ReadAnswer.{ReadAnswer}
+use Rattle.planfile.specs.File.{refusedFile, plannedSet, filedOf}
+use Rattle.planfile.proofs.FileLaws.{when-done, when-refused}
+use borrow.Author.Needs.{needs}
+use Rattle.planfile.proofs.file.filed.Statement.{statement}
+use Rattle.planfile.proofs.file.filed.Tie as tie
+
+read-requires : tie.Need-read-requires
+read-requires c κs = search needs
+
+enum-told : tie.Need-enum-told
+enum-told c = search needs
+
+planned-requires : tie.Need-planned-requires
+planned-requires c κs = search needs
+
+enum-known-outcome : tie.Need-enum-known-outcome
+enum-known-outcome c = search needs
+
+refused-requires : tie.Need-refused-requires
+refused-requires c κs = search needs
+
+returns : tie.Need-returns
+unfolding filedOf
+returns c =
+    c .planned .ensures
+    ∙ when-done refusedFile (λ (a : ReadAnswer). a .outcome) (λ (a : ReadAnswer). plannedSet (a .set))
+    (c .before .before .before .before .read .ensures) (c .before .enum-told .given .1)
+
+returns-2 : tie.Need-returns-2
+unfolding filedOf
+returns-2 c =
+    c .refused .ensures
+    ∙ when-refused refusedFile (λ (a : ReadAnswer). a .outcome) (λ (a : ReadAnswer). plannedSet (a .set))
+    (c .before .before .before .before .before .read .ensures) (c .before .before .outcome .given .1)
+
+pub filed-spec : {M : Type 1} → statement M
+filed-spec =
+    tie.close
+    (tie.spec
+    read-requires
+    enum-told
+    planned-requires
+    enum-known-outcome
+    refused-requires
+    returns
+    returns-2)

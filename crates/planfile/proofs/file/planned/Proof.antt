@@ -1,0 +1,42 @@
+-- The planner's answer taken apart: its plan, or its refusal.
+-- Assumes nothing.
+use mathlib.Core.Path.{_∙_}
+use Rattle.refusals.specs.declared.Outcome.the-variants.{Done}
+use Rattle.plan.specs.declared.planner.PlanAnswer.{PlanAnswer}
+use Rattle.planfile.specs.File.{refusedFile, plannedSet}
+use Rattle.planfile.proofs.FileLaws.{when-done, when-refused}
+use borrow.Author.Needs.{needs}
+use Rattle.planfile.proofs.file.planned.Statement.{statement}
+use Rattle.planfile.proofs.file.planned.Tie as tie
+
+make-requires : tie.Need-make-requires
+make-requires c κs = search needs
+
+enum-told : tie.Need-enum-told
+enum-told c = search needs
+
+enum-known-outcome : tie.Need-enum-known-outcome
+enum-known-outcome c = search needs
+
+refused-requires : tie.Need-refused-requires
+refused-requires c κs = search needs
+
+returns : tie.Need-returns
+unfolding plannedSet
+returns c =
+    let set = c .before .before .before .before .args .set in
+    when-done refusedFile (λ (a : PlanAnswer). a .outcome) (λ (a : PlanAnswer). record { outcome = Done; set = set; plan = a .plan })
+    (c .before .before .before .make .ensures) (c .enum-told .given .1)
+
+returns-2 : tie.Need-returns-2
+unfolding plannedSet
+returns-2 c =
+    let set = c .before .before .before .before .before .before .args .set in
+    c .refused .ensures
+    ∙ when-refused refusedFile (λ (a : PlanAnswer). a .outcome) (λ (a : PlanAnswer). record { outcome = Done; set = set; plan = a .plan })
+    (c .before .before .before .before .before .make .ensures) (c .before .before .outcome .given .1)
+
+pub planned-spec : {M : Type 1} → statement M
+planned-spec =
+    tie.close
+    (tie.spec make-requires enum-told enum-known-outcome refused-requires returns returns-2)

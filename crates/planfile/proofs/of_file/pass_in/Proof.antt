@@ -1,0 +1,54 @@
+-- A file's answer taken apart: the question of its plan, or its refusal.
+-- Assumes nothing.
+use mathlib.Core.Path.{_∙_}
+use Rattle.planfile.specs.declared.file.FileAnswer.{FileAnswer}
+use Rattle.questions.specs.Question.{doesPass}
+use Rattle.planfile.specs.OfFile.{refusedPass, passIn}
+use Rattle.planfile.proofs.FileLaws.{when-done, when-refused, filed-makes}
+use borrow.Author.Needs.{needs}
+use Rattle.planfile.proofs.of_file.pass_in.Statement.{statement}
+use Rattle.planfile.proofs.of_file.pass_in.Tie as tie
+
+filed-requires : tie.Need-filed-requires
+filed-requires c κs = search needs
+
+enum-told : tie.Need-enum-told
+enum-told c = search needs
+
+pass-made-requires : tie.Need-pass-made-requires
+pass-made-requires c κs =
+    filed-makes (c .before .before .before .before .before .before .args .text .now) (c .before .before .before .before .filed .ensures) (c .enum-told .given .1)
+
+enum-known-outcome : tie.Need-enum-known-outcome
+enum-known-outcome c = search needs
+
+refused-pass-requires : tie.Need-refused-pass-requires
+refused-pass-requires c κs = search needs
+
+returns : tie.Need-returns
+unfolding passIn
+returns c =
+    let a = c .before .before .before .before .before .before .before .args in
+    c .pass-made .ensures
+    ∙ when-done refusedPass (λ (f : FileAnswer). f .outcome) (λ (f : FileAnswer). doesPass (f .set) (f .plan) (a .server) (a .reserve))
+    (c .before .before .before .before .before .filed .ensures) (c .before .enum-told .given .1)
+
+returns-2 : tie.Need-returns-2
+unfolding passIn
+returns-2 c =
+    let a = c .before .before .before .before .before .before .before .before .args in
+    c .refused-pass .ensures
+    ∙ when-refused refusedPass (λ (f : FileAnswer). f .outcome) (λ (f : FileAnswer). doesPass (f .set) (f .plan) (a .server) (a .reserve))
+    (c .before .before .before .before .before .before .filed .ensures) (c .before .before .outcome .given .1)
+
+pub pass-in-spec : {M : Type 1} → statement M
+pass-in-spec =
+    tie.close
+    (tie.spec
+    filed-requires
+    enum-told
+    pass-made-requires
+    enum-known-outcome
+    refused-pass-requires
+    returns
+    returns-2)
