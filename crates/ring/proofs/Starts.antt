@@ -6,7 +6,6 @@ use mathlib.Core.Bool.{cond}
 use mathlib.Core.List.{List, [], _∷_, _++_}
 use mathlib.Core.Logic.{⊎-elim}
 use native.Mathlib.Nat.{le-trans, le-refl, mul-le-mul-right}
-use native.Mathlib.Numerals.{add-one}
 use native.Mathlib.Omega.{arith}
 use lib.Dec.{ltb}
 use lib.ListN.{length, getD, take, drop, take-append-drop}
@@ -157,7 +156,7 @@ module _ {S : ℕ} {rs : List ℕ} {n : ℕ} (laid : SlottedFirst S rs n) where
   taken-start i h = ap (ringTicks S) (take-take i n rs h)
 
   -- the sum has room
-  ring-room : (i : ℕ) → i ≤ n → ringTicks S (take i rs) ≤ 256 * S
+  pub ring-room : (i : ℕ) → i ≤ n → ringTicks S (take i rs) ≤ 256 * S
   ring-room i h =
       le-trans (ring-below S (take i rs))
       (rw (length-take-le i rs (le-trans h (laid .there))) (mul-le-mul-right S (le-trans h (laid .few))))
@@ -167,47 +166,3 @@ module _ {S : ℕ} {rs : List ℕ} {n : ℕ} (laid : SlottedFirst S rs n) where
       let b = laid .slot-below in
       let t = ring-tight S (take n rs) (laid .slot-some) in
       omega (arith, ring-room n (le-refl n))
-
--- ---- a pass over the first n of a slice that sums them
-
--- `sum` is what F sums of the first i
-pub record Summed (F : List ℕ → ℕ) (rs : List ℕ) (n sum i : ℕ) : Type 0 where
-  pub within : i ≤ n
-  pub so-far : sum ≡ F (take i rs)
-
-module _ {F : List ℕ → ℕ} {rs : List ℕ} {n : ℕ} where
-  -- of none it is nothing
-  pub summed-none : F [] ≡ 0 → Summed F rs n 0 0
-  summed-none e = record { within = omega arith; so-far = sym e }
-
-  -- the next one adds its term
-  summed-next : {sum more i : ℕ} (term : ℕ) → Summed F rs n sum i → i < n → more ≡ sum + term → F (take (suc i) rs) ≡ F (take i rs) + term → Summed F rs n more (i + 1)
-  summed-next {sum} {more} {i} term l h e g = record { within = omega arith; so-far = rw (add-one i) (omega (arith, l .so-far)) }
-
-  -- after the last it is that of all
-  pub summed-all : {sum i : ℕ} → Summed F rs n sum i → n ≤ i → sum ≡ F (take n rs)
-  summed-all {sum} {i} l h =
-      let e : i ≡ n = omega (arith, l .within) in
-      l .so-far ∙ ap (λ (k : ℕ). F (take k rs)) e
-
-module _ {S : ℕ} {rs : List ℕ} {n : ℕ} (laid : SlottedFirst S rs n) {sum more i : ℕ} where
-  pub ticks-more : Summed (ringTicks S) rs n sum i → i < n → getD rs i 0 < S → more ≡ sum + getD rs i 0 → Summed (ringTicks S) rs n more (i + 1)
-  ticks-more l h w e = summed-next (getD rs i 0) l h e (ring-more S rs i (le-trans h (laid .there)) w)
-
-  pub ticks-same : Summed (ringTicks S) rs n sum i → i < n → S ≤ getD rs i 0 → more ≡ sum → Summed (ringTicks S) rs n more (i + 1)
-  ticks-same l h w e = summed-next 0 l h (omega arith) (omega (arith, ring-same S rs i (le-trans h (laid .there)) w))
-
-  pub count-more : Summed (wholes S) rs n sum i → i < n → S ≤ getD rs i 0 → more ≡ sum + 1 → Summed (wholes S) rs n more (i + 1)
-  count-more l h w e = summed-next 1 l h e (wholes-more S rs i (le-trans h (laid .there)) w)
-
-  pub count-same : Summed (wholes S) rs n sum i → i < n → getD rs i 0 < S → more ≡ sum → Summed (wholes S) rs n more (i + 1)
-  count-same l h w e = summed-next 0 l h (omega arith) (omega (arith, wholes-same S rs i (le-trans h (laid .there)) w))
-
--- a sum has room for the next
-module _ {S : ℕ} {rs : List ℕ} {n : ℕ} (laid : SlottedFirst S rs n) {sum i : ℕ} where
-  pub ticks-room : Summed (ringTicks S) rs n sum i → sum ≤ 256 * S
-  ticks-room l = omega (arith, l .so-far, ring-room laid i (l .within))
-
-  pub count-room : Summed (wholes S) rs n sum i → sum ≤ 256
-  count-room l =
-      omega (arith, l .so-far, l .within, laid .few, wholes-below S (take i rs), length-take-le i rs (le-trans (l .within) (laid .there)))

@@ -12,7 +12,7 @@ use Rattle.laws.proofs.Orders.{le-or-lt}
 use Rattle.laws.proofs.Choices.{cond-ltb, cond-ltb-not}
 use Rattle.ring.specs.Slotted.{SlottedFirst}
 use Rattle.ring.specs.Reserves.{wholes}
-use Rattle.ring.specs.Who.{wholeFrom}
+use Rattle.ring.specs.Who.{wholeFrom, wholeServer}
 use Rattle.ring.proofs.Starts.{taken-length, wholes-cons, wholes-nil}
 
 module _ (S : ℕ) where
@@ -35,36 +35,51 @@ module _ (S : ℕ) where
   unfolding wholeFrom
   whole-nil q k = refl
 
--- the same along the first n of a slice
+-- ---- a pass over the first n of a slice that looks for the k-th: what it starts with, the next, and the end
+
+-- past the first i, the one looked for is the `more`-th of the rest
+pub record Walked (S : ℕ) (rs : List ℕ) (n k more i : ℕ) : Type 0 where
+  pub within : i ≤ n
+  pub still : wholeServer S (take n rs) k ≡ wholeFrom S (drop i (take n rs)) (suc i) more
+
+pub walked-none : {S n k : ℕ} {rs : List ℕ} → Walked S rs n k k 0
+walked-none = record { within = omega arith; still = refl }
+
 module _ {S : ℕ} {rs : List ℕ} {n : ℕ} (laid : SlottedFirst S rs n) where
   rest : (i : ℕ) → i < n → drop i (take n rs) ≡ getD rs i 0 ∷ drop (suc i) (take n rs)
   rest i h =
       drop-cons (take n rs) i 0 (omega (arith, taken-length laid)) ∙
       ap (λ (R : ℕ). R ∷ drop (suc i) (take n rs)) (getD-take n rs i 0 h)
 
-  abbrev At : ℕ → ℕ → ℕ
-  At i k = wholeFrom S (drop i (take n rs)) (suc i) k
+  module _ {k more i : ℕ} (l : Walked S rs n k more i) where
+    -- the rest begins with the i-th
+    still-next : i < n → wholeServer S (take n rs) k ≡ wholeFrom S (getD rs i 0 ∷ drop (suc i) (take n rs)) (suc i) more
+    still-next h = l .still ∙ ap (λ (Rs : List ℕ). wholeFrom S Rs (suc i) more) (rest i h)
 
-  pub walk-past : (i k : ℕ) → i < n → getD rs i 0 < S → At i k ≡ At (i + 1) k
-  walk-past i k h l =
-      rw (rest i h, add-one) (whole-past S (getD rs i 0) (drop (suc i) (take n rs)) (suc i) k l)
+    pub walked-here : i < n → S ≤ getD rs i 0 → more ≡ 0 → i + 1 ≡ wholeServer S (take n rs) k
+    walked-here h w e =
+        sym
+        (still-next h ∙ ap (wholeFrom S (getD rs i 0 ∷ drop (suc i) (take n rs)) (suc i)) e ∙
+        whole-here S (getD rs i 0) (drop (suc i) (take n rs)) (suc i) w ∙ sym (add-one i))
 
-  pub walk-here : (i k : ℕ) → i < n → S ≤ getD rs i 0 → k ≡ 0 → At i k ≡ i + 1
-  walk-here i k h l e =
-      rw (rest i h, e, add-one) (whole-here S (getD rs i 0) (drop (suc i) (take n rs)) (suc i) l)
+    pub walked-all : n ≤ i → 0 ≡ wholeServer S (take n rs) k
+    walked-all h =
+        let e : drop i (take n rs) ≡ [] = drop-of-length-le (take n rs) {i = i} (omega (arith, taken-length laid)) in
+        sym (l .still ∙ ap (λ (Rs : List ℕ). wholeFrom S Rs (suc i) more) e ∙ whole-nil S (suc i) more)
 
-  walk-suc : (i k : ℕ) → i < n → S ≤ getD rs i 0 → At i (suc k) ≡ At (i + 1) k
-  walk-suc i k h l =
-      rw (rest i h, add-one) (whole-next S (getD rs i 0) (drop (suc i) (take n rs)) (suc i) k l)
+    pub walked-past : {less : ℕ} → i < n → getD rs i 0 < S → less ≡ more → Walked S rs n k less (i + 1)
+    walked-past {less} h w e = record {
+      within = omega arith;
+      still = rw (add-one i, e) (still-next h ∙ whole-past S (getD rs i 0) (drop (suc i) (take n rs)) (suc i) more w);
+    }
 
-  pub walk-next : (i k : ℕ) → i < n → S ≤ getD rs i 0 → 1 ≤ k → At i k ≡ At (i + 1) (k - 1)
-  walk-next i zero h l g = absurd (omega arith)
-  walk-next i (suc k) h l g =
-      let e : suc k - 1 ≡ k = omega arith in
-      walk-suc i k h l ∙ ap (At (i + 1)) (sym e)
-
-  pub walk-none : (i k : ℕ) → n ≤ i → At i k ≡ 0
-  walk-none i k h =
-      let e : drop i (take n rs) ≡ [] = drop-of-length-le (take n rs) {i = i} (omega (arith, taken-length laid)) in
-      ap (λ (l : List ℕ). wholeFrom S l (suc i) k) e ∙
-      whole-nil S (suc i) k
+    pub walked-next : {less : ℕ} → i < n → S ≤ getD rs i 0 → 1 ≤ more → less ≡ more - 1 → Walked S rs n k less (i + 1)
+    walked-next {less} h w g e =
+        let m : more ≡ suc less = omega arith in
+        record {
+          within = omega arith;
+          still =
+              rw (add-one i)
+              (still-next h ∙ ap (wholeFrom S (getD rs i 0 ∷ drop (suc i) (take n rs)) (suc i)) m ∙
+              whole-next S (getD rs i 0) (drop (suc i) (take n rs)) (suc i) less w);
+        }

@@ -5,7 +5,8 @@ use mathlib.Core.Logic.{⊎-elim}
 use borrow.Author.Needs.{needs}
 use native.Mathlib.Omega.{arith}
 use Rattle.ring.specs.Reserves.{ringTicks}
-use Rattle.ring.proofs.Starts.{Summed, ring-nil, summed-none, summed-all, ticks-more, ticks-same, ticks-room}
+use Rattle.ring.proofs.Starts.{ring-nil}
+use Rattle.ring.proofs.SummedLaws.{Summed, summed-none, summed-all, ticks-more, ticks-same, ticks-room}
 use Rattle.ring.proofs.reserves.ring_ticks.Statement.{statement}
 use Rattle.ring.proofs.reserves.ring_ticks.Tie as tie
 

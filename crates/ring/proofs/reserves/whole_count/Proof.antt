@@ -5,7 +5,8 @@ use mathlib.Core.Logic.{⊎-elim}
 use borrow.Author.Needs.{needs}
 use native.Mathlib.Omega.{arith}
 use Rattle.ring.specs.Reserves.{wholes}
-use Rattle.ring.proofs.Starts.{Summed, wholes-nil, summed-none, summed-all, count-more, count-same, count-room}
+use Rattle.ring.proofs.Starts.{wholes-nil}
+use Rattle.ring.proofs.SummedLaws.{Summed, summed-none, summed-all, count-more, count-same, count-room}
 use Rattle.ring.proofs.reserves.whole_count.Statement.{statement}
 use Rattle.ring.proofs.reserves.whole_count.Tie as tie
 
