@@ -1,18 +1,16 @@
 -- The fake-task form and the supply form give the same yes or no over all lengths; at single lengths they differ.
 -- Assumes nothing.
 use Prim.Native.Nat.{ℕ, _+_, _*_, _-_, _/_, _≤_, _<_}
-use mathlib.Core.Path.{_≡_, refl, ap, _∙_}
+use mathlib.Core.Path.{_≡_, ap, _∙_}
 use mathlib.Core.Logic.{_↔_, ⊎-elim}
 use native.Mathlib.Nat.{le-trans, mul-comm, mul-add, sub-add-cancel}
 use native.Mathlib.Omega.{arith}
 use lib.Arith.{digits-div}
 use Rattle.laws.proofs.Orders.{by-slots, le-or-lt}
-use Rattle.demand.specs.Demand.{jobs, demand}
-use Rattle.demand.specs.Supply.{supplyPast, supply}
-use Rattle.demand.specs.Passes.{Passes, fake, FakePasses}
-use Rattle.demand.specs.Claims.{FakeAgrees, FakeDiffers, FakeRises}
-use Rattle.demand.proofs.Demand.{jobs-code, demand-mono}
-use Rattle.demand.proofs.Supply.{supply-slots, supply-part}
+use Rattle.demand.specs.Supply.{supplyPast}
+use Rattle.demand.specs.Passes.{fake}
+use Rattle.demand.proofs.Demand.{jobs-code}
+use Rattle.demand.proofs.Supply.{supply-slots}
 
 -- the fake task after k slots and x ticks: its job of this slot is due from the gap's end on
 fake-due : (S f k : ℕ) {x : ℕ} → f ≤ x → x < S → fake S f (k * S + x) ≡ f * (k + 1)
@@ -49,7 +47,7 @@ due-agrees S f k w {x} g h =
     (due-sums w (k * (S - f)) (f * k) (k * S) f x (slot-parts S f k (omega arith)) g)
 
 -- what the supply covers leaves room for the fake task
-supply-room : (S f w : ℕ) → f < S → (t : ℕ) → w ≤ supplyPast S f t → w + fake S f t ≤ t
+pub supply-room : (S f w : ℕ) → f < S → (t : ℕ) → w ≤ supplyPast S f t → w + fake S f t ≤ t
 supply-room S f w l =
     by-slots (λ (t : ℕ). w ≤ supplyPast S f t → w + fake S f t ≤ t) S (omega arith)
     (λ k x h c.
@@ -69,7 +67,7 @@ module _ (g : ℕ → ℕ) (S f : ℕ) (gap-some : 1 ≤ f) (gap-fits : f < S) (
       due-agrees S f k (g (k * S + f)) (omega arith) gap-fits .1 (room (k * S + f) (omega arith)) in
       le-trans (rw (supply-slots S f k gap-fits) at h) (omega arith)
 
-  covered : (t : ℕ) → 1 ≤ t → g t ≤ supplyPast S f t
+  pub covered : (t : ℕ) → 1 ≤ t → g t ≤ supplyPast S f t
   covered =
       by-slots (λ (t : ℕ). 1 ≤ t → g t ≤ supplyPast S f t) S (omega arith)
       (λ k x h p.
@@ -79,21 +77,3 @@ module _ (g : ℕ → ℕ) (S f : ℕ) (gap-some : 1 ≤ f) (gap-fits : f < S) (
       rw (supply-slots S f k h)
       (le-trans (grows (k * S + x) (k * S + f) (omega arith)) (le-trans (at-gap k) (omega arith))))
       (le-or-lt f x))
-
-pub fake-agrees : FakeAgrees
-fake-agrees ls S L R sound r =
-    let ring : R ≡ S → ⊥ = λ (e : R ≡ S). omega arith in (
-      λ (h : Passes ls S L R) t p.
-          supply-room S (S - R + L) (demand ls t) (omega arith) t (rw (supply-part S L R t ring) at (h t p)),
-      λ (h : FakePasses ls S L R) t p.
-          rw (supply-part S L R t ring)
-          (covered (demand ls) S (S - R + L) (omega arith) (omega arith) (λ t u le. demand-mono ls sound le) h t p),
-    )
-
-pub fake-differs : FakeDiffers
-unfolding demand jobs supply supplyPast fake
-fake-differs = record { demand-5 = refl; supply-5 = refl; sum-5 = refl; sum-7 = refl }
-
-pub fake-rises : FakeRises
-unfolding demand jobs fake
-fake-rises = record { sum-1 = refl; sum-2 = refl }

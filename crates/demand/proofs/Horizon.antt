@@ -3,19 +3,16 @@
 use Prim.Native.Nat.{ℕ, zero, suc, _+_, _-_, _≤_, _<_}
 use mathlib.Core.Path.{_≡_, subst}
 use mathlib.Core.Logic.{⊎-elim}
-use native.Mathlib.Nat.{le-refl, le-trans, le-of-eq, add-le-add}
+use native.Mathlib.Nat.{le-refl, le-trans, add-le-add}
 use native.Mathlib.Omega.{arith}
 use Rattle.laws.proofs.Orders.{le-or-lt}
-use Rattle.demand.specs.Demand.{demand}
 use Rattle.demand.specs.Supply.{gap, supply}
-use Rattle.demand.specs.Claims.{HorizonDecides, LoadsDecide}
-use Rattle.demand.proofs.Demand.{demand-turn}
 use Rattle.demand.proofs.Supply.{supply-gap, supply-more}
 
 module _ (g s : ℕ → ℕ) (H : ℕ) (some : 1 ≤ H) (turns : (t : ℕ) → g (t + H) ≤ g t + g H) (gains : (t : ℕ) → s t + s H ≤ s (t + H))
     (within : (t : ℕ) → 1 ≤ t → t ≤ H → g t ≤ s t) where
   -- n bounds how often H can be taken off
-  beyond : (n t : ℕ) → t ≤ n → 1 ≤ t → g t ≤ s t
+  pub beyond : (n t : ℕ) → t ≤ n → 1 ≤ t → g t ≤ s t
   beyond zero t h p = within t p (omega arith)
   beyond (suc n) t h p =
       ⊎-elim
@@ -27,17 +24,7 @@ module _ (g s : ℕ → ℕ) (H : ℕ) (some : 1 ≤ H) (turns : (t : ℕ) → g
       (le-trans (turns (t - H)) (le-trans (add-le-add before (within H some (le-refl H))) (gains (t - H)))))
       (le-or-lt t H)
 
-pub horizon-decides : HorizonDecides
-horizon-decides g s H some turns gains within t p = beyond g s H some turns gains within t t (le-refl t) p
-
 -- a length and H ticks more supply at least what the two do
 pub supply-gains : (S L R t H : ℕ) → 1 ≤ S → supply S L R t + supply S L R H ≤ supply S L R (t + H)
 supply-gains S L R t H h =
     rw (supply-gap S L R t h, supply-gap S L R H h, supply-gap S L R (t + H) h) (supply-more S (gap S L R) t H h)
-
-pub loads-decide : LoadsDecide
-loads-decide ls S L R H sound slot some divides within =
-    horizon-decides (demand ls) (supply S L R) H some
-    (λ t. le-of-eq (demand-turn ls t H sound divides))
-    (λ t. supply-gains S L R t H slot)
-    within

@@ -1,14 +1,11 @@
--- How the verdict goes with the reserve: never from yes to no as it grows, yes for a load alone, no where the loss eats it up.
+-- How supply goes with the reserve: a whole processor supplies the most, a larger reserve never less, one that the loss eats up nothing.
 -- Assumes nothing.
 use Prim.Native.Nat.{ℕ, _+_, _-_, _≤_, _<_}
-use mathlib.Core.Path.{_≡_, refl, sym, _∙_}
+use mathlib.Core.Path.{_≡_, sym, _∙_}
 use mathlib.Core.Logic.{⊎-elim}
-use mathlib.Core.List.{[]}
 use native.Mathlib.Nat.{le-trans, le-of-eq}
 use native.Mathlib.Omega.{arith}
 use Rattle.demand.specs.Supply.{Ring, Allowed, supply}
-use Rattle.demand.specs.Claims.{NeverTurns, AlonePasses, LossNeverPasses}
-use Rattle.demand.proofs.Demand.{term-within, demand-cons, demand-nil, demand-first}
 use Rattle.demand.proofs.Supply.{supply-all, supply-part, supply-none, supply-within, supply-gap-mono}
 
 -- a whole processor supplies the most
@@ -29,18 +26,6 @@ supply-rises S L R R′ t a a′ h =
     (λ (e : R′ ≡ S). le-trans (supply-most S L R t a) (le-of-eq (sym (supply-all S L R′ t e))))
     a′
 
-pub never-turns : NeverTurns
-never-turns ls S L R R′ a a′ h passes t p = le-trans (passes t p) (supply-rises S L R R′ t a a′ h)
-
-pub alone-passes : AlonePasses
-alone-passes l S L s t p = omega (arith, supply-all S L S t refl, demand-cons l [] t, demand-nil t, term-within l t s)
-
-loss-supplies : (S L R t : ℕ) → R < S → R ≤ L → supply S L R t ≡ 0
+-- a reserve that the entry loss eats up supplies nothing
+pub loss-supplies : (S L R t : ℕ) → R < S → R ≤ L → supply S L R t ≡ 0
 loss-supplies S L R t h g = supply-part S L R t (λ (e : R ≡ S). omega arith) ∙ supply-none S (S - R + L) t (omega arith) (omega arith)
-
-pub loss-never-passes : LossNeverPasses
-loss-never-passes =
-    record {
-      nothing = loss-supplies;
-      short = λ l ls S L R s h g. omega (arith, loss-supplies S L R (l .deadline) h g, demand-first l ls s);
-    }

@@ -11,7 +11,6 @@ use Rattle.demand.specs.Load.{Load, Sound, Every}
 use Rattle.demand.specs.Demand.{demand}
 use Rattle.demand.specs.Supply.{gap, supply}
 use Rattle.demand.specs.Steps.{StepOf, Some, Step}
-use Rattle.demand.specs.Claims.{StepsDecide}
 use Rattle.demand.proofs.Demand.{demand-zero, demand-stays}
 use Rattle.demand.proofs.Supply.{supply-gap, supply-mono}
 
@@ -61,7 +60,7 @@ supply-grows S L R {t} {u} h g = rw (supply-gap S L R t h, supply-gap S L R u h)
 
 module _ (ls : List Load) (S L R H : ℕ) (sound : Every Sound ls) (slot : 1 ≤ S)
     (at-steps : (t : ℕ) → 1 ≤ t → t ≤ H → Step ls t → demand ls t ≤ supply S L R t) where
-  up-to : (t : ℕ) → t ≤ H → demand ls t ≤ supply S L R t
+  pub up-to : (t : ℕ) → t ≤ H → demand ls t ≤ supply S L R t
   up-to zero h = omega (arith, demand-zero ls sound)
   up-to (suc t) h =
       let before : demand ls t ≤ supply S L R t = up-to t (omega arith) in
@@ -69,6 +68,3 @@ module _ (ls : List Load) (S L R H : ℕ) (sound : Every Sound ls) (slot : 1 ≤
       (λ (st : Step ls (suc t)). at-steps (suc t) (omega arith) h st)
       (λ (n : Step ls (suc t) → ⊥). le-trans (le-of-eq (sym (no-step ls t sound n))) (le-trans before (supply-grows S L R slot (omega arith))))
       (step-or-not ls (suc t) (omega arith))
-
-pub steps-decide : StepsDecide
-steps-decide ls S L R H sound slot at-steps t p h = up-to ls S L R H sound slot at-steps t h

@@ -1,4 +1,4 @@
--- What is claimed of demand and supply, each claim as a type. Literal, Horizon, Steps, Fake and Reserve of proofs/ prove them.
+-- What is claimed of demand and supply, each claim as a type. They are proved in proofs/Claims.antt.
 -- Document 01, "Demand, supply, and the report's test", and "Shortcuts that give wrong rotas".
 use Prim.Native.Nat.{ℕ, _+_, _-_, _/_, _≤_, _<_, _∣_}
 use mathlib.Core.Path.{_≡_}

@@ -16,7 +16,7 @@ use Rattle.demand.specs.Passes.{Passes}
 use Rattle.verdict.specs.Verdict.{verdictOf}
 use Rattle.verdict.specs.Reserve.{Smallest}
 use Rattle.verdict.specs.Claims.{Asked}
-use Rattle.verdict.proofs.Verdict.{verdict-means}
+use Rattle.verdict.proofs.Claims.{verdict-means}
 use Rattle.servers.specs.Placement.{loadsIn, serversIn}
 use Rattle.servers.specs.Claims.{Parted}
 use Rattle.servers.proofs.ServerClaims.{each-in-one, every-passes, smallest-reserves}

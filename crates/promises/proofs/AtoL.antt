@@ -6,7 +6,7 @@ use mathlib.Core.Path.{_≡_}
 use Rattle.refusals.specs.declared.Refusal.the-variants.{Horizon}
 use Rattle.refusals.specs.declared.Outcome.the-variants.{Done, Refused}
 use Rattle.demand.specs.Claims.{FakeDiffers}
-use Rattle.demand.proofs.Fake.{fake-differs}
+use Rattle.demand.proofs.Claims.{fake-differs}
 use Rattle.tasks_claims.proofs.Examples.{bytesOf}
 use Rattle.taskread.specs.Read.{readOf}
 use Rattle.rows.specs.Rows.{horizonOf}

@@ -16,7 +16,7 @@ use Rattle.ring_claims.proofs.PhaseLaws.{phase-agrees}
 use Rattle.ring_claims.proofs.ServeLaws.{serves-since}
 use Rattle.ring_claims.proofs.Claims.{on-board-when, usable-when}
 use Rattle.windows.specs.Window.{since, usableAt}
-use Rattle.windows.proofs.Since.{since-is-right, usable-means}
+use Rattle.windows.proofs.Claims.{since-is-right, usable-means}
 use Rattle.promises.specs.Counted.{UsableWith, UsableOnce}
 
 -- the ring and the windows count alike from a start

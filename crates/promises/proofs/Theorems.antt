@@ -13,15 +13,14 @@ use Rattle.demand.specs.Demand.{demand}
 use Rattle.demand.specs.Supply.{Ring, Allowed}
 use Rattle.demand.specs.Passes.{Passes}
 use Rattle.demand.proofs.Supply.{supply-all}
-use Rattle.verdict.proofs.Sizing.{one-less}
+use Rattle.verdict.proofs.Claims.{one-less}
 use Rattle.tasks.specs.declared.set.TaskSet.{TaskSet}
 use Rattle.ring.specs.declared.clock.Tick.{Tick}
 use Rattle.ring.specs.Reserves.{reserveOf, startOf}
 use Rattle.ring_claims.specs.Serves.{RingServer, WholeProcessor, OnBoard, UsableOnRing, Usable}
 use Rattle.ring_claims.proofs.Claims.{one-server, one-processor, on-board-when, usable-when, held-in-slot}
 use Rattle.windows.specs.Window.{usableAt, usableIn, FallsShort}
-use Rattle.windows.proofs.Worst.{in-any-slot}
-use Rattle.windows.proofs.Covers.{passes-is-covered, passing-covers, whole-covers, smaller-falls-short}
+use Rattle.windows.proofs.Claims.{in-any-slot, passes-is-covered, passing-covers, whole-covers, smaller-falls-short}
 use Rattle.plan.specs.Plan.{setReserves}
 use Rattle.promises.specs.Accepted.{Accepted, IsServer, slotOf, entryLossOf, serverLoads}
 use Rattle.promises.specs.Counted.{Counted, UsableWith, UsableOnce}

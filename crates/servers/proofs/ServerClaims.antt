@@ -12,8 +12,7 @@ use Rattle.demand.proofs.Demand.{every-snoc, every-front, every-last}
 use Rattle.verdict.specs.Claims.{Asked}
 use Rattle.verdict.specs.Search.{NoneIn, First}
 use Rattle.verdict.specs.Reserve.{Smallest}
-use Rattle.verdict.proofs.Verdict.{passing-means}
-use Rattle.verdict.proofs.Sizing.{reserve-means}
+use Rattle.verdict.proofs.Claims.{passing-means, reserve-means}
 use Rattle.servers.specs.Placement.{loadsIn, serversIn, takes, fit, placeFrom, placementOf}
 use Rattle.servers.specs.Reserve.{reservesUpTo, reservesOf}
 use Rattle.servers.specs.Claims.{Parted, EachInOne, EveryPasses, PassesWith, Lowest, Opened, FirstFit, SmallestReserves, ServerLoads}

@@ -9,7 +9,7 @@ use mathlib.Core.List.{List, [], _∷_, _++_}
 use lib.ListN.{length, getD, length-append, List·getD-append}
 use lib.Seq.{getD-append-seam}
 use Rattle.demand.specs.Load.{Load, Sound}
-use Rattle.demand.proofs.Reserve.{alone-passes}
+use Rattle.demand.proofs.Claims.{alone-passes}
 use Rattle.verdict.specs.Verdict.{passing}
 use Rattle.verdict.proofs.Verdict.{passes-passing}
 use Rattle.servers.specs.Placement.{loadsIn, serversIn, takes}

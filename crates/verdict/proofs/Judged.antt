@@ -17,7 +17,8 @@ use Rattle.verdict.specs.Verdict.{failing, firstFailing, passing, verdic
 use Rattle.verdict.specs.Claims.{Asked}
 use Rattle.verdict.specs.declared.answer.Verdict.the-variants.{Yes, No}
 use Rattle.verdict.proofs.Bounded.{last-zero, last-found, first-none, first-zero, first-view, none-has}
-use Rattle.verdict.proofs.Verdict.{any-horizon, passing-yes, passing-no, verdict-yes, verdict-no}
+use Rattle.verdict.proofs.Verdict.{passing-yes, passing-no, verdict-yes, verdict-no}
+use Rattle.verdict.proofs.Claims.{any-horizon}
 
 -- with no extra, a length is short past the reserve's gap exactly when it fails
 pub short-failing : (ls : List Load) (S L R f t : ℕ) → 1 ≤ S → f ≡ gap S L R → short ls S f 0 t ≡ failing ls S L R t

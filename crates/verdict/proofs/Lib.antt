@@ -3,6 +3,8 @@ pub mod Reach
 pub mod Descent
 pub mod Halving
 pub mod Verdict
+pub mod ReserveLaws
+pub mod Claims
 pub mod Judged
 pub mod Horizons
 pub mod Sizing

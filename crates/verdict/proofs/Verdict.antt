@@ -1,4 +1,4 @@
--- The verdict means what document 01 says of all lengths: proofs of the claims over a server's horizon.
+-- The verdict over a server's horizon, and over all lengths.
 use Prim.Native.Nat.{ℕ, zero, suc, _≤_, _<_, _∣_, suc-le-suc}
 use native.Mathlib.Omega.{arith}
 use native.Mathlib.Nat.{eq-zero-or-pos, le-of-suc-le-suc}
@@ -11,23 +11,16 @@ use Rattle.demand.specs.Load.{Load, Sound, Every}
 use Rattle.demand.specs.Demand.{demand}
 use Rattle.demand.specs.Supply.{supply}
 use Rattle.demand.specs.Passes.{Passes}
-use Rattle.demand.proofs.Horizon.{loads-decide}
-use Rattle.demand.proofs.Reserve.{never-turns, alone-passes}
+use Rattle.demand.proofs.Claims.{loads-decide}
 use Rattle.wholes.specs.Multiple.{leastMultipleOf, Divide, AllPositive}
 use Rattle.wholes.proofs.MultipleLaws.{multiple-of-pos, others-divide-of}
 use Rattle.verdict.specs.Search.{firstUpTo, NoneIn, First}
 use Rattle.verdict.specs.Verdict.{failing, ownHorizon, firstFailing, verdictAt, verdictOf, isYes, passing, Horizon}
-use Rattle.verdict.specs.Claims.{Asked, FailsFirst, PassingMeans, VerdictMeans, AnyHorizon, PassingStays, FirstMeans, LastMeans}
+use Rattle.verdict.specs.Claims.{Asked, FailsFirst}
 use Rattle.verdict.specs.declared.answer.Reading.{Reading}
 use Rattle.verdict.specs.declared.answer.Verdict.{Verdict}
 use Rattle.verdict.specs.declared.answer.Verdict.the-variants.{Yes, No}
-use Rattle.verdict.proofs.Bounded.{last-none, last-zero, last-found, last-is, first-none, first-zero, first-found, first-is, first-view, first-same}
-
-pub last-means : LastMeans
-last-means p n = ((λ t h. ((λ e. last-found p n t e h), last-is p n t)), (last-zero p n, last-none p n))
-
-pub first-means : FirstMeans
-first-means p n = ((λ t h. ((λ e. first-found p n t e h), (λ f. first-is p n t (f .0) (f .1)))), (first-zero p n, first-none p n))
+use Rattle.verdict.proofs.Bounded.{first-none, first-zero, first-found, first-view, first-same}
 
 -- what divides as a list divides load by load
 every-divides : (ls : List Load) (m : ℕ) → Divide (map (λ (l : Load). l .period) ls) m → Every (λ (l : Load). l .period ∣ m) ls
@@ -78,7 +71,7 @@ module _ (ls : List Load) (S L R : ℕ) (asked : Asked ls S) where
   passes-first {t} passes f = absurd (false≢true (sym (holds ls S L R t (passes t (f .there))) ∙ f .has))
 
   -- two horizons give the same smallest failing length
-  same-first : (H K : ℕ) → Horizon ls H → Horizon ls K → firstUpTo (failing ls S L R) H ≡ firstUpTo (failing ls S L R) K
+  pub same-first : (H K : ℕ) → Horizon ls H → Horizon ls K → firstUpTo (failing ls S L R) H ≡ firstUpTo (failing ls S L R) K
   same-first H K h k =
       ⊎-elim
       (λ v. v .0 ∙ sym (first-none (failing ls S L R) K (passes-none (none-passes H h (v .1)) K)))
@@ -93,7 +86,7 @@ module _ (ls : List Load) (S L R : ℕ) (asked : Asked ls S) where
   unfolding firstFailing
   zero-passes e = none-passes (ownHorizon S ls) (own-horizon ls S asked) (first-zero (failing ls S L R) (ownHorizon S ls) e)
 
-  passes-zero : Passes ls S L R → firstFailing ls S L R ≡ 0
+  pub passes-zero : Passes ls S L R → firstFailing ls S L R ≡ 0
   unfolding firstFailing
   passes-zero passes = first-none (failing ls S L R) (ownHorizon S ls) (passes-none passes (ownHorizon S ls))
 
@@ -108,10 +101,6 @@ module _ (ls : List Load) (S L R : ℕ) (asked : Asked ls S) where
       (λ v. passes-first (none-passes (ownHorizon S ls) (own-horizon ls S asked) (v .1)) f)
       (λ v. first-same (v .1) f)
       (first-view (failing ls S L R) (ownHorizon S ls))
-
-pub any-horizon : AnyHorizon
-unfolding firstFailing
-any-horizon ls S L R H a h = same-first ls S L R a H (ownHorizon S ls) h (own-horizon ls S a)
 
 -- the reading that a verdict carries
 abbrev readingOf : Verdict → Reading
@@ -146,15 +135,16 @@ yes-zero : (ls : List Load) (S L R : ℕ) → passing ls S L R ≡ true → firs
 yes-zero ls S L R e =
     ⊎-elim (λ z. z) (λ h. absurd (false≢true (sym (passing-no ls S L R h) ∙ e))) (eq-zero-or-pos (firstFailing ls S L R))
 
-pub passing-means : PassingMeans
-passing-means ls S L R a =
-    ((λ e. zero-passes ls S L R a (yes-zero ls S L R e)), (λ e passes. false≢true (sym e ∙ passing-yes ls S L R (passes-zero ls S L R a passes))))
+-- a server that is passing passes
+pub passing-passes : (ls : List Load) (S L R : ℕ) → Asked ls S → passing ls S L R ≡ true → Passes ls S L R
+passing-passes ls S L R a e = zero-passes ls S L R a (yes-zero ls S L R e)
 
 -- the other way round: a server that passes is passing
 pub passes-passing : (ls : List Load) (S L R : ℕ) → Asked ls S → Passes ls S L R → passing ls S L R ≡ true
 passes-passing ls S L R a passes = passing-yes ls S L R (passes-zero ls S L R a passes)
 
-no-fails : (ls : List Load) (S L R : ℕ) → Asked ls S → (t w s : ℕ)
+-- the verdict no, and the length that it tells
+pub no-fails : (ls : List Load) (S L R : ℕ) → Asked ls S → (t w s : ℕ)
     → verdictOf ls S L R ≡ No (record { length = t; demand = w; supply = s }) → FailsFirst ls S L R t w s
 no-fails ls S L R a t w s e =
     ⊎-elim
@@ -177,28 +167,13 @@ no-fails ls S L R a t w s e =
           before = λ x h g. has-held ls S L R x (f .before x h g);
         }
 
-fails-no : (ls : List Load) (S L R : ℕ) → Asked ls S → (t w s : ℕ)
+pub fails-no : (ls : List Load) (S L R : ℕ) → Asked ls S → (t w s : ℕ)
     → FailsFirst ls S L R t w s → verdictOf ls S L R ≡ No (record { length = t; demand = w; supply = s })
 fails-no ls S L R a t w s f =
     let first : First (failing ls S L R) t =
     record { there = f .there; has = fails ls S L R t (omega (arith, f .exceeds, f .demanded, f .supplied)); before = λ x h g. holds ls S L R x (f .before x h g) } in
     rw (f .demanded, f .supplied) (verdict-no ls S L R t (first-fails ls S L R a t first) (f .there))
 
-is-yes : (ls : List Load) (S L R : ℕ) → verdictOf ls S L R ≡ Yes zeros → passing ls S L R ≡ true
+pub is-yes : (ls : List Load) (S L R : ℕ) → verdictOf ls S L R ≡ Yes zeros → passing ls S L R ≡ true
 unfolding passing
 is-yes ls S L R e = ap isYes e
-
-pub verdict-means : VerdictMeans
-verdict-means ls S L R a = (
-  ((λ e. zero-passes ls S L R a (yes-zero ls S L R (is-yes ls S L R e))), (λ passes. verdict-yes ls S L R (passes-zero ls S L R a passes))),
-  λ t w s. (no-fails ls S L R a t w s, fails-no ls S L R a t w s),
-)
-
-pub passing-stays : PassingStays
-passing-stays ls S L R R′ a allowed allowed′ le e =
-    passes-passing ls S L R′ a (never-turns ls S L R R′ allowed allowed′ le (passing-means ls S L R a .0 e))
-
--- a sound load alone is passing on a whole processor
-pub alone-passing : (l : Load) (S L : ℕ) → Sound l → 1 ≤ S → passing (l ∷ []) S L S ≡ true
-alone-passing l S L sound some =
-    passes-passing (l ∷ []) S L S (record { sound = (sound, tt); slot = some }) (alone-passes l S L sound)

@@ -1,4 +1,4 @@
--- What is claimed of the definitions of this crate, each claim under its own name. The proofs are in proofs/.
+-- What is claimed of the definitions of this crate, each claim as a type. They are proved in proofs/Claims.antt.
 use Prim.Native.Nat.{ℕ, _-_, _≤_, _<_}
 use mathlib.Core.Path.{_≡_}
 use mathlib.Core.Logic.{_↔_}

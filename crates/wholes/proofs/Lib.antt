@@ -3,4 +3,5 @@ pub mod MeasureLaws
 pub mod MultipleLaws
 pub mod WithinLaws
 pub mod CeilingLaws
+pub mod Claims
 pub mod Worked

@@ -4,8 +4,7 @@ use Prim.Native.Nat.{ℕ, _+_, _*_, _/_, _%_, _≤_}
 use mathlib.Core.Bool.{Bool, true, false}
 use lib.Dec.{eqb}
 
--- k is the least number with a ≤ k·b. The law `ceiling-least` gives it of `ceilingOf` for b ≥ 1, and `ceiling-unique`
--- says that there is no other.
+-- k is the least number with a ≤ k·b; `ceilingOf` is, for b ≥ 1.
 pub record Ceiling (a b k : ℕ) : Type 0 where
   pub covers : a ≤ k * b
   pub least : (j : ℕ) → a ≤ j * b → k ≤ j

@@ -1,3 +1,4 @@
 pub mod Measure
 pub mod Multiple
 pub mod Ceiling
+pub mod Claims

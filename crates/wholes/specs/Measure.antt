@@ -2,8 +2,7 @@
 -- Document 01, "Places and their forms": by recursion on remainders, the second number falling.
 use Prim.Native.Nat.{ℕ, zero, suc, _%_, _∣_}
 
--- g divides both, and whatever divides both divides g. The law `common-measure` gives it of `commonMeasure`, and
--- `measure-unique` says that there is no other. The common measure of 0 and 0 is 0.
+-- g divides both, and whatever divides both divides g. The common measure of 0 and 0 is 0.
 pub record CommonMeasure (a b g : ℕ) : Type 0 where
   pub of-first : g ∣ a
   pub of-second : g ∣ b

@@ -9,8 +9,7 @@ use Rattle.wholes.specs.Measure.{commonMeasure}
 use Rattle.wholes.specs.declared.Multiple.{Multiple}
 use Rattle.wholes.specs.declared.Multiple.the-variants.{Within, Past}
 
--- m is a multiple of both, and divides every number that is. The law `least-multiple` gives it of `leastMultiple`, and
--- `least-unique` says that there is no other. The least common multiple with 0 is 0.
+-- m is a multiple of both, and divides every number that is. The least common multiple with 0 is 0.
 pub record LeastMultiple (a b m : ℕ) : Type 0 where
   pub of-first : a ∣ m
   pub of-second : b ∣ m
@@ -23,7 +22,7 @@ leastMultiple a b = a / commonMeasure a b * b
 abbrev pub Divide : List ℕ → ℕ → Type 0
 Divide bs m = (i : ℕ) → i < length bs → getD bs i 0 ∣ m
 
--- the same of a first number and a list: laws `least-multiple-of` and `least-of-unique`
+-- the same of a first number and a list
 pub record LeastMultipleOf (a : ℕ) (bs : List ℕ) (m : ℕ) : Type 0 where
   pub of-first : a ∣ m
   pub of-others : Divide bs m

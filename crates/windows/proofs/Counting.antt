@@ -1,7 +1,7 @@
 -- The usable ticks of a window, counted by supply: what supply gains over the window, its ticks counted from a reserve's end.
 -- Assumes nothing.
 use Prim.Native.Nat.{ℕ, zero, suc, _+_, _-_, _%_, _≤_}
-use mathlib.Core.Path.{_≡_, refl, ap, sym, _∙_}
+use mathlib.Core.Path.{_≡_, ap, sym, _∙_}
 use mathlib.Core.Bool.{Bool, cond}
 use native.Mathlib.Nat.{add-zero}
 use native.Mathlib.Omega.{arith}
@@ -9,8 +9,7 @@ use lib.Dec.{leb}
 use Rattle.demand.specs.Supply.{supplyPast}
 use Rattle.demand.proofs.Supply.{supply-step}
 use Rattle.windows.specs.Window.{usableAt, usableIn}
-use Rattle.windows.specs.Claims.{LossLeavesNone}
-use Rattle.windows.proofs.Since.{toEnd, usable-past, usable-never}
+use Rattle.windows.proofs.Since.{toEnd, usable-past}
 
 -- one usable tick counts as one tick more of supply does
 tick-counts : (S L R start a t : ℕ) → 1 ≤ S → R ≤ S →
@@ -33,9 +32,3 @@ window-counts S L R start a zero h g =
 window-counts S L R start a (suc t) h g =
     let e : a + toEnd S R start + suc t ≡ a + toEnd S R start + t + 1 = omega arith in
     ap (supplyPast S (S - R + L)) e ∙ omega (arith, window-counts S L R start a t h g, tick-counts S L R start a t h g)
-
--- with R ≤ L no tick is usable
-pub loss-leaves-none : LossLeavesNone
-unfolding usableIn
-loss-leaves-none S L R start a zero h = refl
-loss-leaves-none S L R start a (suc t) h = omega (arith, loss-leaves-none S L R start a t h, usable-never S L R start (a + t) h)

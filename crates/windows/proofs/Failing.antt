@@ -11,7 +11,7 @@ use Rattle.demand.specs.Load.{Load, Sound, Every}
 use Rattle.demand.specs.Demand.{demand}
 use Rattle.demand.specs.Supply.{supply}
 use Rattle.demand.specs.Passes.{Passes}
-use Rattle.demand.proofs.Horizon.{loads-decide}
+use Rattle.demand.proofs.Claims.{loads-decide}
 
 -- up to n the one is within the other, or a length says no
 up-to : (g s : ℕ → ℕ) (n : ℕ) → ((t : ℕ) → 1 ≤ t → t ≤ n → g t ≤ s t) ⊎ ((t : ℕ) × (s t < g t))

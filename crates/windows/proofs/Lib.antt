@@ -3,3 +3,4 @@ pub mod Counting
 pub mod Worst
 pub mod Failing
 pub mod Covers
+pub mod Claims

@@ -11,32 +11,26 @@ use lib.Dec.{leb, ltb}
 use Rattle.laws.proofs.Tests.{and-parts, and-both, same-test, never-true}
 use Rattle.laws.proofs.Orders.{le-or-lt}
 use Rattle.windows.specs.Window.{since, usableAt}
-use Rattle.windows.specs.Claims.{SinceIsRight, UsableMeans}
 
-since-below : (S start x : ℕ) → 1 ≤ S → since S start x < S
+pub since-below : (S start x : ℕ) → 1 ≤ S → since S start x < S
 unfolding since
 since-below S start x h = mod-lt _ h
 
 -- start and the ticks since it come to x and whole slots
-since-reaches : (S start x : ℕ) → 1 ≤ S → (since S start x + start) % S ≡ x % S
+pub since-reaches : (S start x : ℕ) → 1 ≤ S → (since S start x + start) % S ≡ x % S
 unfolding since
 since-reaches S start x h =
     mod-add-mod _ S start ∙ ap (λ (n : ℕ). n % S) (omega (arith, mod-lt start h, div-add-mod' start S)) ∙
     add-mul-mod-self-right x (start / S + 1) S
 
-pub since-is-right : SinceIsRight
-since-is-right = record { below = since-below; reaches = since-reaches }
-
-usable-told : (S L R start x : ℕ) → usableAt S L R start x ≡ true → (L ≤ since S start x) × (since S start x < R)
+-- a usable tick, by its two bounds
+pub usable-told : (S L R start x : ℕ) → usableAt S L R start x ≡ true → (L ≤ since S start x) × (since S start x < R)
 unfolding usableAt
 usable-told S L R start x e = let b = and-parts (leb L (since S start x)) (ltb (since S start x) R) e in omega (arith, leb-true)
 
-usable-made : (S L R start x : ℕ) → L ≤ since S start x → since S start x < R → usableAt S L R start x ≡ true
+pub usable-made : (S L R start x : ℕ) → L ≤ since S start x → since S start x < R → usableAt S L R start x ≡ true
 unfolding usableAt
 usable-made S L R start x p q = and-both (le-leb L (since S start x) p) (lt-ltb (since S start x) R q)
-
-pub usable-means : UsableMeans
-usable-means S L R start x = (usable-told S L R start x, λ w. usable-made S L R start x (w .0) (w .1))
 
 -- the ticks to add to a tick, to count from a reserve's end
 abbrev pub toEnd : (S R start : ℕ) → ℕ

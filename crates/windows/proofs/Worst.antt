@@ -1,23 +1,23 @@
 -- Supply is the worst window's count: no window has less, and a window that opens at a reserve's end has just that.
--- With no loss a slot's window has the whole reserve. Assumes nothing.
+-- Assumes nothing.
 use Prim.Native.Nat.{ℕ, _+_, _*_, _-_, _%_, _≤_, _<_}
 use mathlib.Core.Path.{_≡_, ap, _∙_}
 use native.Mathlib.Nat.{mod-lt}
 use native.Mathlib.Omega.{arith}
 use Rattle.demand.specs.Supply.{supplyPast}
-use Rattle.demand.proofs.Supply.{supply-more, supply-turn, supply-whole, supply-within}
+use Rattle.demand.proofs.Supply.{supply-more, supply-turn, supply-within}
 use Rattle.windows.specs.Window.{usableIn}
-use Rattle.windows.specs.Claims.{InAnySlot, EveryTick, SupplyIsWorst}
 use Rattle.windows.proofs.Since.{toEnd}
 use Rattle.windows.proofs.Counting.{window-counts}
 
-least : (S L R start a t : ℕ) → 1 ≤ S → R < S → supplyPast S (S - R + L) t ≤ usableIn S L R start a t
+-- no window has less
+pub least : (S L R start a t : ℕ) → 1 ≤ S → R < S → supplyPast S (S - R + L) t ≤ usableIn S L R start a t
 least S L R start a t h g =
     let A = a + toEnd S R start in
     omega (arith, window-counts S L R start a t h (omega arith), supply-more S (S - R + L) A t h)
 
 -- a tick from the second slot on at which a reserve has just ended
-abbrev opens : (S R start : ℕ) → ℕ
+abbrev pub opens : (S R start : ℕ) → ℕ
 opens S R start = S + start % S + R
 
 -- from there the ticks since a reserve's end are counted by whole slots
@@ -31,28 +31,9 @@ slots-then S f k t h =
     let none : supplyPast S f 0 ≡ 0 = omega (arith, supply-within S f 0) in
     ap (supplyPast S f) e ∙ omega (arith, supply-turn S f t k h, supply-turn S f 0 k h)
 
-met-there : (S L R start t : ℕ) → 1 ≤ S → R ≤ S → usableIn S L R start (opens S R start) t ≡ supplyPast S (S - R + L) t
+-- a window that opens there has just that
+pub met-there : (S L R start t : ℕ) → 1 ≤ S → R ≤ S → usableIn S L R start (opens S R start) t ≡ supplyPast S (S - R + L) t
 met-there S L R start t h g =
     let counts = window-counts S L R start (opens S R start) t h g in
     let counted = rw (opens-turned S R start h g) at counts in
     omega (arith, slots-then S (S - R + L) 3 t h)
-
-pub supply-is-worst : SupplyIsWorst
-supply-is-worst =
-    record {
-      least = least;
-      met = λ S L R start t h g. (opens S R start, omega arith, met-there S L R start t h (omega arith));
-    }
-
-pub in-any-slot : InAnySlot
-in-any-slot S R start a h g =
-    let A = a + toEnd S R start in
-    let e : A + 1 * S ≡ A + S = omega arith in
-    omega (arith, window-counts S 0 R start a S h g, supply-turn S (S - R + 0) A 1 h, ap (supplyPast S (S - R + 0)) e)
-
-pub every-tick : EveryTick
-every-tick S start a t h =
-    let A = a + toEnd S S start in
-    let none : S - S + 0 ≡ 0 = omega arith in
-    let counts = rw none at (window-counts S 0 S start a t h (omega arith)) in
-    omega (arith, supply-whole S (A + t), supply-whole S A)

@@ -1,5 +1,5 @@
 -- What is claimed of windows: the finite test and the printed rota say the same.
--- The note's demand 3, for any reserve that stands once a slot. Since, Counting, Worst and Covers of proofs/ prove them.
+-- The note's demand 3, for any reserve that stands once a slot. They are proved in proofs/Claims.antt.
 use Prim.Native.Nat.{ℕ, _+_, _-_, _%_, _≤_, _<_}
 use mathlib.Core.Path.{_≡_}
 use mathlib.Core.Logic.{_↔_}
