@@ -2,18 +2,21 @@
 -- Assumes nothing.
 use Prim.Native.Nat.{ℕ, zero, suc, _+_, _-_, _*_, _/_, _%_, _^_, _≤_, _<_}
 use mathlib.Core.Path.{_≡_, refl, sym, _∙_, ap, ap₂, subst}
-use mathlib.Core.Bool.{true, false}
+use mathlib.Core.Bool.{true, false, not}
 use mathlib.Core.List.{List, [], _∷_, _++_}
-use native.Mathlib.Nat.{add-zero, sub-zero, pow-suc, pow-succ', mod-lt, div-add-mod', div-lt-iff-lt-mul, div-div-eq-div-mul, div-one, add-mul, mul-assoc, pow-le-pow-right}
+use mathlib.Core.Logic.{⊎-elim}
+use native.Mathlib.Nat.{add-zero, sub-zero, pow-suc, pow-succ', mod-lt, div-add-mod', div-lt-iff-lt-mul, div-div-eq-div-mul, div-one, add-mul, mul-assoc, pow-le-pow-right, one-le-pow}
 use native.Mathlib.Numerals.{add-one}
 use native.Mathlib.Omega.{arith}
 use lib.Arith.{digits-lt, digits-div, digits-mod}
-use lib.Dec.{lit<}
+use lib.Dec.{eqb, lit<}
 use lib.ListN.{length, take, drop, getD, set, length-append}
 use lib.Seq.{drop-cons}
+use borrow.Author.Tests.{le-leb, lt-leb, eq-eqb, ne-eqb}
+use Rattle.laws.proofs.Orders.{le-or-lt}
 use Rattle.digits.specs.Digit.{legal, valueOf, digitOf, allLegal}
 use Rattle.digits.specs.Stored.{stored}
-use Rattle.digits.specs.Number.{numberFrom, number, hex}
+use Rattle.digits.specs.Number.{numberFrom, number, hex, tooLarge}
 use Rattle.digits.proofs.Digits.{value-digit, digit-value, digit-legal, value-below, legal-head, legal-tail, legal-append, legal-cons, illegal-cons}
 use Rattle.digits.proofs.Stored.{stored-set}
 
@@ -168,3 +171,14 @@ unfolding hex
 digit-stored b at w v p =
     ap (λ (n : ℕ). stored (set b (at + n) (digitOf (v % 16))) at (hex w (v / 16))) (sym (hex-length w (v / 16)))
     ∙ stored-set b at (hex w (v / 16)) (digitOf (v % 16)) (subst (λ (n : ℕ). at + n < length b) (sym (hex-length w (v / 16))) p)
+
+-- a number that has something left after a width's digits is too large for it
+pub digits-left : (w v : ℕ) → not (eqb (v / 16 ^ w) 0) ≡ tooLarge w v
+digits-left w v =
+    ⊎-elim
+    (λ (p : 16 ^ w ≤ v). ap not (ne-eqb (v / 16 ^ w) 0 (λ (e : v / 16 ^ w ≡ 0). omega (arith, div-lt-iff-lt-mul {k = 16 ^ w} {x = v} {y = 1} above .0 (omega (arith, e))))) ∙ sym (le-leb (16 ^ w) v p))
+    (λ (p : v < 16 ^ w). ap not (eq-eqb (v / 16 ^ w) 0 (omega (arith, div-lt-iff-lt-mul {k = 16 ^ w} {x = v} {y = 1} above .1 (omega (arith, p))))) ∙ sym (lt-leb (16 ^ w) v p))
+    (le-or-lt (16 ^ w) v)
+  where
+    above : 0 < 16 ^ w
+    above = one-le-pow w 16 (lit< tt)

@@ -5,7 +5,7 @@ ghost use mathlib.Core.Bool.{true};
 ghost use Prim.Native.Nat.{_+_, _<_, _≤_};
 ghost use lib.ListN.{length, take, drop};
 ghost use Rattle.digits.specs.Digit.{legal, valueOf, digitOf, allLegal};
-ghost use Rattle.digits.specs.Number.{number, hex};
+ghost use Rattle.digits.specs.Number.{number, hex, tooLarge};
 ghost use Rattle.digits.specs.Stored.{stored};
 
 pub fn is_legal(b: u8) -> bool
@@ -84,4 +84,17 @@ pub fn put_number(out: &mut [u8], at: usize, width: usize, value: u64)
         out[j] = digit(rest % 16);
         rest = rest / 16;
     }
+}
+
+// Whether a number has more digits than a width.
+pub fn too_large(width: usize, value: u64) -> bool
+    ensures { λ r. ⌜ r ≡ tooLarge width value ⌝ }
+{
+    let mut rest = value;
+    let mut i = 0;
+    while i < width {
+        rest = rest / 16;
+        i += 1;
+    }
+    rest != 0
 }

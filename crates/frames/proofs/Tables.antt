@@ -1,7 +1,7 @@
 -- Laws of the table of frames: the line lengths, and what the filled rows have at each field.
 -- Assumes nothing.
 use Prim.Native.Nat.{ℕ, zero, suc, _+_, _-_, _^_, _≤_, _<_}
-use mathlib.Core.Path.{_≡_, refl, sym, _∙_, ap}
+use mathlib.Core.Path.{_≡_, refl, sym, _∙_, ap, ap₂}
 use mathlib.Core.Bool.{Bool, true, cond, _&&_}
 use mathlib.Core.List.{List, [], _∷_, _++_, map}
 use native.Mathlib.Numerals.{add-one}
@@ -159,3 +159,6 @@ field-next frame field =
 pub mark-hex : hex 8 (16 ^ 8 - 1) ≡ markOf
 unfolding hex digitOf markOf
 mark-hex = refl
+
+pub mark-value : (width value : ℕ) → width ≡ 8 → value ≡ 16 ^ 8 - 1 → markOf ≡ hex width value
+mark-value width value p q = sym (ap₂ hex p q ∙ mark-hex)

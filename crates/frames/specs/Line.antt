@@ -1,15 +1,15 @@
 -- A line: when the text from a line's start holds a frame's line, its fields, and the text of a frame's line.
 -- Document 01, "Lines of hexadecimal" and row 1 of the refusals.
-use Prim.Native.Nat.{ℕ, _+_}
+use Prim.Native.Nat.{ℕ, zero, suc, _+_}
 use mathlib.Core.List.{List, [], _∷_, _++_}
 use mathlib.Core.Bool.{Bool, true, false, cond, _&&_, _||_}
 use lib.ListN.{length, take, drop}
 use lib.Dec.{eqb}
 use Rattle.frames.specs.declared.table.Frame.{Frame}
 use Rattle.digits.specs.Digit.{allLegal}
-use Rattle.digits.specs.Number.{number, hex}
+use Rattle.digits.specs.Number.{number, hex, tooLarge}
 use Rattle.frames.specs.declared.line.Found.{Found}
-use Rattle.frames.specs.Table.{kindOf, widthsOf, widthOf, fieldStart, lengthOf, allFrames}
+use Rattle.frames.specs.Table.{allFrames, kindOf, widthsOf, fieldsIn, widthOf, fieldStart, lengthOf}
 
 -- the byte LF
 abbrev pub LF : ℕ
@@ -77,3 +77,23 @@ fields (w ∷ ws) (v ∷ vs) = hex w v ++ fields ws vs
 -- the line of a frame with these values, closed by its LF
 unfoldable pub lineOf : Frame → List ℕ → List ℕ
 lineOf frame values = kindOf frame ++ (fields (widthsOf frame) values ++ (LF ∷ []))
+
+-- n lines of a frame, one behind the other, as their values stand
+unfoldable pub linesOf : Frame → (values : List ℕ) (n : ℕ) → List ℕ
+linesOf frame values zero = []
+linesOf frame values (suc n) = lineOf frame values ++ linesOf frame (drop (fieldsIn frame) values) n
+
+-- what a function gives for 1 to n, one behind the other
+unfoldable pub joined : (ℕ → List ℕ) → ℕ → List ℕ
+joined f zero = []
+joined f (suc n) = joined f n ++ f (suc n)
+
+-- whether one of these values is too large for its width
+unfoldable pub someTooLarge : (widths values : List ℕ) → Bool
+someTooLarge [] vs = false
+someTooLarge (w ∷ ws) [] = false
+someTooLarge (w ∷ ws) (v ∷ vs) = tooLarge w v || someTooLarge ws vs
+
+-- whether a line's values hold one that is too large for its field
+unfoldable pub lineOverflows : Frame → (values : List ℕ) → Bool
+lineOverflows frame values = someTooLarge (widthsOf frame) values

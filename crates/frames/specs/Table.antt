@@ -71,7 +71,7 @@ lengthOf frame = 2 + sum (widthsOf frame)
 -- the code's row of a frame: its kind, and its widths filled up to the most by fields of no digits
 unfoldable pub rowOf : Frame → Row
 rowOf frame =
-    record { kind = kindOf frame; widths = take mostFields (widthsOf frame ++ replicate mostFields 0) }
+    record { kind = kindOf frame; fields = fieldsIn frame; widths = take mostFields (widthsOf frame ++ replicate mostFields 0) }
 
 -- the mark FFFFFFFF, the ring start of a server on a whole processor
 unfoldable pub markOf : List ℕ

@@ -1,24 +1,20 @@
-// Lines of a frame, read from and written to a place in a text.
+// Lines of a frame, read from a place in a text.
 // A line is its kind, its fields at the table's widths, and one LF.
 use crate::table::FRAMES;
 use crate::table::Frame;
 use crate::table::KINDS;
-use crate::table::MOST_FIELDS;
-use crate::table::WHOLE;
 use crate::table::field_start;
 use crate::table::length;
 use crate::table::row_of;
 use crate::table::width;
 use digits::all_legal;
 use digits::number_at;
-use digits::put_number;
 ghost use mathlib.Core.Path.{_≡_};
 ghost use mathlib.Core.Bool.{true};
-ghost use Prim.Native.Nat.{_+_, _<_, _≤_};
+ghost use Prim.Native.Nat.{_<_, _≤_};
 ghost use lib.ListN.{length as count, take, drop};
-ghost use Rattle.frames.specs.Table.{lengthOf, widthsOf, sum, markOf, kindOf, mostFields};
-ghost use Rattle.frames.specs.Line.{formed, fieldOf, fields, lineOf, same, kindAt};
-ghost use Rattle.digits.specs.Stored.{stored};
+ghost use Rattle.frames.specs.Table.{kindOf, mostFields};
+ghost use Rattle.frames.specs.Line.{formed, fieldOf, same, kindAt};
 
 // Whether the text at `at` starts with the frame's kind.
 fn is_kind(text: &[u8], at: usize, frame: Frame) -> bool
@@ -84,54 +80,4 @@ pub fn field(text: &[u8], at: usize, frame: Frame, field: usize) -> u64
 {
     let start = at + field_start(frame, field);
     number_at(text, start, width(frame, field))
-}
-
-// Copies a byte string into the buffer.
-pub fn put_bytes(out: &mut [u8], at: usize, bytes: &[u8])
-    requires { ⌜ at + count (now bytes) ≤ count (now out) ⌝ }
-    ensures { λ r. ⌜ now (out .exit) ≡ stored (now (out .entry)) at (now (bytes .entry)) ⌝ }
-{
-    let mut i = 0;
-    while i < bytes.len() {
-        let j = at + i;
-        out[j] = bytes[i];
-        i += 1;
-    }
-}
-
-// Writes the mark of a whole processor.
-pub fn put_mark(out: &mut [u8], at: usize)
-    requires { ⌜ at + 8 ≤ count (now out) ⌝ }
-    ensures { λ r. ⌜ now (out .exit) ≡ stored (now (out .entry)) at markOf ⌝ }
-{
-    let mark = WHOLE;
-    put_bytes(out, at, &mark);
-}
-
-// Writes the fields of a line, one after the other.
-fn put_fields(out: &mut [u8], at: usize, frame: Frame, values: [u64; MOST_FIELDS])
-    requires { ⌜ at + sum (widthsOf frame) ≤ count (now out) ⌝ }
-    ensures { λ r. ⌜ now (out .exit) ≡ stored (now (out .entry)) at (fields (widthsOf frame) values) ⌝ }
-{
-    let mut start = at;
-    let mut i = 0;
-    while i < MOST_FIELDS {
-        let digits = width(frame, i);
-        put_number(out, start, digits, values[i]);
-        start += digits;
-        i += 1;
-    }
-}
-
-// Writes a line with its LF.
-pub fn put_line(out: &mut [u8], at: usize, frame: Frame, values: [u64; MOST_FIELDS])
-    requires { ⌜ at + lengthOf frame + 1 ≤ count (now out) ⌝ }
-    ensures { λ r. ⌜ now (out .exit) ≡ stored (now (out .entry)) at (lineOf frame values) ⌝ }
-{
-    let row = row_of(frame);
-    let kind = row.kind;
-    put_bytes(out, at, &kind);
-    put_fields(out, at + 2, frame, values);
-    let end = at + length(frame);
-    put_bytes(out, end, b"\n");
 }

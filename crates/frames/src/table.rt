@@ -2,7 +2,7 @@
 // A frame with fewer than the most fields is filled up with fields of no digits.
 ghost use mathlib.Core.Path.{_≡_};
 ghost use Prim.Native.Nat.{_<_, _≤_};
-ghost use Rattle.frames.specs.Table.{rowOf, widthOf, fieldStart, lengthOf, indexOf, mostFields};
+ghost use Rattle.frames.specs.Table.{rowOf, widthOf, fieldsIn, fieldStart, lengthOf, indexOf, mostFields};
 
 pub enum Frame {
     Header,
@@ -21,6 +21,7 @@ pub const MOST_FIELDS: usize = 7;
 
 pub struct Row {
     pub kind: [u8; 2],
+    pub fields: usize,
     pub widths: [u8; MOST_FIELDS],
 }
 
@@ -38,36 +39,45 @@ pub const FRAMES: [Frame; KINDS] = [
 pub const TABLE: [Row; KINDS] = [
     Row {
         kind: *b"01",
+        fields: 7,
         widths: [2, 6, 4, 4, 4, 4, 4],
     },
     Row {
         kind: *b"02",
+        fields: 4,
         widths: [2, 6, 6, 6, 0, 0, 0],
     },
     Row {
         kind: *b"11",
+        fields: 5,
         widths: [2, 2, 2, 6, 8, 0, 0],
     },
     Row {
         kind: *b"12",
+        fields: 4,
         widths: [2, 6, 8, 2, 0, 0, 0],
     },
     Row {
         kind: *b"13",
+        fields: 2,
         widths: [2, 2, 0, 0, 0, 0, 0],
     },
     Row {
         kind: *b"14",
+        fields: 3,
         widths: [2, 2, 6, 0, 0, 0, 0],
     },
     Row {
         kind: *b"1F",
+        fields: 2,
         widths: [2, 2, 0, 0, 0, 0, 0],
     },
 ];
 
-// The ring start of a server on a whole processor.
+// The ring start of a server on a whole processor, and the number that it stands for.
 pub const WHOLE: [u8; 8] = *b"FFFFFFFF";
+
+pub const MARK: u64 = 0xFFFF_FFFF;
 
 // The index of a frame in the table.
 fn index(frame: Frame) -> usize
@@ -89,6 +99,14 @@ pub fn row_of(frame: Frame) -> Row
 {
     let i = index(frame);
     TABLE[i]
+}
+
+// The number of a frame's fields.
+pub fn fields_in(frame: Frame) -> usize
+    ensures { λ r. ⌜ r ≡ fieldsIn frame ⌝ }
+{
+    let row = row_of(frame);
+    row.fields
 }
 
 // The width of a field in digits.

@@ -66,19 +66,19 @@ unfolding refusalText
 refusal-bytes r = line-length Frame.Refused _ ∙ refused-size
 
 -- the fields that a line lacks write nothing
-pub plan-filled : (plan : Plan) → lineOf Frame.Plan (plan .whole ∷ plan .ring ∷ plan .servers ∷ plan .slot ∷ plan .idle ∷ 0 ∷ 0 ∷ []) ≡ planLine plan
+pub plan-filled : (plan : Plan) → lineOf Frame.Plan (plan .whole ∷ plan .ring ∷ plan .servers ∷ plan .slot ∷ plan .idle ∷ []) ≡ planLine plan
 unfolding planLine lineOf fields widthsOf
 plan-filled plan = refl
 
-pub placed-filled : (set : TaskSet) (plan : Plan) (i : ℕ) → lineOf Frame.Placed (getD (set .tasks) i zeroTask .id ∷ getD (plan .server) i 0 ∷ 0 ∷ 0 ∷ 0 ∷ 0 ∷ 0 ∷ []) ≡ placedLine set plan (i + 1)
+pub placed-filled : (set : TaskSet) (plan : Plan) (i : ℕ) → lineOf Frame.Placed (getD (set .tasks) i zeroTask .id ∷ getD (plan .server) i 0 ∷ []) ≡ placedLine set plan (i + 1)
 unfolding placedLine lineOf fields widthsOf
 placed-filled set plan i = ap (λ (k : ℕ). lineOf Frame.Placed (getD (set .tasks) k zeroTask .id ∷ getD (plan .server) k 0 ∷ [])) (sym (add-sub-cancel i 1))
 
-pub processor-filled : (plan : Plan) (i : ℕ) → lineOf Frame.Processor ((i + 1) ∷ getD (plan .first) i 0 ∷ getD (plan .duration) i 0 ∷ 0 ∷ 0 ∷ 0 ∷ 0 ∷ []) ≡ processorLine plan (i + 1)
+pub processor-filled : (plan : Plan) (i : ℕ) → lineOf Frame.Processor ((i + 1) ∷ getD (plan .first) i 0 ∷ getD (plan .duration) i 0 ∷ []) ≡ processorLine plan (i + 1)
 unfolding processorLine lineOf fields widthsOf
 processor-filled plan i = ap (λ (k : ℕ). lineOf Frame.Processor ((i + 1) ∷ getD (plan .first) k 0 ∷ getD (plan .duration) k 0 ∷ [])) (sym (add-sub-cancel i 1))
 
-pub refusal-filled : (r : Refusal) (n k : ℕ) → n ≡ numberOf r → k ≡ refusedAt r → lineOf Frame.Refused (n ∷ k ∷ 0 ∷ 0 ∷ 0 ∷ 0 ∷ 0 ∷ []) ≡ refusalText r
+pub refusal-filled : (r : Refusal) (n k : ℕ) → n ≡ numberOf r → k ≡ refusedAt r → lineOf Frame.Refused (n ∷ k ∷ []) ≡ refusalText r
 unfolding refusalText lineOf fields widthsOf
 refusal-filled r n k p q = rw (p, q)
 
@@ -93,7 +93,7 @@ over p y z m e =
 before-start : (q R : ℕ) → List ℕ
 before-start q R = kindOf Frame.Server ++ (hex 2 q ++ hex 6 R)
 
-server-cut : (q R x n : ℕ) → lineOf Frame.Server (q ∷ R ∷ x ∷ n ∷ 0 ∷ 0 ∷ 0 ∷ []) ≡ before-start q R ++ (hex 8 x ++ (hex 2 n ++ (LF ∷ [])))
+server-cut : (q R x n : ℕ) → lineOf Frame.Server (q ∷ R ∷ x ∷ n ∷ []) ≡ before-start q R ++ (hex 8 x ++ (hex 2 n ++ (LF ∷ [])))
 unfolding lineOf fields widthsOf before-start
 server-cut q R x n = simp append-assoc
 
@@ -102,7 +102,7 @@ unfolding before-start kindOf
 server-place q R = simp (length-append, hex-length)
 
 -- the mark put over the ring start is that of the greatest number of eight digits
-server-marked : (q R x n : ℕ) → stored (lineOf Frame.Server (q ∷ R ∷ x ∷ n ∷ 0 ∷ 0 ∷ 0 ∷ [])) 10 markOf ≡ lineOf Frame.Server (q ∷ R ∷ (16 ^ 8 - 1) ∷ n ∷ 0 ∷ 0 ∷ 0 ∷ [])
+server-marked : (q R x n : ℕ) → stored (lineOf Frame.Server (q ∷ R ∷ x ∷ n ∷ [])) 10 markOf ≡ lineOf Frame.Server (q ∷ R ∷ (16 ^ 8 - 1) ∷ n ∷ [])
 server-marked q R x n =
     ap (λ (l : List ℕ). stored l 10 markOf) (server-cut q R x n)
     ∙ ap (λ (k : ℕ). stored (before-start q R ++ (hex 8 x ++ (hex 2 n ++ (LF ∷ [])))) k markOf) (sym (server-place q R))
@@ -116,25 +116,25 @@ start-place = refl
 
 -- a server of the ring has its ring start in its line
 pub server-ring : (plan : Plan) (i : ℕ) → getD (plan .reserve) i 0 < plan .slot
-    → lineOf Frame.Server ((i + 1) ∷ getD (plan .reserve) i 0 ∷ getD (plan .start) i 0 ∷ getD (plan .tasks) i 0 ∷ 0 ∷ 0 ∷ 0 ∷ []) ≡ serverLine plan (i + 1)
+    → lineOf Frame.Server ((i + 1) ∷ getD (plan .reserve) i 0 ∷ getD (plan .start) i 0 ∷ getD (plan .tasks) i 0 ∷ []) ≡ serverLine plan (i + 1)
 unfolding serverLine lineOf fields widthsOf
 server-ring plan i h = rw (add-sub-cancel i 1, lt-ltb (getD (plan .reserve) i 0) (plan .slot) h)
 
 -- a server on a whole processor has the mark there
 server-whole : (plan : Plan) (i : ℕ) → plan .slot ≤ getD (plan .reserve) i 0
-    → lineOf Frame.Server ((i + 1) ∷ getD (plan .reserve) i 0 ∷ (16 ^ 8 - 1) ∷ getD (plan .tasks) i 0 ∷ 0 ∷ 0 ∷ 0 ∷ []) ≡ serverLine plan (i + 1)
+    → lineOf Frame.Server ((i + 1) ∷ getD (plan .reserve) i 0 ∷ (16 ^ 8 - 1) ∷ getD (plan .tasks) i 0 ∷ []) ≡ serverLine plan (i + 1)
 unfolding serverLine lineOf fields widthsOf
 server-whole plan i h = rw (add-sub-cancel i 1, le-ltb (getD (plan .reserve) i 0) (plan .slot) h)
 
 pub server-over : (b : List ℕ) (at : ℕ) (plan : Plan) (i field : ℕ) → plan .slot ≤ getD (plan .reserve) i 0 → field ≡ 10 → at + 21 ≤ length b
-    → stored (stored b at (lineOf Frame.Server ((i + 1) ∷ getD (plan .reserve) i 0 ∷ getD (plan .start) i 0 ∷ getD (plan .tasks) i 0 ∷ 0 ∷ 0 ∷ 0 ∷ []))) (at + field) markOf ≡ stored b at (serverLine plan (i + 1))
+    → stored (stored b at (lineOf Frame.Server ((i + 1) ∷ getD (plan .reserve) i 0 ∷ getD (plan .start) i 0 ∷ getD (plan .tasks) i 0 ∷ []))) (at + field) markOf ≡ stored b at (serverLine plan (i + 1))
 server-over b at plan i field h e fits =
     ap (λ (k : ℕ). stored (stored b at line) (at + k) markOf) e
     ∙ stored-inside b at line 10 markOf (omega (arith, size, mark-size)) (omega (arith, size))
     ∙ ap (stored b at) (server-marked (i + 1) (getD (plan .reserve) i 0) (getD (plan .start) i 0) (getD (plan .tasks) i 0) ∙ server-whole plan i h)
   where
     line : List ℕ
-    line = lineOf Frame.Server ((i + 1) ∷ getD (plan .reserve) i 0 ∷ getD (plan .start) i 0 ∷ getD (plan .tasks) i 0 ∷ 0 ∷ 0 ∷ 0 ∷ [])
+    line = lineOf Frame.Server ((i + 1) ∷ getD (plan .reserve) i 0 ∷ getD (plan .start) i 0 ∷ getD (plan .tasks) i 0 ∷ [])
 
     size : length line ≡ 21
     size = line-length Frame.Server _ ∙ server-size

@@ -1,9 +1,9 @@
 // One line of a plan, and the line of a refusal, put at a place of a buffer by the table of frames.
 // What each line holds stands in specs/Text.antt.
-use frames::line::put_line;
-use frames::line::put_mark;
 use frames::table::Frame;
 use frames::table::field_start;
+use frames::write::put_line;
+use frames::write::put_mark;
 use plan::plan::Plan;
 use refusals::Refusal;
 use tasks::set::TaskSet;
@@ -19,16 +19,8 @@ pub fn put_plan(out: &mut [u8], at: usize, plan: Plan)
     requires { ⌜ at + lengthOf Frame.Plan + 1 ≤ bytes (now out) ⌝ }
     ensures { λ r. ⌜ now (out .exit) ≡ stored (now (out .entry)) at (planLine plan) ⌝ }
 {
-    let values = [
-        plan.whole,
-        plan.ring,
-        plan.servers,
-        plan.slot,
-        plan.idle,
-        0,
-        0,
-    ];
-    put_line(out, at, Frame::Plan, values);
+    let values = [plan.whole, plan.ring, plan.servers, plan.slot, plan.idle];
+    put_line(out, at, Frame::Plan, &values);
 }
 
 // The 12 line of the server at place `i`, counted from 0. On a whole processor the mark stands over its ring start.
@@ -39,8 +31,8 @@ pub fn put_server(out: &mut [u8], at: usize, plan: Plan, i: usize)
     let reserve = plan.reserve[i];
     let start = plan.start[i];
     let tasks = plan.tasks[i];
-    let values = [i as u64 + 1, reserve, start, tasks, 0, 0, 0];
-    put_line(out, at, Frame::Server, values);
+    let values = [i as u64 + 1, reserve, start, tasks];
+    put_line(out, at, Frame::Server, &values);
     if reserve < plan.slot {
         return;
     }
@@ -55,8 +47,8 @@ pub fn put_placed(out: &mut [u8], at: usize, set: TaskSet, plan: Plan, i: usize)
 {
     let task = set.tasks[i];
     let server = plan.server[i];
-    let values = [task.id as u64, server, 0, 0, 0, 0, 0];
-    put_line(out, at, Frame::Placed, values);
+    let values = [task.id as u64, server];
+    put_line(out, at, Frame::Placed, &values);
 }
 
 // The 14 line of the processor at place `i`, counted from 0.
@@ -66,8 +58,8 @@ pub fn put_processor(out: &mut [u8], at: usize, plan: Plan, i: usize)
 {
     let first = plan.first[i];
     let duration = plan.duration[i];
-    let values = [i as u64 + 1, first, duration, 0, 0, 0, 0];
-    put_line(out, at, Frame::Processor, values);
+    let values = [i as u64 + 1, first, duration];
+    put_line(out, at, Frame::Processor, &values);
 }
 
 // The 1F line.
@@ -77,6 +69,6 @@ pub fn put_refusal(out: &mut [u8], refusal: Refusal)
 {
     let number = refusals::number(refusal);
     let place = refusals::place(refusal);
-    let values = [number, place, 0, 0, 0, 0, 0];
-    put_line(out, 0, Frame::Refused, values);
+    let values = [number, place];
+    put_line(out, 0, Frame::Refused, &values);
 }

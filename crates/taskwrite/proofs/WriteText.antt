@@ -8,7 +8,7 @@ use native.Mathlib.Omega.{arith}
 use lib.ListN.{length, take, getD, length-append}
 use lib.Seq.{take-suc, length-take-le}
 use Rattle.frames.specs.Table.{widthsOf, sum, lengthOf}
-use Rattle.frames.specs.Line.{lineOf, fields}
+use Rattle.frames.specs.Line.{lineOf}
 use Rattle.digits.specs.Stored.{stored}
 use Rattle.frames.specs.declared.table.Frame.{Frame}
 use Rattle.frames.proofs.Lines.{line-length}
@@ -35,11 +35,6 @@ header-size = ap (λ (n : ℕ). n + 1) header-length
 
 pub task-size : lengthOf Frame.Task + 1 ≡ 23
 task-size = ap (λ (n : ℕ). n + 1) task-length
-
--- the fields that a task's line lacks write nothing
-pub task-line : (id cost deadline period : ℕ) → lineOf Frame.Task (id ∷ cost ∷ deadline ∷ period ∷ 0 ∷ 0 ∷ 0 ∷ []) ≡ lineOf Frame.Task (id ∷ cost ∷ deadline ∷ period ∷ [])
-unfolding lineOf fields widthsOf
-task-line id cost deadline period = refl
 
 pub lines-nil : taskLines [] ≡ []
 unfolding taskLines

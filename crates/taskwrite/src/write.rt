@@ -1,8 +1,8 @@
 // Writing a task set as a file: one 01 line, then the 02 lines in file order, at the start of a lent buffer.
 // Row 11 comes before row 12, and a refused write stores nothing.
-use frames::line::put_line;
 use frames::table::Frame;
 use frames::table::length;
+use frames::write::put_line;
 use refusals::Refusal;
 use refusals::Written;
 use tasks::ask::asks;
@@ -59,7 +59,7 @@ fn put_header(out: &mut [u8], at: usize, header: Header)
         header.resd as u64,
         header.cpmdo as u64,
     ];
-    put_line(out, at, Frame::Header, values);
+    put_line(out, at, Frame::Header, &values);
 }
 
 fn put_task(out: &mut [u8], at: usize, task: Task)
@@ -71,11 +71,8 @@ fn put_task(out: &mut [u8], at: usize, task: Task)
         task.cost as u64,
         task.deadline as u64,
         task.period as u64,
-        0,
-        0,
-        0,
     ];
-    put_line(out, at, Frame::Task, values);
+    put_line(out, at, Frame::Task, &values);
 }
 
 // Writes the text of a set into a buffer that has the room.

@@ -1,6 +1,7 @@
--- The line of a task's id and server; the fields that it lacks write nothing.
+-- The line of a task's id and server.
 -- Assumes nothing.
 use mathlib.Core.Path.{_∙_, ap}
+use Rattle.frames.specs.Table.{widthsOf}
 use Rattle.digits.specs.Stored.{stored}
 use Rattle.plantext.proofs.LineLaws.{placed-filled}
 use borrow.Author.Needs.{needs}
@@ -22,7 +23,11 @@ element-copy-out-server c = search needs
 cast-t17 : tie.Need-cast-t17
 cast-t17 c = search needs
 
+slice-aggregate-put-line : tie.Need-slice-aggregate-put-line
+slice-aggregate-put-line c = search needs
+
 put-line-requires : tie.Need-put-line-requires
+unfolding widthsOf
 put-line-requires c κs = search needs
 
 same-length : tie.Need-same-length
@@ -42,6 +47,7 @@ put-placed-spec =
     mul-server
     element-copy-out-server
     cast-t17
+    slice-aggregate-put-line
     put-line-requires
     same-length
     returns)

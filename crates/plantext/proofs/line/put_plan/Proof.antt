@@ -1,13 +1,18 @@
--- The line of the plan's five figures; the fields that it lacks write nothing.
+-- The line of the plan's five figures.
 -- Assumes nothing.
 use mathlib.Core.Path.{_∙_, ap}
 use borrow.Author.Needs.{needs}
+use Rattle.frames.specs.Table.{widthsOf}
 use Rattle.digits.specs.Stored.{stored}
 use Rattle.plantext.proofs.LineLaws.{plan-filled}
 use Rattle.plantext.proofs.line.put_plan.Statement.{statement}
 use Rattle.plantext.proofs.line.put_plan.Tie as tie
 
+slice-aggregate-put-line : tie.Need-slice-aggregate-put-line
+slice-aggregate-put-line c = search needs
+
 put-line-requires : tie.Need-put-line-requires
+unfolding widthsOf
 put-line-requires c κs = search needs
 
 same-length : tie.Need-same-length
@@ -19,4 +24,4 @@ returns c =
     c .before .before .put-line .ensures ∙ ap (stored (a .out .now) (a .at)) (plan-filled (a .plan))
 
 pub put-plan-spec : {M : Type 1} → statement M
-put-plan-spec = tie.close (tie.spec put-line-requires same-length returns)
+put-plan-spec = tie.close (tie.spec slice-aggregate-put-line put-line-requires same-length returns)

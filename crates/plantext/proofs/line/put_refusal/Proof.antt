@@ -1,7 +1,8 @@
--- The line of a refusal's number and place; the fields that it lacks write nothing.
+-- The line of a refusal's number and place.
 -- Assumes nothing.
 use mathlib.Core.Path.{_∙_, ap}
 use native.Mathlib.Omega.{arith}
+use Rattle.frames.specs.Table.{widthsOf}
 use Rattle.digits.specs.Stored.{stored}
 use Rattle.plantext.proofs.LineLaws.{refused-size, refusal-bytes, refusal-filled}
 use borrow.Author.Needs.{needs}
@@ -14,7 +15,11 @@ number-requires c κs = search needs
 place-requires : tie.Need-place-requires
 place-requires c κs = search needs
 
+slice-aggregate-put-line : tie.Need-slice-aggregate-put-line
+slice-aggregate-put-line c = search needs
+
 put-line-requires : tie.Need-put-line-requires
+unfolding widthsOf
 put-line-requires c κs = omega (arith, refused-size, refusal-bytes (c .before .before .before .before .args .refusal), c .before .before .before .before .pre)
 
 same-length : tie.Need-same-length
@@ -27,4 +32,4 @@ returns c =
 
 pub put-refusal-spec : {M : Type 1} → statement M
 put-refusal-spec =
-    tie.close (tie.spec number-requires place-requires put-line-requires same-length returns)
+    tie.close (tie.spec number-requires place-requires slice-aggregate-put-line put-line-requires same-length returns)

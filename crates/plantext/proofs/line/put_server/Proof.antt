@@ -32,7 +32,11 @@ element-copy-out-tasks c = search needs
 add-t19 : tie.Need-add-t19
 add-t19 c = search needs
 
+slice-aggregate-put-line : tie.Need-slice-aggregate-put-line
+slice-aggregate-put-line c = search needs
+
 put-line-requires : tie.Need-put-line-requires
+unfolding widthsOf
 put-line-requires c κs = search needs
 
 same-length : tie.Need-same-length
@@ -77,6 +81,7 @@ put-server-spec =
     mul-tasks
     element-copy-out-tasks
     add-t19
+    slice-aggregate-put-line
     put-line-requires
     same-length
     returns

@@ -1,9 +1,7 @@
--- The line of a task's four figures; the fields that it lacks write nothing.
+-- The line of a task's four figures.
 -- Assumes nothing.
-use mathlib.Core.Path.{_∙_, ap}
 use borrow.Author.Needs.{needs}
-use Rattle.digits.specs.Stored.{stored}
-use Rattle.taskwrite.proofs.WriteText.{task-line}
+use Rattle.frames.specs.Table.{widthsOf}
 use Rattle.taskwrite.proofs.write.put_task.Statement.{statement}
 use Rattle.taskwrite.proofs.write.put_task.Tie as tie
 
@@ -19,17 +17,18 @@ cast-t7 c = search needs
 cast-t8 : tie.Need-cast-t8
 cast-t8 c = search needs
 
+slice-aggregate-put-line : tie.Need-slice-aggregate-put-line
+slice-aggregate-put-line c = search needs
+
 put-line-requires : tie.Need-put-line-requires
+unfolding widthsOf
 put-line-requires c κs = search needs
 
 same-length : tie.Need-same-length
 same-length c = search needs
 
 returns : tie.Need-returns
-returns c =
-    let a = c .before .before .before .before .before .before .before .before .before .args in
-    let t = a .task in
-    c .before .before .put-line .ensures ∙ ap (stored (a .out .now) (a .at)) (task-line (t .id) (t .cost) (t .deadline) (t .period))
+returns c = c .before .before .put-line .ensures
 
 pub put-task-spec : {M : Type 1} → statement M
-put-task-spec = tie.close (tie.spec cast-t5 cast-t6 cast-t7 cast-t8 put-line-requires same-length returns)
+put-task-spec = tie.close (tie.spec cast-t5 cast-t6 cast-t7 cast-t8 slice-aggregate-put-line put-line-requires same-length returns)

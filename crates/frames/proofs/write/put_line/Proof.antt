@@ -1,4 +1,4 @@
--- `frames::line::put_line` meets its contract: the kind, the fields and the LF, stored one behind the other, are the line.
+-- `frames::write::put_line` meets its contract: the kind, the fields and the LF, stored one behind the other, are the line.
 -- Assumes nothing.
 use Prim.Native.Nat.{ℕ, _+_}
 use mathlib.Core.Path.{_∙_, ap}
@@ -12,8 +12,8 @@ use Rattle.digits.specs.Stored.{stored}
 use Rattle.frames.proofs.Tables.{kind-length}
 use Rattle.frames.proofs.Lines.{line-stored}
 use borrow.Author.Needs.{needs}
-use Rattle.frames.proofs.line.put_line.Statement.{statement}
-use Rattle.frames.proofs.line.put_line.Tie as tie
+use Rattle.frames.proofs.write.put_line.Statement.{statement}
+use Rattle.frames.proofs.write.put_line.Tie as tie
 
 row-of-requires : tie.Need-row-of-requires
 row-of-requires c κs = search needs
@@ -27,7 +27,7 @@ put-bytes-requires c κs =
     omega (
       arith,
       ap (λ (r : Row). length (r .kind)) (c .before .before .before .row-of .ensures),
-      kind-length (c .before .before .before .before .before .args .frame),
+      kind-length (c .before .before .before .before .before .before .args .frame),
     )
 
 add-put-fields : tie.Need-add-put-fields
@@ -54,15 +54,15 @@ same-length c = search needs
 returns : tie.Need-returns
 unfolding rowOf
 returns c =
-    let s = c .before .before .before .before .before .before .before .before .before .before .before .before .before .before .before .before .before .before in
+    let s = c .before .before .before .before .before .before .before .before .before .before .before .before .before .before .before .before .before .before .before in
     let a = s .args in
     let row = c .before .before .before .before .before .before .before .before .before .before .before .before .before .before .before .before .row-of in
     let size = c .before .before .before .before .before .length in
     c .before .before .put-bytes2 .ensures
     ∙ ap (λ (o : List ℕ). stored o (a .at + size .result) (10 ∷ []))
     (c .before .before .before .before .before .before .before .before .put-fields .ensures
-    ∙ ap (λ (o : List ℕ). stored o (a .at + 2) (fields (widthsOf (a .frame)) (a .values))) (c .before .before .before .before .before .before .before .before .before .before .before .before .put-bytes .ensures))
-    ∙ line-stored (a .out .now) (a .at) (a .frame) (a .values) (row .result .kind) (size .result) (ap (λ (r : Row). r .kind) (row .ensures)) (size .ensures) (s .pre)
+    ∙ ap (λ (o : List ℕ). stored o (a .at + 2) (fields (widthsOf (a .frame)) (a .values .now))) (c .before .before .before .before .before .before .before .before .before .before .before .before .put-bytes .ensures))
+    ∙ line-stored (a .out .now) (a .at) (a .frame) (a .values .now) (row .result .kind) (size .result) (ap (λ (r : Row). r .kind) (row .ensures)) (size .ensures) (s .pre .1)
 
 pub put-line-spec : {M : Type 1} → statement M
 put-line-spec =

@@ -1,4 +1,4 @@
--- `frames::line::put_bytes` meets its contract: the bytes copied so far are stored, one by one.
+-- `frames::write::put_bytes` meets its contract: the bytes copied so far are stored, one by one.
 -- Assumes nothing.
 use Prim.Native.Nat.{ℕ, _+_, _-_, _≤_}
 use mathlib.Core.Path.{_≡_, refl, sym, _∙_, ap}
@@ -8,8 +8,8 @@ use lib.ListN.{length, take, getD, set, length-set}
 use lib.Seq.{take-all}
 use Rattle.digits.specs.Stored.{stored}
 use Rattle.digits.proofs.Stored.{stored-nil, stored-next}
-use Rattle.frames.proofs.line.put_bytes.Statement.{statement}
-use Rattle.frames.proofs.line.put_bytes.Tie as tie
+use Rattle.frames.proofs.write.put_bytes.Statement.{statement}
+use Rattle.frames.proofs.write.put_bytes.Tie as tie
 
 abbrev Inv-loop : tie.InvT-loop
 Inv-loop out₀ at bytes i₀ out i =

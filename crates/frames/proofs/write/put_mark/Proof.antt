@@ -1,9 +1,9 @@
--- `frames::line::put_mark` meets its contract: the constant byte string is the mark.
+-- `frames::write::put_mark` meets its contract: the constant byte string is the mark.
 -- Assumes nothing.
 use Rattle.frames.specs.Table.{markOf}
 use borrow.Author.Needs.{needs}
-use Rattle.frames.proofs.line.put_mark.Statement.{statement}
-use Rattle.frames.proofs.line.put_mark.Tie as tie
+use Rattle.frames.proofs.write.put_mark.Statement.{statement}
+use Rattle.frames.proofs.write.put_mark.Tie as tie
 
 slice-aggregate-put-bytes : tie.Need-slice-aggregate-put-bytes
 slice-aggregate-put-bytes c = search needs

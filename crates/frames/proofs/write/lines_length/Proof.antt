@@ -1,0 +1,29 @@
+-- `frames::write::lines_length` meets its contract: the bytes of each line, by the table's length, as often as there are lines.
+-- Assumes nothing.
+use Prim.Native.Nat.{ℕ, _+_, _*_, _≤_}
+use mathlib.Core.Path.{ap}
+use native.Mathlib.Nat.{mul-le-mul, lt-of-le-of-lt}
+use native.Mathlib.Omega.{arith}
+use lib.Dec.{lit<}
+use borrow.Author.Needs.{needs}
+use Rattle.frames.proofs.Tables.{length-most}
+use Rattle.frames.proofs.write.lines_length.Statement.{statement}
+use Rattle.frames.proofs.write.lines_length.Tie as tie
+
+length-requires : tie.Need-length-requires
+length-requires c κs = search needs
+
+add-each : tie.Need-add-each
+add-each c = omega (arith, c .length .ensures, length-most (c .before .args .frame))
+
+mul-result : tie.Need-mul-result
+mul-result c =
+    let few : c .before .args .n ≤ 65535 = omega arith in
+    let short : c .length .result + 1 ≤ 65 = omega (arith, c .length .ensures, length-most (c .before .args .frame)) in
+    record { fits = lt-of-le-of-lt (mul-le-mul few short) (lit< tt) }
+
+returns : tie.Need-returns
+returns c = ap (λ (k : ℕ). c .before .args .n * (k + 1)) (c .length .ensures)
+
+pub lines-length-spec : {M : Type 1} → statement M
+lines-length-spec = tie.close (tie.spec length-requires add-each mul-result returns)
