@@ -90,11 +90,11 @@ pub fn put_number(out: &mut [u8], at: usize, width: usize, value: u64)
 pub fn too_large(width: usize, value: u64) -> bool
     ensures { λ r. ⌜ r ≡ tooLarge width value ⌝ }
 {
-    let mut rest = value;
-    let mut i = 0;
-    while i < width {
-        rest = rest / 16;
-        i += 1;
+    let mut high = value;
+    let mut passed = 0;
+    while passed < width {
+        high = high / 16;
+        passed += 1;
     }
-    rest != 0
+    high != 0
 }

@@ -105,8 +105,8 @@ pub fn row_of(frame: Frame) -> Row
 pub fn fields_in(frame: Frame) -> usize
     ensures { λ r. ⌜ r ≡ fieldsIn frame ⌝ }
 {
-    let row = row_of(frame);
-    row.fields
+    let own = row_of(frame);
+    own.fields
 }
 
 // The width of a field in digits.

@@ -91,12 +91,12 @@ pub fn put_lines(out: &mut [u8], at: usize, frame: Frame, values: &[u64], n: usi
     let fields = fields_in(frame);
     let mut next = at;
     let mut from = 0;
-    let mut i = 0;
-    while i < n {
+    let mut done = 0;
+    while done < n {
         put_line(out, next, frame, &values[from..]);
         next += each;
         from += fields;
-        i += 1;
+        done += 1;
     }
 }
 
@@ -105,8 +105,8 @@ pub fn lines_length(frame: Frame, n: usize) -> usize
     requires { ⌜ n ≤ 65535 ⌝ }
     ensures { λ r. ⌜ r ≡ n * (lengthOf frame + 1) ⌝ }
 {
-    let each = length(frame) + 1;
-    n * each
+    let line = length(frame) + 1;
+    n * line
 }
 
 // Whether one of a line's values is too large for its field.

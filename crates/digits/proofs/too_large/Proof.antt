@@ -12,16 +12,16 @@ use Rattle.digits.proofs.too_large.Statement.{statement}
 use Rattle.digits.proofs.too_large.Tie as tie
 
 abbrev Inv-loop : tie.InvT-loop
-Inv-loop width value rest₀ i₀ rest i = (i ≤ width) × (rest ≡ value / 16 ^ i)
+Inv-loop width value high₀ passed₀ high passed = (passed ≤ width) × (high ≡ value / 16 ^ passed)
 
 abbrev μ-loop : tie.MeasureT-loop
-μ-loop width value rest₀ i₀ rest i = width - i
+μ-loop width value high₀ passed₀ high passed = width - passed
 
 loop-holds : tie.Need-loop-holds Inv-loop μ-loop
 loop-holds c = (omega arith, sym (div-one (c .args .value)))
 
-add-i : tie.Need-add-i Inv-loop μ-loop
-add-i c = omega arith
+add-passed : tie.Need-add-passed Inv-loop μ-loop
+add-passed c = omega arith
 
 loop-less : tie.Need-loop-less Inv-loop μ-loop
 loop-less c = omega arith
@@ -30,14 +30,14 @@ loop-again : tie.Need-loop-again Inv-loop μ-loop
 loop-again c =
     let v = c .before .before .args .value in
     let l = c .before .loop in
-    (omega arith, ap (λ (n : ℕ). n / 16) (l .inv .1) ∙ div-div-eq-div-mul v (16 ^ l .i) 16 ∙ ap (λ (n : ℕ). v / n) (sym (pow-suc 16 (l .i)) ∙ ap (λ (n : ℕ). 16 ^ n) (sym (add-one (l .i)))))
+    (omega arith, ap (λ (n : ℕ). n / 16) (l .inv .1) ∙ div-div-eq-div-mul v (16 ^ l .passed) 16 ∙ ap (λ (n : ℕ). v / n) (sym (pow-suc 16 (l .passed)) ∙ ap (λ (n : ℕ). 16 ^ n) (sym (add-one (l .passed)))))
 
 returns : tie.Need-returns Inv-loop μ-loop
 returns c =
     let a = c .before .before .args in
     let l = c .before .loop in
-    let all : l .i ≡ a .width = omega arith in
+    let all : l .passed ≡ a .width = omega arith in
     ap (λ (n : ℕ). not (eqb n 0)) (l .inv .1 ∙ ap (λ (n : ℕ). a .value / 16 ^ n) all) ∙ digits-left (a .width) (a .value)
 
 pub too-large-spec : {M : Type 1} → statement M
-too-large-spec = tie.close (tie.spec Inv-loop μ-loop loop-holds add-i loop-less loop-again returns)
+too-large-spec = tie.close (tie.spec Inv-loop μ-loop loop-holds add-passed loop-less loop-again returns)

@@ -13,8 +13,8 @@ use Rattle.frames.proofs.write.lines_length.Tie as tie
 length-requires : tie.Need-length-requires
 length-requires c κs = search needs
 
-add-each : tie.Need-add-each
-add-each c = omega (arith, c .length .ensures, length-most (c .before .args .frame))
+add-line : tie.Need-add-line
+add-line c = omega (arith, c .length .ensures, length-most (c .before .args .frame))
 
 mul-result : tie.Need-mul-result
 mul-result c =
@@ -26,4 +26,4 @@ returns : tie.Need-returns
 returns c = ap (λ (k : ℕ). c .before .args .n * (k + 1)) (c .length .ensures)
 
 pub lines-length-spec : {M : Type 1} → statement M
-lines-length-spec = tie.close (tie.spec length-requires add-each mul-result returns)
+lines-length-spec = tie.close (tie.spec length-requires add-line mul-result returns)

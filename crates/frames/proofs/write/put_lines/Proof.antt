@@ -16,10 +16,10 @@ use Rattle.frames.proofs.write.put_lines.Statement.{statement}
 use Rattle.frames.proofs.write.put_lines.Tie as tie
 
 abbrev Inv-loop : tie.InvT-loop
-Inv-loop out₀ at frame values n each fields next₀ from₀ i₀ out next from i = Put frame out₀ at values n out next from i
+Inv-loop out₀ at frame values n each fields next₀ from₀ done₀ out next from done = Put frame out₀ at values n out next from done
 
 abbrev μ-loop : tie.MeasureT-loop
-μ-loop out₀ at frame values n each fields next₀ from₀ i₀ out next from i = n - i
+μ-loop out₀ at frame values n each fields next₀ from₀ done₀ out next from done = n - done
 
 length-requires : tie.Need-length-requires Inv-loop μ-loop
 length-requires c κs = search needs
@@ -59,8 +59,8 @@ add-next c = omega (arith, put-room (c .before .before .before .before .before .
 add-from : tie.Need-add-from Inv-loop μ-loop
 add-from c = omega (arith, put-values (c .before .before .before .before .before .before .loop .inv) (omega arith) (omega arith), c .before .before .before .before .before .before .before .fields-in .ensures, c .before .before .before .before .before .before .before .before .before .before .before .good)
 
-add-i : tie.Need-add-i Inv-loop μ-loop
-add-i c = omega arith
+add-done : tie.Need-add-done Inv-loop μ-loop
+add-done c = omega arith
 
 loop-less : tie.Need-loop-less Inv-loop μ-loop
 loop-less c = omega arith
@@ -96,7 +96,7 @@ put-lines-spec =
     put-line-requires
     add-next
     add-from
-    add-i
+    add-done
     loop-less
     loop-again
     same-length

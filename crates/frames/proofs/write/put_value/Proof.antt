@@ -18,7 +18,7 @@ same-length c = search needs
 returns : tie.Need-returns
 returns c =
     let a = c .before .before .before .before .before .before .before .args in
-    c .before .before .put-mark .ensures ∙ ap (stored (a .out .now) (a .at)) (mark-value (a .digits) (a .value) (omega arith) (omega (arith, eqb-true (a .value) 4294967295 (c .before .before .before .before .if2 .taken))))
+    c .before .before .put-mark .ensures ∙ ap (stored (a .out .now) (a .at)) (mark-value (a .digits) (a .value) (omega arith) (omega (arith, eqb-true)))
 
 put-number-requires : tie.Need-put-number-requires
 put-number-requires c κs = search needs

@@ -35,7 +35,7 @@ same-length c = search needs
 
 returns : tie.Need-returns
 returns c =
-    let a = c .before .before .before .before .before .before .before .before .args in
+    let a = c .before .before .before .before .before .before .before .before .before .args in
     c .before .before .put-line .ensures ∙ ap (stored (a .out .now) (a .at)) (placed-filled (a .t3) (a .t4) (a .i))
 
 pub put-placed-spec : {M : Type 1} → statement M

@@ -20,15 +20,15 @@ slice-aggregate-put-line c = search needs
 
 put-line-requires : tie.Need-put-line-requires
 unfolding widthsOf
-put-line-requires c κs = omega (arith, refused-size, refusal-bytes (c .before .before .before .before .args .refusal), c .before .before .before .before .pre)
+put-line-requires c κs = (omega arith, omega (arith, refused-size, refusal-bytes (c .before .before .before .before .before .args .refusal), c .before .before .before .before .before .pre))
 
 same-length : tie.Need-same-length
 same-length c = search needs
 
 returns : tie.Need-returns
 returns c =
-    let a = c .before .before .before .before .before .before .before .args in
-    c .before .before .put-line .ensures ∙ ap (stored (a .out .now) 0) (refusal-filled (a .refusal) _ _ (c .before .before .before .before .before .number .ensures) (c .before .before .before .before .place .ensures))
+    let a = c .before .before .before .before .before .before .before .before .args in
+    c .before .before .put-line .ensures ∙ ap (stored (a .out .now) 0) (refusal-filled (a .refusal) _ _ (c .before .before .before .before .before .before .number .ensures) (c .before .before .before .before .before .place .ensures))
 
 pub put-refusal-spec : {M : Type 1} → statement M
 put-refusal-spec =

@@ -44,7 +44,7 @@ same-length c = search needs
 
 returns : tie.Need-returns
 returns c =
-    let a = c .before .before .before .before .before .before .before .before .before .args in
+    let a = c .before .before .before .before .before .before .before .before .before .before .args in
     c .before .before .before .put-line .ensures ∙ ap (stored (a .out .now) (a .at)) (server-ring (a .t3) (a .i) (c .if1 .taken))
 
 field-start-requires : tie.Need-field-start-requires
@@ -52,18 +52,18 @@ field-start-requires c κs = search needs
 
 add-field : tie.Need-add-field
 unfolding sum widthsOf
-add-field c = omega (arith, c .field-start .ensures, c .before .before .before .before .before .before .before .before .before .before .pre)
+add-field c = omega (arith, c .field-start .ensures, c .before .before .before .before .before .before .before .before .before .before .before .pre)
 
 put-mark-requires : tie.Need-put-mark-requires
 unfolding sum widthsOf
-put-mark-requires c κs = omega (arith, c .before .field-start .ensures, c .before .before .before .before .before .put-line .kept .0, c .before .before .before .before .before .before .before .before .before .before .before .pre)
+put-mark-requires c κs = omega (arith, c .before .field-start .ensures, c .before .before .before .before .before .put-line .kept .0, c .before .before .before .before .before .before .before .before .before .before .before .before .pre)
 
 same-length-2 : tie.Need-same-length-2
 same-length-2 c = search needs
 
 returns-2 : tie.Need-returns-2
 returns-2 c =
-    let s = c .before .before .before .before .before .before .before .before .before .before .before .before .before .before in
+    let s = c .before .before .before .before .before .before .before .before .before .before .before .before .before .before .before in
     let a = s .args in
     let field = c .before .before .before .before .field-start in
     c .before .before .put-mark .ensures
