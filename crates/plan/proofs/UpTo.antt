@@ -3,9 +3,11 @@
 use Prim.Native.Nat.{ℕ, zero, suc, _+_, _≤_, _<_}
 use mathlib.Core.Path.{_≡_, refl, sym, ap, _∙_}
 use mathlib.Core.List.{List, [], _∷_, _++_}
+use native.Mathlib.Decide.{decLt}
 use native.Mathlib.Numerals.{add-one}
 use native.Mathlib.Omega.{arith}
-use lib.ListN.{length, set, replicate, length-append}
+use lib.ListN.{length, getD, set, replicate, length-append, List·getD-append}
+use lib.Seq.{getD-append-seam}
 use Rattle.servers.specs.Row.{row}
 use Rattle.servers.proofs.RowLaws.{row-more}
 use Rattle.plan.specs.Plan.{upTo}
@@ -15,6 +17,20 @@ module _ (f : ℕ → ℕ) where
   unfolding upTo
   up-length zero = refl
   up-length (suc n) = omega (arith, length-append (upTo f n) (f (suc n) ∷ []), up-length n)
+
+  -- f (i + 1) stands at place i
+  pub up-at : (n i : ℕ) → i < n → getD (upTo f n) i 0 ≡ f (i + 1)
+  unfolding upTo
+  up-at zero i h = absurd (omega arith)
+  up-at (suc n) i h =
+      elim (decLt i n) [
+        | yes before ↦ List·getD-append (upTo f n) (f (suc n) ∷ []) 0 i (omega (arith, up-length n)) ∙ up-at n i before
+        | no past ↦
+            let here : i ≡ n = omega (arith, past, h) in
+            ap (λ (k : ℕ). getD (upTo f n ++ (f (suc n) ∷ [])) k 0) (here ∙ sym (up-length n))
+            ∙ getD-append-seam (upTo f n) (f (suc n)) [] 0
+            ∙ ap f (sym (add-one n) ∙ ap (λ (k : ℕ). k + 1) (sym here))
+      ]
 
   -- an empty row
   pub row-none : replicate 64 0 ≡ row (upTo f 0)

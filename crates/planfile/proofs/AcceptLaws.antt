@@ -2,15 +2,14 @@
 -- Assumes nothing.
 use Prim.Native.Nat.{ℕ, _≤_}
 use mathlib.Core.Path.{_≡_, refl, sym, _∙_, ap}
-use mathlib.Core.Bool.{true, _&&_}
+use mathlib.Core.Bool.{true}
 use native.Mathlib.Nat.{min-le-left}
 use native.Mathlib.Omega.{arith}
-use lib.Dec.{leb, eqb}
+use lib.Dec.{leb}
 use lib.ListN.{length, length-take, length-map}
-use borrow.Author.Tests.{ltb-false, leb-true, eqb-true, not-false}
-use Rattle.laws.proofs.Tests.{clash, and-left, and-right, or-left}
-use Rattle.refusals.specs.declared.Outcome.{Outcome}
-use Rattle.refusals.specs.declared.Outcome.the-variants.{Done, Refused}
+use borrow.Author.Tests.{ltb-false, leb-true, not-false}
+use Rattle.laws.proofs.Tests.{and-right, or-left}
+use Rattle.refusals.specs.declared.Outcome.the-variants.{Done}
 use Rattle.tasks.specs.declared.set.Header.{Header}
 use Rattle.tasks.specs.declared.set.TaskSet.{TaskSet}
 use Rattle.tasks.specs.Set.{members, mostTasks, mostProcessors}
@@ -25,9 +24,10 @@ use Rattle.plan.specs.declared.planner.PlanAnswer.{PlanAnswer}
 use Rattle.rows.specs.Charge.{loadOf, loadsOfSet, lossOf}
 use Rattle.rows.specs.Rows.{RowsClear}
 use Rattle.plan.specs.Plan.{planMade, laidOut, setReserves}
-use Rattle.questions.specs.Agrees.{agrees, sameFigures, makes, isDone}
+use Rattle.questions.specs.Agrees.{makes}
 use Rattle.plan.specs.Planner.{Clear, planOutcome, planOf, needed, fullRow}
-use Rattle.questions.proofs.AgreeLaws.{agree-self}
+use Rattle.questions.proofs.AgreeLaws.{agree-same, agree-self}
+use Rattle.questions.proofs.Checked.{makes-done, makes-agrees}
 use Rattle.rows.proofs.Clears.{charged-clear}
 use Rattle.plan.proofs.Made.{plan-outcome, plan-is, outcome-clear, made-needs}
 use Rattle.plantext.specs.Fit.{Counted}
@@ -65,46 +65,17 @@ module _ (set : TaskSet) (done : planOutcome set ≡ Done) where
   pub made-counted : Counted set (planMade set)
   made-counted = record { servers = servers-few-made; tasks = tasks-few; processors = omega (arith, made-needs set, needed-few) }
 
-is-done : (o : Outcome) → isDone o ≡ true → o ≡ Done
-is-done Done p = refl
-is-done (Refused r) p = clash (cc)
-
--- a plan that the planner makes of a set: no row holds, and the plans agree
+-- a plan that the planner makes of a set
 module _ (set : TaskSet) (plan : Plan) (m : makes set plan ≡ true) where
-  pub makes-done : planOutcome set ≡ Done
-  unfolding makes
-  makes-done = is-done (planOutcome set) (and-left _ _ m)
-
-  pub makes-agrees : agrees (set .count) plan (planMade set) ≡ true
-  unfolding makes
-  makes-agrees = and-right (isDone (planOutcome set)) _ m
-
-  figures : sameFigures plan (planMade set) ≡ true
-  unfolding agrees
-  figures = and-left _ _ makes-agrees
-
-  past-whole : (eqb (plan .ring) (planMade set .ring) && (eqb (plan .servers) (planMade set .servers) && (eqb (plan .slot) (planMade set .slot) && eqb (plan .idle) (planMade set .idle)))) ≡ true
-  unfolding sameFigures
-  past-whole = and-right (eqb (plan .whole) (planMade set .whole)) _ figures
-
-  pub makes-whole : plan .whole ≡ planMade set .whole
-  unfolding sameFigures
-  makes-whole = eqb-true _ _ (and-left _ _ figures)
-
-  pub makes-ring : plan .ring ≡ planMade set .ring
-  makes-ring = eqb-true _ _ (and-left _ _ past-whole)
-
-  pub makes-servers : plan .servers ≡ planMade set .servers
-  makes-servers = eqb-true _ _ (and-left _ _ (and-right (eqb (plan .ring) (planMade set .ring)) _ past-whole))
-
   -- it has room for what it counts, as the one that the planner makes has
   pub makes-counted : Counted set plan
   makes-counted =
-      let made = made-counted set makes-done in
+      let made = made-counted set (makes-done set plan m) in
+      let same = agree-same plan (planMade set) (set .count) (makes-agrees set plan m) in
       record {
-        servers = omega (arith, makes-servers, made .servers);
+        servers = omega (arith, same .servers, made .servers);
         tasks = made .tasks;
-        processors = omega (arith, makes-ring, makes-whole, made .processors);
+        processors = omega (arith, same .ring, same .whole, made .processors);
       }
 
 -- the planner makes the plan that it answers

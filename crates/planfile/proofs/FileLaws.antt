@@ -4,7 +4,7 @@ use Prim.Native.Nat.{ℕ}
 use mathlib.Core.Path.{_≡_, refl, sym, _∙_, ap}
 use mathlib.Core.List.{List}
 use mathlib.Core.Bool.{true}
-use native.Mathlib.Omega.{arith}
+use Rattle.laws.proofs.Tests.{clash}
 use Rattle.refusals.specs.declared.Refusal.{Refusal}
 use Rattle.refusals.specs.declared.Outcome.{Outcome}
 use Rattle.refusals.specs.declared.Outcome.the-variants.{Done, Refused}
@@ -35,12 +35,12 @@ Makes file = file .outcome ≡ Done → makes (file .set) (file .plan) ≡ true
 
 planned-makes : (set : TaskSet) (o : Outcome) → planOf set .outcome ≡ o → Makes (unless refusedFile o (record { outcome = Done; set = set; plan = planOf set .plan }))
 planned-makes set Done e d = answer-makes set (planOf set) refl e
-planned-makes set (Refused r) e d = let z : _≡_ {A = ℕ} 0 1 = cc in absurd (omega arith)
+planned-makes set (Refused r) e d = clash (cc)
 
 read-makes : (o : Outcome) (set : TaskSet) → Makes (unless refusedFile o (plannedSet set))
 unfolding plannedSet
 read-makes Done set d = planned-makes set (planOf set .outcome) refl d
-read-makes (Refused r) set d = let z : _≡_ {A = ℕ} 0 1 = cc in absurd (omega arith)
+read-makes (Refused r) set d = clash (cc)
 
 pub filed-makes : (text : List ℕ) {file : FileAnswer} → file ≡ filedOf text → Makes file
 unfolding filedOf

@@ -11,7 +11,7 @@ use native.Mathlib.Decide.{decLt}
 use native.Mathlib.Omega.{arith}
 use lib.Dec.{leb, ltb}
 use lib.ListN.{length, take, getD, List·getD-append}
-use lib.Seq.{getD-take, getD-append-seam}
+use lib.Seq.{getD-take}
 use borrow.Author.Tests.{leb-false, le-ltb}
 use Rattle.laws.proofs.Tests.{or-left, or-right}
 use Rattle.tasks.specs.declared.set.Header.{Header}
@@ -34,27 +34,13 @@ use Rattle.plan.specs.Plan.{planMade, laidOut, setPlacement, setReserves, upTo,
 use Rattle.plan.specs.Planner.{Clear}
 use Rattle.questions.specs.Agrees.{makes, SamePlan}
 use Rattle.questions.proofs.AgreeLaws.{agree-same}
-use Rattle.questions.proofs.Checked.{OfSet, of-set}
+use Rattle.questions.proofs.Checked.{OfSet, of-set, makes-agrees}
 use Rattle.plan.proofs.Made.{set-count, slot-some, few-loads}
 use Rattle.plan_claims.proofs.Promises.{accepted}
-use Rattle.plan.proofs.UpTo.{up-length}
+use Rattle.plan.proofs.UpTo.{up-length, up-at}
 use Rattle.plantext.specs.Fit.{Counted}
 use Rattle.planfile_claims.specs.Claims.{FitFields}
-use Rattle.planfile.proofs.AcceptLaws.{makes-agrees, makes-counted}
-
--- what stands at a place of f 1, f 2, .. f n
-up-at : (f : ℕ → ℕ) (n i : ℕ) → i < n → getD (upTo f n) i 0 ≡ f (i + 1)
-unfolding upTo
-up-at f zero i h = absurd (omega arith)
-up-at f (suc n) i h =
-    elim (decLt i n) [
-      | yes before ↦ List·getD-append (upTo f n) (f (suc n) ∷ []) 0 i (omega (arith, up-length f n)) ∙ up-at f n i before
-      | no past ↦
-          let here : i ≡ n = omega (arith, past, h) in
-          ap (λ (k : ℕ). getD (upTo f n ++ (f (suc n) ∷ [])) k 0) (here ∙ sym (up-length f n))
-          ∙ getD-append-seam (upTo f n) (f (suc n)) [] 0
-          ∙ ap f (sym (add-one n) ∙ ap (λ (k : ℕ). k + 1) (sym here))
-    ]
+use Rattle.planfile.proofs.AcceptLaws.{makes-counted}
 
 -- what stands at a used place of a row of such numbers
 row-up : (f : ℕ → ℕ) (n i : ℕ) → i < n → getD (row (upTo f n)) i 0 ≡ f (i + 1)

@@ -4,11 +4,11 @@ use Prim.Native.Nat.{ℕ, zero, suc, _+_, _-_, _≤_, _<_}
 use mathlib.Core.Path.{_≡_, refl, sym, ap, _∙_}
 use mathlib.Core.Bool.{Bool, true, cond}
 use mathlib.Core.List.{List, [], _∷_, _++_}
-use native.Mathlib.Decide.{decLt}
+use native.Mathlib.Numerals.{add-one}
 use native.Mathlib.Omega.{arith}
 use borrow.Author.Tests.{lt-ltb}
-use lib.ListN.{length, getD, take, List·getD-append}
-use lib.Seq.{getD-at, getD-take}
+use lib.ListN.{length, getD, take}
+use lib.Seq.{getD-take}
 use Rattle.servers.specs.Row.{row}
 use Rattle.servers.proofs.RowLaws.{row-take}
 use Rattle.ring.specs.Reserves.{reserveOf, startOf, processorsOf}
@@ -19,24 +19,12 @@ use Rattle.plan.specs.declared.plan.Plan.{Plan}
 use Rattle.plan.specs.Plan.{upTo, ringStart, laidOut, setReserves, planMade}
 use Rattle.questions.specs.Agrees.{makes, SamePlan}
 use Rattle.plan.proofs.Made.{plan-outcome}
-use Rattle.plan.proofs.UpTo.{up-length}
+use Rattle.plan.proofs.UpTo.{up-length, up-at}
 use Rattle.questions.proofs.Checked.{OfSet, of-set, same-made, makes-done}
 use Rattle.promises.specs.Accepted.{PrintsRota, slotOf}
 use Rattle.promises.specs.Promises.{PlanIsRota}
 
 module _ (f : ℕ → ℕ) where
-  -- f 1, f 2, ..: f (i + 1) stands at place i
-  up-at : (n i : ℕ) → i < n → getD (upTo f n) i 0 ≡ f (suc i)
-  unfolding upTo
-  up-at zero i h = absurd (omega arith)
-  up-at (suc n) i h = by (decLt i n) (up-at n i)
-    where
-      by : Dec (i < n) → (i < n → getD (upTo f n) i 0 ≡ f (suc i)) → getD (upTo f n ++ (f (suc n) ∷ [])) i 0 ≡ f (suc i)
-      by (yes g) before = List·getD-append (upTo f n) (f (suc n) ∷ []) 0 i (rw (up-length f n) g) ∙ before g
-      by (no g) before =
-          let e : n ≡ i = omega arith in
-          getD-at (upTo f n) (f (suc n)) [] 0 i (up-length f n ∙ e) ∙ ap (λ (k : ℕ). f (suc k)) e
-
   -- a row whose used part is that of another, filled so, has f q at place q − 1
   pub printed : (a b : List ℕ) (n m : ℕ) → n ≡ m → b ≡ row (upTo f m) → take n a ≡ take m b → (q : ℕ) → 1 ≤ q → q ≤ m → getD a (q - 1) 0 ≡ f q
   printed a b n m e g same zero h l = absurd (omega arith)
@@ -45,7 +33,7 @@ module _ (f : ℕ → ℕ) where
       ap (λ (k : ℕ). getD a k 0) p
       ∙ sym (getD-take n a i 0 (omega arith))
       ∙ ap (λ (ns : List ℕ). getD ns i 0) (same ∙ ap (take m) g ∙ row-take (upTo f m) m (up-length f m))
-      ∙ up-at m i l
+      ∙ up-at f m i l ∙ ap f (add-one i)
 
 module _ (set : TaskSet) (plan : Plan) (full : length (set .tasks) ≡ 64) (e : makes set plan ≡ true) where
   -- what agrees with the set
