@@ -2,7 +2,7 @@
 -- Document 01, "Lines of hexadecimal".
 use Prim.Native.Nat.{ℕ, _+_, _-_}
 use mathlib.Core.List.{List, [], _∷_}
-use mathlib.Core.Bool.{Bool, true, false, cond, _&&_, _||_}
+use mathlib.Core.Bool.{Bool, true, cond, _&&_, _||_}
 use lib.Dec.{leb, ltb}
 
 -- 0-9 are the bytes 48 to 57, A-F the bytes 65 to 70

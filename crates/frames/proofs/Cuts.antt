@@ -11,20 +11,13 @@ use Rattle.digits.specs.Digit.{allLegal}
 use Rattle.frames.specs.Line.{LF, line, after, closed, same}
 use Rattle.digits.proofs.Digits.{legal-not-LF, legal-head, legal-tail}
 
--- legal digits and an LF: the first line is the digits, it is closed, and what follows comes after it
+-- legal digits and an LF: the first line is the digits, and it is closed
 pub line-cut : (ds rest : List ℕ) → allLegal ds ≡ true → line (ds ++ (LF ∷ rest)) ≡ ds
 unfolding line
 line-cut [] rest p = refl
 line-cut (d ∷ ds) rest p =
     ap (λ (t : Bool). cond t [] (d ∷ line (ds ++ (LF ∷ rest)))) (legal-not-LF d (legal-head d ds p))
     ∙ ap (λ (l : List ℕ). d ∷ l) (line-cut ds rest (legal-tail d ds p))
-
-pub after-cut : (ds rest : List ℕ) → allLegal ds ≡ true → after (ds ++ (LF ∷ rest)) ≡ rest
-unfolding after
-after-cut [] rest p = refl
-after-cut (d ∷ ds) rest p =
-    ap (λ (t : Bool). cond t (ds ++ (LF ∷ rest)) (after (ds ++ (LF ∷ rest)))) (legal-not-LF d (legal-head d ds p))
-    ∙ after-cut ds rest (legal-tail d ds p)
 
 pub closed-cut : (ds rest : List ℕ) → closed (ds ++ (LF ∷ rest)) ≡ true
 unfolding closed

@@ -1,13 +1,13 @@
 -- Laws of a text that starts with a frame's line: what that line's parts are, and the test that a program makes of it.
 -- Assumes nothing.
 use Prim.Native.Nat.{ℕ, suc, _+_, _^_, _≤_, _<_}
-use mathlib.Core.Path.{_≡_, sym, _∙_, ap, ap₂, subst}
-use mathlib.Core.Bool.{Bool, true, false, _&&_}
+use mathlib.Core.Path.{_≡_, sym, _∙_, ap, subst}
+use mathlib.Core.Bool.{Bool, true, _&&_}
 use mathlib.Core.List.{List, _∷_, _++_}
 use native.Mathlib.Omega.{arith}
 use lib.Dec.{ltb, eqb}
-use lib.ListN.{length, take, drop, getD, length-append, length-take, length-drop}
-use lib.Seq.{length-take-le, take-at, getD-at, take-take, split-at, take-append-le, drop-append-le, drop-append-add, getD-take}
+use lib.ListN.{length, take, drop, getD, length-append, length-drop}
+use lib.Seq.{length-take-le, take-at, getD-at, take-take, split-at, take-append-le, drop-append-le, drop-append-add}
 use borrow.Author.Tests.{eqb-true, eq-eqb, ltb-true, lt-ltb}
 use Rattle.frames.specs.declared.table.Frame.{Frame}
 use Rattle.digits.specs.Digit.{allLegal}
@@ -152,21 +152,6 @@ shaped-formed frame text s =
 -- a text is formed exactly when the program's test passes
 pub formed-is : (frame : Frame) (text : List ℕ) → formed frame text ≡ shaped frame text
 formed-is frame text = same-test (formed frame text) (shaped frame text) (formed-shaped frame text) (shaped-formed frame text)
-
--- what stands behind the line does not matter
-pub formed-prefix : (frame : Frame) (n : ℕ) (text : List ℕ) → lengthOf frame + 1 ≤ n → formed frame (take n text) ≡ formed frame text
-formed-prefix frame n text h =
-    formed-is frame (take n text)
-    ∙ ap₂ _&&_ long
-    (ap₂ _&&_ (ap (λ (v : ℕ). eqb v LF) (getD-take n text (lengthOf frame) 0 (omega arith)))
-    (ap₂ _&&_ (ap (λ (l : List ℕ). same l (kindOf frame)) (take-take 2 n text (omega arith))) (ap allLegal (take-take (lengthOf frame) n text (omega arith)))))
-    ∙ sym (formed-is frame text)
-  where
-    long : ltb (lengthOf frame) (length (take n text)) ≡ ltb (lengthOf frame) (length text)
-    long =
-        same-test _ _
-        (λ (p : ltb (lengthOf frame) (length (take n text)) ≡ true). lt-ltb (lengthOf frame) (length text) (omega (arith, ltb-true (lengthOf frame) (length (take n text)) p, length-take n text)))
-        (λ (p : ltb (lengthOf frame) (length text) ≡ true). lt-ltb (lengthOf frame) (length (take n text)) (omega (arith, ltb-true (lengthOf frame) (length text) p, length-take n text)))
 
 -- a text is formed for frames of one kind only
 pub formed-kinds : (f g : Frame) (text : List ℕ) → formed f text ≡ true → formed g text ≡ true → kindOf f ≡ kindOf g

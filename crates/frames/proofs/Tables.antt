@@ -89,11 +89,6 @@ width-most frame field = narrow (widthsOf frame) (at-frame (λ (f : Frame). ever
     narrow (w ∷ ws) p zero = leb-true w 16 (and-left (leb w 16) _ p)
     narrow (w ∷ ws) p (suc k) = narrow ws (and-right (leb w 16) _ p) k
 
--- the line lengths of document 01
-pub line-lengths : map lengthOf allFrames ≡ 30 ∷ 22 ∷ 22 ∷ 20 ∷ 6 ∷ 12 ∷ 6 ∷ []
-unfolding sum widthsOf
-line-lengths = refl
-
 -- the first of these frames that has this kind
 abbrev ofKind : List ℕ → List Frame → Found
 ofKind kind [] = Found.Nothing

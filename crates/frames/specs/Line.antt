@@ -56,18 +56,6 @@ kindAt text = firstFormed allFrames text
 unfoldable pub fieldOf : Frame → ℕ → List ℕ → ℕ
 fieldOf frame field text = number (take (widthOf frame field) (drop (fieldStart frame field) (line text)))
 
--- the values of a line's seven fields in order, zeros for those that the frame lacks
-unfoldable pub fieldsOf : Frame → List ℕ → List ℕ
-fieldsOf frame text =
-    fieldOf frame 0 text
-    ∷ fieldOf frame 1 text
-    ∷ fieldOf frame 2 text
-    ∷ fieldOf frame 3 text
-    ∷ fieldOf frame 4 text
-    ∷ fieldOf frame 5 text
-    ∷ fieldOf frame 6 text
-    ∷ []
-
 -- the digits of values at widths, one field after the other
 unfoldable pub fields : (widths values : List ℕ) → List ℕ
 fields [] vs = []

@@ -14,7 +14,7 @@ use borrow.Author.Tests.{ltb-false}
 use Rattle.frames.specs.Table.{widthsOf, widthOf, lengthOf}
 use Rattle.frames.specs.Line.{lineOf, fieldOf}
 use Rattle.frames.specs.declared.table.Frame.{Frame}
-use Rattle.frames.proofs.Lines.{field-line}
+use Rattle.frames_claims.proofs.LineLaws.{field-line}
 use Rattle.tasks.specs.declared.set.Task.{Task}
 use Rattle.tasks.specs.declared.set.TaskSet.{TaskSet}
 use Rattle.tasks.specs.Set.{zeroTask}

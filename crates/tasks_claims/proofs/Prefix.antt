@@ -15,7 +15,8 @@ use Rattle.refusals.specs.declared.Refusal.{Refusal}
 use Rattle.refusals.specs.declared.Refusal.the-variants.{Count, Twice}
 use Rattle.refusals.specs.declared.Outcome.{Outcome}
 use Rattle.refusals.specs.declared.Outcome.the-variants.{Done, Refused}
-use Rattle.frames.proofs.Formed.{formed-prefix, formed-line}
+use Rattle.frames.proofs.Formed.{formed-line}
+use Rattle.frames_claims.proofs.LineLaws.{formed-prefix}
 use Rattle.tasks.specs.declared.set.Task.{Task}
 use Rattle.refusals.specs.First.{firstOf, when}
 use Rattle.tasks.specs.Rows.{some}

@@ -18,7 +18,7 @@ use Rattle.frames.specs.declared.table.Frame.{Frame}
 use Rattle.refusals.specs.declared.Refusal.the-variants.{Count, Twice, Range}
 use Rattle.refusals.specs.declared.Outcome.{Outcome}
 use Rattle.refusals.specs.declared.Outcome.the-variants.{Done}
-use Rattle.frames.proofs.Lines.{line-formed, line-after, field-line}
+use Rattle.frames_claims.proofs.LineLaws.{line-formed, line-after, field-line}
 use Rattle.frames.proofs.KindLaws.{not-formed}
 use Rattle.tasks.specs.declared.set.Header.{Header}
 use Rattle.tasks.specs.declared.set.Task.{Task}

@@ -9,12 +9,14 @@ use lib.Dec.{leb, eqb}
 use borrow.Author.Tests.{lt-leb, le-ltb, ne-eqb}
 use Rattle.laws.proofs.Tests.{or-neither}
 use Rattle.frames.specs.Table.{widthsOf}
-use Rattle.frames.specs.Line.{after, formed, fields, fieldOf, fieldsOf, lineOf}
+use Rattle.frames.specs.Line.{after, formed, fieldOf, lineOf}
 use Rattle.frames.specs.declared.table.Frame.{Frame}
 use Rattle.refusals.specs.declared.Refusal.{Refusal}
 use Rattle.refusals.specs.declared.Refusal.the-variants.{Count, Twice}
 use Rattle.refusals.specs.declared.Outcome.the-variants.{Done}
-use Rattle.frames.proofs.Lines.{line-fields, field-below}
+use Rattle.frames.proofs.Formed.{field-below}
+use Rattle.frames_claims.specs.Values.{fieldsFrom, fieldsOf}
+use Rattle.frames_claims.proofs.LineLaws.{line-fields}
 use Rattle.frames.proofs.KindLaws.{not-formed}
 use Rattle.tasks.specs.declared.set.Task.{Task}
 use Rattle.tasks.specs.declared.set.TaskSet.{TaskSet}
@@ -39,11 +41,11 @@ use Rattle.taskwrite.proofs.WriteText.{lines-nil, lines-cons, lines-append}
 
 -- a line of a kind is the line of its own figures
 header-again : (text : List ℕ) → formed Frame.Header text ≡ true → text ≡ lineOf Frame.Header (headerValues (headerAt text)) ++ after text
-unfolding headerAt fieldsOf
+unfolding headerAt fieldsFrom fieldsOf widthsOf
 header-again text f = line-fields Frame.Header text f
 
 task-again : (rest : List ℕ) → formed Frame.Task rest ≡ true → rest ≡ lineOf Frame.Task (taskValues (taskAt rest)) ++ after rest
-unfolding taskAt fieldsOf lineOf fields widthsOf
+unfolding taskAt fieldsFrom fieldsOf widthsOf
 task-again rest f = line-fields Frame.Task rest f
 
 past-next : (text : List ℕ) (i : ℕ) → past (suc i) text ≡ after (past i text)

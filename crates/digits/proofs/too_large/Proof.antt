@@ -1,6 +1,6 @@
 -- `digits::too_large` meets its contract: what is left after as many digits as the width is nothing exactly when the number fits.
 -- Assumes nothing.
-use Prim.Native.Nat.{ℕ, _+_, _-_, _/_, _^_, _≤_}
+use Prim.Native.Nat.{ℕ, _-_, _/_, _^_, _≤_}
 use mathlib.Core.Path.{_≡_, sym, _∙_, ap}
 use mathlib.Core.Bool.{not}
 use native.Mathlib.Nat.{div-one, div-div-eq-div-mul, pow-suc}

@@ -8,7 +8,6 @@ use lib.ListN.{length-drop}
 use borrow.Author.Needs.{needs}
 use borrow.Rule.Slice.PartAt.{part-to-end}
 use Rattle.digits.specs.Stored.{stored}
-use Rattle.frames.specs.Table.{lengthOf, fieldsIn}
 use Rattle.frames.specs.Line.{lineOf}
 use Rattle.frames.proofs.Tables.{length-most}
 use Rattle.frames.proofs.LinesLaws.{Put, put-none, put-room, put-values, put-next, put-all}
