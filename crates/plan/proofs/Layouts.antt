@@ -9,8 +9,8 @@ use borrow.Author.Tests.{lt-ltb, le-ltb}
 use lib.ListN.{length, take}
 use Rattle.laws.proofs.Orders.{le-or-lt}
 use Rattle.wholes.proofs.CeilingLaws.{ceiling-least}
-use Rattle.servers.specs.Row.{row}
-use Rattle.servers.specs.Members.{held}
+use Rattle.servers.specs.Padded.{padded, upTo}
+use Rattle.servers.specs.Members.{memberLoads}
 use Rattle.servers.specs.Placement.{loadsIn}
 use Rattle.servers.specs.declared.Servers.{Servers}
 use Rattle.servers.specs.declared.members.Members.{Members}
@@ -19,7 +19,7 @@ use Rattle.ring.specs.Reserves.{ringTicks, wholes, ringProcessors, processorsOf
 use Rattle.ring.specs.Who.{firstReserve}
 use Rattle.ring.proofs.Starts.{wholes-below, ring-holds, taken-length, length-room}
 use Rattle.plan.specs.declared.plan.Plan.{Plan}
-use Rattle.plan.specs.Plan.{upTo, ringStart, laidOut}
+use Rattle.plan.specs.Plan.{ringStart, laidOut}
 use Rattle.plan.specs.Layable.{Layable}
 
 -- reserves and whole processors together take at most a slot a server
@@ -89,15 +89,15 @@ module _ {m : Members} {sv : Servers} {S : ℕ} (ok : Layable m sv S) where
       w ≡ wholes S (take (sv .count) (sv .reserve)) →
       r ≡ ringProcessors S (take (sv .count) (sv .reserve)) →
       t ≡ ringTicks S (take (sv .count) (sv .reserve)) →
-      st ≡ row (upTo (ringStart S (take (sv .count) (sv .reserve))) (sv .count)) →
-      ta ≡ row (upTo (λ (q : ℕ). length (loadsIn (held m) (take (m .count) (sv .server)) q)) (sv .count)) →
-      fi ≡ row (upTo (λ (p : ℕ). firstReserve S (take (sv .count) (sv .reserve)) p .server) (r + w)) →
-      du ≡ row (upTo (λ (p : ℕ). firstReserve S (take (sv .count) (sv .reserve)) p .left) (r + w)) →
-      plan-of w r (sv .count) S (r * S - t) (sv .reserve) st ta (sv .server) fi du ≡ laidOut S (held m) (take (m .count) (sv .server)) (take (sv .count) (sv .reserve))
+      st ≡ padded (upTo (ringStart S (take (sv .count) (sv .reserve))) (sv .count)) →
+      ta ≡ padded (upTo (λ (q : ℕ). length (loadsIn (memberLoads m) (take (m .count) (sv .server)) q)) (sv .count)) →
+      fi ≡ padded (upTo (λ (p : ℕ). firstReserve S (take (sv .count) (sv .reserve)) p .server) (r + w)) →
+      du ≡ padded (upTo (λ (p : ℕ). firstReserve S (take (sv .count) (sv .reserve)) p .left) (r + w)) →
+      plan-of w r (sv .count) S (r * S - t) (sv .reserve) st ta (sv .server) fi du ≡ laidOut S (memberLoads m) (take (m .count) (sv .server)) (take (sv .count) (sv .reserve))
   unfolding laidOut
   laid-made {w} {r} {t} p1 p2 p3 p4 p5 p6 p7 =
       let sum : r + w ≡ processorsOf S reserves = rw (p1, p2) in
-      same-plan S p1 p2 counted (rw (p2, p3)) (sym (ok .reserve-room)) (p4 ∙ ap (λ (n : ℕ). row (upTo (ringStart S reserves) n)) counted)
-      (p5 ∙ ap (λ (n : ℕ). row (upTo (λ (q : ℕ). length (loadsIn (held m) placement q)) n)) counted) (sym (ok .server-room))
-      (p6 ∙ ap (λ (n : ℕ). row (upTo (λ (p : ℕ). firstReserve S reserves p .server) n)) sum)
-      (p7 ∙ ap (λ (n : ℕ). row (upTo (λ (p : ℕ). firstReserve S reserves p .left) n)) sum)
+      same-plan S p1 p2 counted (rw (p2, p3)) (sym (ok .reserve-room)) (p4 ∙ ap (λ (n : ℕ). padded (upTo (ringStart S reserves) n)) counted)
+      (p5 ∙ ap (λ (n : ℕ). padded (upTo (λ (q : ℕ). length (loadsIn (memberLoads m) placement q)) n)) counted) (sym (ok .server-room))
+      (p6 ∙ ap (λ (n : ℕ). padded (upTo (λ (p : ℕ). firstReserve S reserves p .server) n)) sum)
+      (p7 ∙ ap (λ (n : ℕ). padded (upTo (λ (p : ℕ). firstReserve S reserves p .left) n)) sum)

@@ -1,4 +1,3 @@
-pub mod UpTo
 pub mod RingStarts
 pub mod Layouts
 pub mod Served

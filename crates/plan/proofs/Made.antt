@@ -1,7 +1,7 @@
 -- The plan of a set whose rows are clear, and the planner's answer by the first row that holds.
 -- Assumes nothing.
 use Prim.Native.Nat.{ℕ, _+_, _^_, _≤_, _<_}
-use mathlib.Core.Path.{_≡_, refl, ap, _∙_}
+use mathlib.Core.Path.{_≡_, refl, sym, ap, _∙_}
 use mathlib.Core.Bool.{true, false}
 use native.Mathlib.Omega.{arith}
 use borrow.Author.Tests.{lt-ltb, le-ltb}
@@ -11,12 +11,12 @@ use Rattle.refusals.specs.declared.Refusal.the-variants.{Full, Ask}
 use Rattle.refusals.specs.declared.Outcome.{Outcome}
 use Rattle.refusals.specs.declared.Outcome.the-variants.{Done, Refused}
 use Rattle.demand.specs.Load.{Sound, Every}
-use Rattle.servers.specs.Members.{membersOf, held, Sized}
+use Rattle.servers.specs.Members.{membersOf, memberLoads, Sized}
 use Rattle.servers.specs.Placement.{serversIn}
 use Rattle.servers.specs.Reserve.{serversOf}
 use Rattle.servers.specs.declared.Servers.{Servers}
 use Rattle.servers.specs.declared.members.Members.{Members}
-use Rattle.servers.proofs.ServedLaws.{reserves-count}
+use Rattle.servers.proofs.ReserveLaws.{reserves-count}
 use Rattle.tasks.specs.declared.set.TaskSet.{TaskSet}
 use Rattle.tasks.specs.Set.{mostTasks}
 use Rattle.refusals.specs.First.{firstOf, when}
@@ -24,20 +24,20 @@ use Rattle.tasks.specs.Rows.{askRow}
 use Rattle.tasks.proofs.Carried.{count-within, ask-count}
 use Rattle.plan.specs.declared.plan.Plan.{Plan}
 use Rattle.rows.specs.Charge.{loadsOfSet, lossOf}
-use Rattle.rows.specs.Rows.{chargedOutcome, Chargeable, RowsClear}
+use Rattle.rows.specs.Rows.{chargedOutcome, horizonOf, Chargeable, RowsClear}
 use Rattle.plan.specs.Plan.{laidOut, setPlacement, setReserves, planMade, zeroPlan}
 use Rattle.plan.specs.Planner.{Clear, needed, fullRow, planOutcome, answer, planOf}
 use Rattle.plan.specs.Layable.{Layable}
-use Rattle.rows.proofs.Outcomes.{first-done, when-done}
-use Rattle.rows.proofs.Clears.{board-slot, charged-clear, loads-sound, loads-length, horizon-within, slot-small, loss-small, members-sized}
+use Rattle.refusals.proofs.FirstLaws.{first-done, when-done}
+use Rattle.rows.proofs.Clears.{board-slot, charged-clear, loads-sound, loads-length, horizon-of-loads, horizon-short, slot-small, loss-small, members-sized}
 use Rattle.plan.proofs.Layouts.{processors-few}
 use Rattle.plan.proofs.Served.{count-few, layable, laid-is}
 
-module _ (set : TaskSet) (full : length (set .tasks) ≡ 64) (clear : Clear set) where
+module _ (set : TaskSet) (full : length (set .tasks) ≡ mostTasks) (clear : Clear set) where
   pub rows-clear : RowsClear set
   rows-clear = charged-clear set (clear .charged)
 
-  -- at most 64 tasks
+  -- at most mostTasks tasks
   pub count-most : set .count ≤ mostTasks
   count-most = count-within set (ask-count set (clear .carried)) .1
 
@@ -49,8 +49,8 @@ module _ (set : TaskSet) (full : length (set .tasks) ≡ 64) (clear : Clear set)
   pub may-charge : Chargeable set
   may-charge = record { few = count-most; board = rows-clear .board; range = rows-clear .range; tight = rows-clear .tight }
 
-  -- there are at most 64 loads
-  pub few-loads : length (loadsOfSet set) ≤ 64
+  -- there are at most mostTasks loads
+  pub few-loads : length (loadsOfSet set) ≤ mostTasks
   few-loads = omega (arith, loads-length set fits, count-most)
 
   -- they are sound
@@ -70,34 +70,35 @@ module _ (set : TaskSet) (full : length (set .tasks) ≡ 64) (clear : Clear set)
   unfolding setReserves setPlacement
   set-count = reserves-count (loadsOfSet set) (set .header .slot) (lossOf (set .header))
 
-  -- there are at most 64 servers
-  pub set-few : serversIn (setPlacement set) ≤ 64
+  -- there are at most mostTasks servers
+  pub set-few : serversIn (setPlacement set) ≤ mostTasks
   unfolding setPlacement
   set-few = count-few (loadsOfSet set) (set .header .slot) (lossOf (set .header)) few-loads sound slot-some slot-below
 
-  -- no more than 64 processors are needed
-  pub needed-few : needed set ≤ 64
+  -- no more processors than tasks are needed
+  pub needed-few : needed set ≤ mostTasks
   unfolding needed
   needed-few = omega (arith, processors-few (set .header .slot) (setReserves set) slot-some, set-count, set-few)
 
   -- the same of the plan's figure
-  pub made-servers : planMade set .servers ≤ 64
+  pub made-servers : planMade set .servers ≤ mostTasks
   unfolding planMade laidOut
   made-servers = omega (arith, set-count, set-few)
 
   module _ {m : Members} (e : m ≡ membersOf (loadsOfSet set)) where
-    -- the loads may be placed and sized
-    pub set-sized : Sized (m .costs) (m .deadlines) (m .periods) (m .count) (set .header .slot) (lossOf (set .header))
-    set-sized =
-        members-sized (loadsOfSet set) few-loads sound e slot-some (loss-small set (clear .carried)) (horizon-within set (rows-clear .horizon))
+    -- the loads may be placed and sized, by the set's horizon
+    pub set-sized : {H : ℕ} → H ≡ horizonOf set → Sized (m .costs) (m .deadlines) (m .periods) (m .count) (set .header .slot) (lossOf (set .header)) H
+    set-sized h =
+        members-sized (loadsOfSet set) few-loads sound e slot-some (omega (arith, loss-small set (clear .carried))) (h ∙ sym (horizon-of-loads set))
+        (omega (arith, h, horizon-short set (rows-clear .horizon)))
 
-    module _ {sv : Servers} (g : sv ≡ serversOf (held m) (set .header .slot) (lossOf (set .header))) where
+    module _ {sv : Servers} (g : sv ≡ serversOf (memberLoads m) (set .header .slot) (lossOf (set .header))) where
       -- and then laid out: that is the set's plan
       pub set-layable : Layable m sv (set .header .slot)
       set-layable = layable (loadsOfSet set) (set .header .slot) (lossOf (set .header)) few-loads sound slot-some slot-below e g
 
       -- its layout is the set's plan
-      pub set-laid : laidOut (set .header .slot) (held m) (take (m .count) (sv .server)) (take (sv .count) (sv .reserve)) ≡ planMade set
+      pub set-laid : laidOut (set .header .slot) (memberLoads m) (take (m .count) (sv .server)) (take (sv .count) (sv .reserve)) ≡ planMade set
       unfolding planMade setPlacement setReserves
       set-laid = laid-is (loadsOfSet set) (set .header .slot) (lossOf (set .header)) few-loads sound slot-some slot-below e g
 

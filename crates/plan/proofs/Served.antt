@@ -8,31 +8,32 @@ use lib.ListN.{length, take, getD}
 use lib.Seq.{getD-take}
 use Rattle.demand.specs.Load.{Load, Sound, Every}
 use Rattle.verdict.specs.Claims.{Asked}
-use Rattle.servers.specs.Row.{row}
-use Rattle.servers.specs.Members.{membersOf, held}
+use Rattle.tasks.specs.Set.{mostTasks}
+use Rattle.servers.specs.Padded.{padded}
+use Rattle.servers.specs.Members.{membersOf, memberLoads}
 use Rattle.servers.specs.Placement.{serversIn, placementOf}
 use Rattle.servers.specs.Reserve.{reservesOf, serversOf}
 use Rattle.servers.specs.declared.Servers.{Servers}
 use Rattle.servers.specs.declared.members.Members.{Members}
-use Rattle.servers.proofs.RowLaws.{row-length, row-take}
+use Rattle.servers.proofs.PaddedLaws.{padded-length, padded-take}
 use Rattle.servers.proofs.PlacementLaws.{placement-length}
-use Rattle.servers.proofs.ServerClaims.{servers-few}
-use Rattle.servers.proofs.ServedLaws.{reserves-count, reserves-range}
+use Rattle.servers.proofs.Claims.{servers-few}
+use Rattle.servers.proofs.ReserveLaws.{reserves-count, reserves-range}
 use Rattle.ring.specs.Slotted.{SlottedFirst}
 use Rattle.plan.specs.Plan.{laidOut}
 use Rattle.plan.specs.Layable.{Layable}
-use Rattle.rows.proofs.Clears.{members-count, members-held}
+use Rattle.rows.proofs.Clears.{members-count, members-loads}
 
-module _ (ls : List Load) (S L : ℕ) (few : length ls ≤ 64) (sound : Every Sound ls) (slot : 1 ≤ S) (small : S < 2 ^ 32) where
+module _ (ls : List Load) (S L : ℕ) (few : length ls ≤ mostTasks) (sound : Every Sound ls) (slot : 1 ≤ S) (small : S < 2 ^ 32) where
   asked : Asked ls S
   asked = record { sound = sound; slot = slot }
 
-  -- there are at most 64 servers
-  pub count-few : serversIn (placementOf ls S L) ≤ 64
+  -- there are at most mostTasks servers
+  pub count-few : serversIn (placementOf ls S L) ≤ mostTasks
   count-few = omega (arith, servers-few ls S L)
 
-  -- a row of 64 that begins with the reserves is laid
-  pub laid-by : (rs : List ℕ) (n : ℕ) → length rs ≡ 64 → n ≡ serversIn (placementOf ls S L) → take n rs ≡ reservesOf ls S L → SlottedFirst S rs n
+  -- places that begin with the reserves are laid
+  pub laid-by : (rs : List ℕ) (n : ℕ) → length rs ≡ mostTasks → n ≡ serversIn (placementOf ls S L) → take n rs ≡ reservesOf ls S L → SlottedFirst S rs n
   laid-by rs n full e t = record {
     there = omega (arith, full, e, count-few);
     few = omega (arith, e, count-few);
@@ -48,19 +49,19 @@ module _ (ls : List Load) (S L : ℕ) (few : length ls ≤ 64) (sound : Every So
       at : (i : ℕ) → i < n → getD rs i 0 ≡ getD (reservesOf ls S L) i 0
       at i h = sym (getD-take n rs i 0 h) ∙ ap (λ (l : List ℕ). getD l i 0) t
 
-  module _ {m : Members} (e : m ≡ membersOf ls) {sv : Servers} (g : sv ≡ serversOf (held m) S L) where
+  module _ {m : Members} (e : m ≡ membersOf ls) {sv : Servers} (g : sv ≡ serversOf (memberLoads m) S L) where
     served : sv ≡ serversOf ls S L
-    served = g ∙ ap (λ (k : List Load). serversOf k S L) (members-held ls few sound e)
+    served = g ∙ ap (λ (k : List Load). serversOf k S L) (members-loads ls few sound e)
 
     count-is : sv .count ≡ serversIn (placementOf ls S L)
     unfolding serversOf
     count-is = ap (λ (s : Servers). s .count) served
 
-    reserve-is : sv .reserve ≡ row (reservesOf ls S L)
+    reserve-is : sv .reserve ≡ padded (reservesOf ls S L)
     unfolding serversOf
     reserve-is = ap (λ (s : Servers). s .reserve) served
 
-    server-is : sv .server ≡ row (placementOf ls S L)
+    server-is : sv .server ≡ padded (placementOf ls S L)
     unfolding serversOf
     server-is = ap (λ (s : Servers). s .server) served
 
@@ -70,26 +71,26 @@ module _ (ls : List Load) (S L : ℕ) (few : length ls ≤ 64) (sound : Every So
     front-reserves : take (sv .count) (sv .reserve) ≡ reservesOf ls S L
     front-reserves =
         ap (λ (n : ℕ). take n (sv .reserve)) count-is ∙ ap (take (serversIn (placementOf ls S L))) reserve-is
-        ∙ row-take (reservesOf ls S L) (serversIn (placementOf ls S L)) (reserves-count ls S L)
+        ∙ padded-take (reservesOf ls S L) (serversIn (placementOf ls S L)) (reserves-count ls S L)
 
     front-servers : take (m .count) (sv .server) ≡ placementOf ls S L
     front-servers =
         ap (λ (n : ℕ). take n (sv .server)) tasks-is ∙ ap (take (length ls)) server-is
-        ∙ row-take (placementOf ls S L) (length ls) (placement-length ls S L)
+        ∙ padded-take (placementOf ls S L) (length ls) (placement-length ls S L)
 
     -- the answer can be laid out
     pub layable : Layable m sv S
     layable = record {
       tasks-few = omega (arith, tasks-is);
       servers-few = omega (arith, count-is, count-few);
-      laid = laid-by (sv .reserve) (sv .count) (ap length reserve-is ∙ row-length (reservesOf ls S L) (omega (arith, reserves-count ls S L, count-few))) count-is front-reserves;
-      reserve-room = ap row front-reserves ∙ sym reserve-is;
-      server-room = ap row front-servers ∙ sym server-is;
+      laid = laid-by (sv .reserve) (sv .count) (ap length reserve-is ∙ padded-length (reservesOf ls S L) (omega (arith, reserves-count ls S L, count-few))) count-is front-reserves;
+      reserve-room = ap padded front-reserves ∙ sym reserve-is;
+      server-room = ap padded front-servers ∙ sym server-is;
     }
 
     -- its layout is that of the placement and the reserves
-    pub laid-is : laidOut S (held m) (take (m .count) (sv .server)) (take (sv .count) (sv .reserve)) ≡ laidOut S ls (placementOf ls S L) (reservesOf ls S L)
+    pub laid-is : laidOut S (memberLoads m) (take (m .count) (sv .server)) (take (sv .count) (sv .reserve)) ≡ laidOut S ls (placementOf ls S L) (reservesOf ls S L)
     laid-is =
-        ap (λ (k : List Load). laidOut S k (take (m .count) (sv .server)) (take (sv .count) (sv .reserve))) (members-held ls few sound e)
+        ap (λ (k : List Load). laidOut S k (take (m .count) (sv .server)) (take (sv .count) (sv .reserve))) (members-loads ls few sound e)
         ∙ ap (λ (p : List ℕ). laidOut S ls p (take (sv .count) (sv .reserve))) front-servers
         ∙ ap (laidOut S ls (placementOf ls S L)) front-reserves

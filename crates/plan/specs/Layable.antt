@@ -3,14 +3,15 @@
 use Prim.Native.Nat.{ℕ, _≤_}
 use mathlib.Core.Path.{_≡_}
 use lib.ListN.{take}
-use Rattle.servers.specs.Row.{row}
+use Rattle.tasks.specs.Set.{mostTasks}
+use Rattle.servers.specs.Padded.{padded}
 use Rattle.servers.specs.declared.Servers.{Servers}
 use Rattle.servers.specs.declared.members.Members.{Members}
 use Rattle.ring.specs.Slotted.{SlottedFirst}
 
 pub record Layable (m : Members) (served : Servers) (S : ℕ) : Type 0 where
-  pub tasks-few : m .count ≤ 64
-  pub servers-few : served .count ≤ 64
+  pub tasks-few : m .count ≤ mostTasks
+  pub servers-few : served .count ≤ mostTasks
   pub laid : SlottedFirst S (served .reserve) (served .count)
-  pub reserve-room : row (take (served .count) (served .reserve)) ≡ served .reserve
-  pub server-room : row (take (m .count) (served .server)) ≡ served .server
+  pub reserve-room : padded (take (served .count) (served .reserve)) ≡ served .reserve
+  pub server-room : padded (take (m .count) (served .server)) ≡ served .server

@@ -8,16 +8,18 @@ use ring::reserves::whole_count;
 use servers::Servers;
 use servers::members::Members;
 use servers::members::gather;
+use tasks::set::TaskSet;
 ghost use mathlib.Core.Path.{_≡_};
 ghost use Prim.Native.Nat.{ℕ, _≤_};
 ghost use lib.ListN.{length, take};
-ghost use Rattle.servers.specs.Row.{row};
-ghost use Rattle.servers.specs.Members.{held};
+ghost use Rattle.tasks.specs.Set.{mostTasks};
+ghost use Rattle.servers.specs.Padded.{padded, upTo};
+ghost use Rattle.servers.specs.Members.{memberLoads};
 ghost use Rattle.servers.specs.Placement.{loadsIn};
 ghost use Rattle.ring.specs.Slotted.{SlottedFirst};
 ghost use Rattle.ring.specs.Reserves.{processorsOf};
 ghost use Rattle.ring.specs.Who.{firstReserve};
-ghost use Rattle.plan.specs.Plan.{upTo, ringStart, laidOut};
+ghost use Rattle.plan.specs.Plan.{ringStart, laidOut};
 ghost use Rattle.plan.specs.Layable.{Layable};
 
 // Where server q stands on the ring; 0 for a server that has a whole processor.
@@ -34,11 +36,11 @@ fn start_of(reserves: &[u64], n: usize, slot: u64, q: usize) -> u64
 }
 
 // The ring starts of all servers.
-fn starts(reserves: &[u64], n: usize, slot: u64) -> [u64; 64]
-    requires { ⌜ SlottedFirst slot (now reserves) n × (n ≤ 64) ⌝ }
-    ensures { λ r. ⌜ r ≡ row (upTo (ringStart slot (take n (now (reserves .entry)))) n) ⌝ }
+fn starts(reserves: &[u64], n: usize, slot: u64) -> [u64; TaskSet::MOST_TASKS]
+    requires { ⌜ SlottedFirst slot (now reserves) n × (n ≤ mostTasks) ⌝ }
+    ensures { λ r. ⌜ r ≡ padded (upTo (ringStart slot (take n (now (reserves .entry)))) n) ⌝ }
 {
-    let mut starts = [0u64; 64];
+    let mut starts = [0u64; TaskSet::MOST_TASKS];
     let mut i: usize = 0;
     while i < n {
         starts[i] = start_of(reserves, n, slot, i + 1);
@@ -48,9 +50,9 @@ fn starts(reserves: &[u64], n: usize, slot: u64) -> [u64; 64]
 }
 
 // How many tasks server q has.
-fn tasks_of(loads: Members, server: [u64; 64], q: u64) -> u64
-    requires { ⌜ loads .count ≤ 64 ⌝ }
-    ensures { λ r. ⌜ r ≡ length (loadsIn (held loads) (take (loads .count) server) q) ⌝ }
+fn tasks_of(loads: Members, server: [u64; TaskSet::MOST_TASKS], q: u64) -> u64
+    requires { ⌜ loads .count ≤ mostTasks ⌝ }
+    ensures { λ r. ⌜ r ≡ length (loadsIn (memberLoads loads) (take (loads .count) server) q) ⌝ }
 {
     let n = loads.count;
     let own = gather(
@@ -65,11 +67,15 @@ fn tasks_of(loads: Members, server: [u64; 64], q: u64) -> u64
 }
 
 // How many tasks each of the first n servers has.
-fn task_counts(loads: Members, server: [u64; 64], n: usize) -> [u64; 64]
-    requires { ⌜ (loads .count ≤ 64) × (n ≤ 64) ⌝ }
-    ensures { λ r. ⌜ r ≡ row (upTo (λ (q : ℕ). length (loadsIn (held loads) (take (loads .count) server) q)) n) ⌝ }
+fn task_counts(
+    loads: Members,
+    server: [u64; TaskSet::MOST_TASKS],
+    n: usize,
+) -> [u64; TaskSet::MOST_TASKS]
+    requires { ⌜ (loads .count ≤ mostTasks) × (n ≤ mostTasks) ⌝ }
+    ensures { λ r. ⌜ r ≡ padded (upTo (λ (q : ℕ). length (loadsIn (memberLoads loads) (take (loads .count) server) q)) n) ⌝ }
 {
-    let mut counts = [0u64; 64];
+    let mut counts = [0u64; TaskSet::MOST_TASKS];
     let mut i: usize = 0;
     while i < n {
         counts[i] = tasks_of(loads, server, i as u64 + 1);
@@ -80,17 +86,17 @@ fn task_counts(loads: Members, server: [u64; 64], n: usize) -> [u64; 64]
 
 // The first server and the first duration of each processor.
 pub struct Firsts {
-    pub server: [u64; 64],
-    pub duration: [u64; 64],
+    pub server: [u64; TaskSet::MOST_TASKS],
+    pub duration: [u64; TaskSet::MOST_TASKS],
 }
 
 fn first_reserves(reserves: &[u64], n: usize, slot: u64, processors: usize) -> Firsts
-    requires { ⌜ SlottedFirst slot (now reserves) n × (processors ≤ processorsOf slot (take n (now reserves))) × (processors ≤ 64) ⌝ }
-    ensures { λ r. ⌜ r .server ≡ row (upTo (λ (p : ℕ). firstReserve slot (take n (now (reserves .entry))) p .server) processors) ⌝ }
-    ensures { λ r. ⌜ r .duration ≡ row (upTo (λ (p : ℕ). firstReserve slot (take n (now (reserves .entry))) p .left) processors) ⌝ }
+    requires { ⌜ SlottedFirst slot (now reserves) n × (processors ≤ processorsOf slot (take n (now reserves))) × (processors ≤ mostTasks) ⌝ }
+    ensures { λ r. ⌜ r .server ≡ padded (upTo (λ (p : ℕ). firstReserve slot (take n (now (reserves .entry))) p .server) processors) ⌝ }
+    ensures { λ r. ⌜ r .duration ≡ padded (upTo (λ (p : ℕ). firstReserve slot (take n (now (reserves .entry))) p .left) processors) ⌝ }
 {
-    let mut server = [0u64; 64];
-    let mut duration = [0u64; 64];
+    let mut server = [0u64; TaskSet::MOST_TASKS];
+    let mut duration = [0u64; TaskSet::MOST_TASKS];
     let mut i: usize = 0;
     while i < processors {
         let stand = ring::who::first(reserves, n, slot, i as u64 + 1);
@@ -104,7 +110,7 @@ fn first_reserves(reserves: &[u64], n: usize, slot: u64, processors: usize) -> F
 // The plan of placed and sized loads.
 pub fn lay_out(loads: Members, served: Servers, slot: u64) -> Plan
     requires { ⌜ Layable loads served slot ⌝ }
-    ensures { λ r. ⌜ r ≡ laidOut slot (held loads) (take (loads .count) (served .server)) (take (served .count) (served .reserve)) ⌝ }
+    ensures { λ r. ⌜ r ≡ laidOut slot (memberLoads loads) (take (loads .count) (served .server)) (take (served .count) (served .reserve)) ⌝ }
 {
     let n = served.count as usize;
     let reserve = served.reserve;

@@ -1,5 +1,7 @@
 // The plan of a set: processors, servers with their reserves and ring starts, placement, first reserves.
-// Rows of 64 by server, by task in file order and by processor; unused room is zero in every answer.
+// Places by server, by task in file order and by processor, of which no more are needed than there are servers.
+// Unused room is zero in every answer.
+use tasks::set::TaskSet;
 ghost use mathlib.Core.Path.{_≡_};
 ghost use Rattle.plan.specs.Plan.{zeroPlan};
 
@@ -9,12 +11,12 @@ pub struct Plan {
     pub servers: u64,
     pub slot: u64,
     pub idle: u64,
-    pub reserve: [u64; 64],
-    pub start: [u64; 64],
-    pub tasks: [u64; 64],
-    pub server: [u64; 64],
-    pub first: [u64; 64],
-    pub duration: [u64; 64],
+    pub reserve: [u64; TaskSet::MOST_TASKS],
+    pub start: [u64; TaskSet::MOST_TASKS],
+    pub tasks: [u64; TaskSet::MOST_TASKS],
+    pub server: [u64; TaskSet::MOST_TASKS],
+    pub first: [u64; TaskSet::MOST_TASKS],
+    pub duration: [u64; TaskSet::MOST_TASKS],
 }
 
 impl Plan {
@@ -22,7 +24,7 @@ impl Plan {
     pub fn zero() -> Plan
         ensures { λ r. ⌜ r ≡ zeroPlan ⌝ }
     {
-        let none = [0u64; 64];
+        let none = [0u64; TaskSet::MOST_TASKS];
         Plan {
             whole: 0,
             ring: 0,

@@ -5,9 +5,11 @@ use crate::plan::Plan;
 use refusals::Outcome;
 use refusals::Refusal;
 use rows::charge;
+use rows::rows::Rows;
 use rows::rows::charged;
 use tasks::set::TaskSet;
 ghost use mathlib.Core.Path.{_≡_};
+ghost use Rattle.rows.specs.Rows.{horizonOf};
 ghost use Rattle.plan.specs.Plan.{planMade, zeroPlan};
 ghost use Rattle.plan.specs.Planner.{Clear, answer, planOf};
 
@@ -16,9 +18,9 @@ pub struct PlanAnswer {
     pub plan: Plan,
 }
 
-// The plan of a set for which row 11 and rows 5 to 9 are clear.
-fn lay(set: TaskSet) -> Plan
-    requires { ⌜ Clear set ⌝ }
+// The plan of a set for which row 11 and rows 5 to 9 are clear, by the horizon that row 9 found.
+fn lay(set: TaskSet, horizon: u64) -> Plan
+    requires { ⌜ Clear set × (horizon ≡ horizonOf set) ⌝ }
     ensures { λ r. ⌜ r ≡ planMade set ⌝ }
 {
     let header = set.header;
@@ -33,6 +35,7 @@ fn lay(set: TaskSet) -> Plan
         n,
         slot,
         loss,
+        horizon,
     );
     lay_out(loads, served, slot)
 }
@@ -46,18 +49,12 @@ fn refused(refusal: Refusal) -> PlanAnswer
     }
 }
 
-// Row 11 first; then rows 5 to 10, each over all tasks before the next.
-pub fn make(set: TaskSet) -> PlanAnswer
+// The plan of such a set, or row 10.
+fn planned(set: TaskSet, horizon: u64) -> PlanAnswer
+    requires { ⌜ Clear set × (horizon ≡ horizonOf set) ⌝ }
     ensures { λ r. ⌜ r ≡ planOf set ⌝ }
 {
-    if tasks::ask::asks(set) {
-        return refused(Refusal::Ask);
-    }
-    let outcome = charged(set);
-    if let Outcome::Refused(refusal) = outcome {
-        return refused(refusal);
-    }
-    let plan = lay(set);
+    let plan = lay(set, horizon);
     let processors = plan.ring + plan.whole;
     if (set.header.processors as u64) < processors {
         return refused(Refusal::Full(processors as u8));
@@ -65,5 +62,19 @@ pub fn make(set: TaskSet) -> PlanAnswer
     PlanAnswer {
         outcome: Outcome::Done,
         plan,
+    }
+}
+
+// Row 11 first; then rows 5 to 10, each over all tasks before the next.
+pub fn make(set: TaskSet) -> PlanAnswer
+    ensures { λ r. ⌜ r ≡ planOf set ⌝ }
+{
+    if tasks::ask::asks(set) {
+        return refused(Refusal::Ask);
+    }
+    let rows = charged(set);
+    match rows {
+        Rows::Refused(refusal) => refused(refusal),
+        Rows::Clear(horizon) => planned(set, horizon),
     }
 }

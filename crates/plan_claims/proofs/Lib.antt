@@ -1,3 +1,4 @@
-pub mod Exactly
+pub mod ExactLaws
 pub mod RoomLaws
-pub mod Promises
+pub mod CheckedLaws
+pub mod Claims

@@ -1,5 +1,5 @@
--- What is promised of planning, of the check of a plan and of the two questions, each promise as a type. Exactly, RoomLaws
--- and Promises of proofs/ prove them. Document 01, "Refusal numbers and their order" and "From tasks to servers to ring".
+-- What is promised of planning, of the check of a plan and of the two questions, each promise as a type. The proofs stand
+-- under the same names in proofs/Claims. Document 01, "Refusal numbers and their order" and "From tasks to servers to ring".
 use Prim.Native.Nat.{ℕ, _+_, _-_, _≤_, _<_}
 use mathlib.Core.Path.{_≡_}
 use mathlib.Core.Logic.{_↔_, _⊎_}
@@ -20,7 +20,7 @@ use Rattle.ring_claims.specs.Serves.{Serves}
 use Rattle.ring_claims.specs.Held.{later}
 use Rattle.tasks.specs.declared.set.Task.{Task}
 use Rattle.tasks.specs.declared.set.TaskSet.{TaskSet}
-use Rattle.tasks.specs.Set.{members, zeroTask}
+use Rattle.tasks.specs.Set.{mostTasks, members, zeroTask}
 use Rattle.tasks.specs.Rows.{boardRow, rangeRow, askRow}
 use Rattle.plan.specs.declared.plan.Plan.{Plan}
 use Rattle.plan.specs.declared.planner.PlanAnswer.{PlanAnswer}
@@ -151,14 +151,14 @@ pub record MakesOwn (set : TaskSet) : Type 0 where
   pub own : planOf set .outcome ≡ Done → makes set (planOf set .plan) ≡ true
   pub other : (plan : Plan) → makes set plan ≡ true → (planOf set .outcome ≡ Done) × SamePlan (set .count) plan (planOf set .plan)
 
--- ---- what an accepted plan is
+-- ---- what a checked plan is
 
--- what stands at place k, from 1, of a row
+-- what stands at place k, from 1
 abbrev pub at : List ℕ → ℕ → ℕ
-at row k = getD row (k - 1) 0
+at figures k = getD figures (k - 1) 0
 
 -- every task is in exactly one server, and no server is empty
-pub record Placed (set : TaskSet) (plan : Plan) : Type 0 where
+pub record PlacedOnce (set : TaskSet) (plan : Plan) : Type 0 where
   pub there : (k : ℕ) → 1 ≤ k → k ≤ set .count → (1 ≤ at (plan .server) k) × (at (plan .server) k ≤ plan .servers)
   pub none-empty : (q : ℕ) → 1 ≤ q → q ≤ plan .servers → (k : ℕ) × (1 ≤ k) × (k ≤ set .count) × (at (plan .server) k ≡ q)
 
@@ -170,20 +170,20 @@ pub record Reserved (set : TaskSet) (plan : Plan) : Type 0 where
       Smallest (loadsIn (loadsOfSet set) (take (set .count) (plan .server)) q) (set .header .slot) (lossOf (set .header)) (at (plan .reserve) q)
 
 -- the processors are those that the reserves need, and no more than the board has
-pub record Laid (set : TaskSet) (plan : Plan) : Type 0 where
+pub record OnBoard (set : TaskSet) (plan : Plan) : Type 0 where
   pub ring : plan .ring ≡ ringProcessors (set .header .slot) (take (plan .servers) (plan .reserve))
   pub whole : plan .whole ≡ wholes (set .header .slot) (take (plan .servers) (plan .reserve))
   pub within : plan .ring + plan .whole ≤ set .header .processors
 
-pub record AcceptedPlan (set : TaskSet) (plan : Plan) : Type 0 where
-  pub placed : Placed set plan
+pub record CheckedPlan (set : TaskSet) (plan : Plan) : Type 0 where
+  pub placed : PlacedOnce set plan
   pub reserved : Reserved set plan
-  pub laid : Laid set plan
+  pub on-board : OnBoard set plan
 
--- A plan that the planner gives, or that is handed in and checked, is all of this. A set has room for 64 tasks, by its type.
-abbrev pub Accepted : Type 0
-Accepted =
-    (set : TaskSet) (plan : Plan) → length (set .tasks) ≡ 64 → makes set plan ≡ true → AcceptedPlan set plan
+-- A plan that the planner gives, or that is handed in and checked, is all of this. A set has room for mostTasks tasks, by its type.
+abbrev pub PlanChecked : Type 0
+PlanChecked =
+    (set : TaskSet) (plan : Plan) → length (set .tasks) ≡ mostTasks → makes set plan ≡ true → CheckedPlan set plan
 
 -- ---- what the questions answer
 
@@ -198,7 +198,7 @@ pub record WhoTells (set : TaskSet) (plan : Plan) (p : ℕ) (x : Tick) : Type 0 
 
 abbrev pub WhoAnswers : Type 0
 WhoAnswers =
-    (set : TaskSet) (plan : Plan) (p : ℕ) (x : Tick) → length (set .tasks) ≡ 64 → makes set plan ≡ true → isProcessor plan p ≡ true →
+    (set : TaskSet) (plan : Plan) (p : ℕ) (x : Tick) → length (set .tasks) ≡ mostTasks → makes set plan ≡ true → isProcessor plan p ≡ true →
     WhoTells set plan p x
 
 -- does it pass: yes with three zeros exactly when demand never exceeds supply; no exactly with the smallest failing length,
@@ -212,7 +212,7 @@ pub record PassTells (set : TaskSet) (plan : Plan) (q R : ℕ) : Type 0 where
 
 abbrev pub PassAnswers : Type 0
 PassAnswers =
-    (set : TaskSet) (plan : Plan) (q R : ℕ) → length (set .tasks) ≡ 64 → makes set plan ≡ true → isServer plan q ≡ true →
+    (set : TaskSet) (plan : Plan) (q R : ℕ) → length (set .tasks) ≡ mostTasks → makes set plan ≡ true → isServer plan q ≡ true →
     allowed (set .header .slot) (lossOf (set .header)) R ≡ true → PassTells set plan q R
 
 -- Both answer 11, and zeros, where the plan is not the planner's of the set, or what is named is not there or not allowed.

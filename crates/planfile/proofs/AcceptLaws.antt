@@ -17,8 +17,8 @@ use Rattle.tasks.specs.Rows.{boardRow}
 use Rattle.tasks.proofs.Carried.{ask-count, count-within}
 use Rattle.servers.specs.Placement.{placementOf, serversIn}
 use Rattle.servers.specs.Reserve.{reservesOf}
-use Rattle.servers.proofs.ReserveLaws.{reserves-length}
-use Rattle.servers.proofs.ServerClaims.{servers-few}
+use Rattle.servers.proofs.ReserveLaws.{reserves-count}
+use Rattle.servers.proofs.Claims.{servers-few}
 use Rattle.plan.specs.declared.plan.Plan.{Plan}
 use Rattle.plan.specs.declared.planner.PlanAnswer.{PlanAnswer}
 use Rattle.rows.specs.Charge.{loadOf, loadsOfSet, lossOf}
@@ -54,12 +54,11 @@ module _ (set : TaskSet) (done : planOutcome set ≡ Done) where
   loads-few = omega (arith, length-map (members set) (loadOf (set .header)), length-take (set .count) (set .tasks), min-le-left (set .count) (length (set .tasks)), tasks-few)
 
   pub servers-few-made : planMade set .servers ≤ 64
-  unfolding planMade laidOut setReserves reservesOf
+  unfolding planMade laidOut setReserves
   servers-few-made =
       let S = set .header .slot in
       let L = lossOf (set .header) in
-      let placement = placementOf (loadsOfSet set) S L in
-      omega (arith, reserves-length (loadsOfSet set) S L placement (serversIn placement), servers-few (loadsOfSet set) S L, loads-few)
+      omega (arith, reserves-count (loadsOfSet set) S L, servers-few (loadsOfSet set) S L, loads-few)
 
   -- the plan that the planner makes has room for what it counts
   pub made-counted : Counted set (planMade set)

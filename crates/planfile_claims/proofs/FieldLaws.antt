@@ -18,7 +18,7 @@ use Rattle.tasks.specs.declared.set.Header.{Header}
 use Rattle.tasks.specs.declared.set.TaskSet.{TaskSet}
 use Rattle.tasks.specs.Rows.{headerOverflows}
 use Rattle.tasks.proofs.Carried.{ask-header}
-use Rattle.servers.specs.Row.{row}
+use Rattle.servers.specs.Padded.{padded, upTo}
 use Rattle.servers.specs.Placement.{loadsIn}
 use Rattle.servers.proofs.LoadLaws.{in-few}
 use Rattle.ring.specs.Reserves.{reserveOf, wholes, startOf, ringProcessors, ringLength, processorsOf}
@@ -30,20 +30,20 @@ use Rattle.ring.proofs.WhoLaws.{first-whole}
 use Rattle.ring_claims.proofs.OwnLaws.{whole-at}
 use Rattle.plan.specs.declared.plan.Plan.{Plan}
 use Rattle.rows.specs.Charge.{loadsOfSet}
-use Rattle.plan.specs.Plan.{planMade, laidOut, setPlacement, setReserves, upTo, ringStart}
+use Rattle.plan.specs.Plan.{planMade, laidOut, setPlacement, setReserves, ringStart}
 use Rattle.plan.specs.Planner.{Clear}
 use Rattle.questions.specs.Agrees.{makes, SamePlan}
 use Rattle.questions.proofs.AgreeLaws.{agree-same}
 use Rattle.questions.proofs.Checked.{OfSet, of-set, makes-agrees}
 use Rattle.plan.proofs.Made.{set-count, slot-some, few-loads}
-use Rattle.plan_claims.proofs.Promises.{accepted}
-use Rattle.plan.proofs.UpTo.{up-length, up-at}
+use Rattle.plan_claims.proofs.Claims.{plan-checked}
+use Rattle.servers.proofs.PaddedLaws.{up-length, up-at}
 use Rattle.plantext.specs.Fit.{Counted}
 use Rattle.planfile_claims.specs.Claims.{FitFields}
 use Rattle.planfile.proofs.AcceptLaws.{makes-counted}
 
 -- what stands at a used place of a row of such numbers
-row-up : (f : ℕ → ℕ) (n i : ℕ) → i < n → getD (row (upTo f n)) i 0 ≡ f (i + 1)
+row-up : (f : ℕ → ℕ) (n i : ℕ) → i < n → getD (padded (upTo f n)) i 0 ≡ f (i + 1)
 row-up f n i h = List·getD-append (upTo f n) _ 0 i (omega (arith, up-length f n)) ∙ up-at f n i h
 
 -- fronts that are equal have the same figure at each place
@@ -119,7 +119,7 @@ module _ (set : TaskSet) (plan : Plan) (full : length (set .tasks) ≡ 64) (m : 
     unfolding S
     reserve-most =
         subst (λ (k : ℕ). getD (plan .reserve) k 0 ≤ set .header .slot) (add-sub-cancel i 1)
-        (⊎-elim (λ w. omega arith) (λ w. omega arith) (accepted set plan full m .reserved .smallest (i + 1) (omega arith) (omega arith) .allowed))
+        (⊎-elim (λ w. omega arith) (λ w. omega arith) (plan-checked set plan full m .reserved .smallest (i + 1) (omega arith) (omega arith) .allowed))
 
     start-at : getD (plan .start) i 0 ≡ ringStart S rs (i + 1)
     unfolding planMade laidOut S rs
@@ -147,7 +147,7 @@ module _ (set : TaskSet) (plan : Plan) (full : length (set .tasks) ≡ 64) (m : 
   server-most : (i : ℕ) → i < set .count → getD (plan .server) i 0 ≤ 64
   server-most i h =
       subst (λ (k : ℕ). getD (plan .server) k 0 ≤ 64) (add-sub-cancel i 1)
-      (omega (arith, accepted set plan full m .placed .there (i + 1) (omega arith) (omega arith) .1, counted .servers))
+      (omega (arith, plan-checked set plan full m .placed .there (i + 1) (omega arith) (omega arith) .1, counted .servers))
 
   -- a first reserve names a server that is there, for at most a slot
   first-most : (p : ℕ) → 1 ≤ p → p ≤ processorsOf S rs → (firstReserve S rs p .server ≤ length rs) × (firstReserve S rs p .left ≤ S)

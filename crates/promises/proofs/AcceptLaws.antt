@@ -14,8 +14,8 @@ use Rattle.servers.specs.Placement.{serversIn, placementOf}
 use Rattle.servers.specs.Reserve.{reservesOf}
 use Rattle.servers.proofs.LoadLaws.{every-in, in-some}
 use Rattle.servers.proofs.PlacementLaws.{placement-length}
-use Rattle.servers.proofs.ServedLaws.{reserves-count, reserves-range}
-use Rattle.servers.proofs.ServerClaims.{each-in-one, smallest-reserves}
+use Rattle.servers.proofs.ReserveLaws.{reserves-count, reserves-range}
+use Rattle.servers.proofs.Claims.{each-in-one, smallest-reserves}
 use Rattle.ring_claims.specs.Slotted.{Slotted}
 use Rattle.ring.specs.Reserves.{reserveOf}
 use Rattle.ring_claims.specs.Serves.{RingServer, WholeProcessor}

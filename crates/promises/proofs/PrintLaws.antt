@@ -9,30 +9,29 @@ use native.Mathlib.Omega.{arith}
 use borrow.Author.Tests.{lt-ltb}
 use lib.ListN.{length, getD, take}
 use lib.Seq.{getD-take}
-use Rattle.servers.specs.Row.{row}
-use Rattle.servers.proofs.RowLaws.{row-take}
+use Rattle.servers.specs.Padded.{padded, upTo}
+use Rattle.servers.proofs.PaddedLaws.{padded-take, up-length, up-at}
 use Rattle.ring.specs.Reserves.{reserveOf, startOf, processorsOf}
 use Rattle.ring.specs.Who.{firstReserve}
 use Rattle.ring_claims.specs.Serves.{RingServer}
 use Rattle.tasks.specs.declared.set.TaskSet.{TaskSet}
 use Rattle.plan.specs.declared.plan.Plan.{Plan}
-use Rattle.plan.specs.Plan.{upTo, ringStart, laidOut, setReserves, planMade}
+use Rattle.plan.specs.Plan.{ringStart, laidOut, setReserves, planMade}
 use Rattle.questions.specs.Agrees.{makes, SamePlan}
 use Rattle.plan.proofs.Made.{plan-outcome}
-use Rattle.plan.proofs.UpTo.{up-length, up-at}
 use Rattle.questions.proofs.Checked.{OfSet, of-set, same-made, makes-done}
 use Rattle.promises.specs.Accepted.{PrintsRota, slotOf}
 use Rattle.promises.specs.Promises.{PlanIsRota}
 
 module _ (f : ℕ → ℕ) where
   -- a row whose used part is that of another, filled so, has f q at place q − 1
-  pub printed : (a b : List ℕ) (n m : ℕ) → n ≡ m → b ≡ row (upTo f m) → take n a ≡ take m b → (q : ℕ) → 1 ≤ q → q ≤ m → getD a (q - 1) 0 ≡ f q
+  pub printed : (a b : List ℕ) (n m : ℕ) → n ≡ m → b ≡ padded (upTo f m) → take n a ≡ take m b → (q : ℕ) → 1 ≤ q → q ≤ m → getD a (q - 1) 0 ≡ f q
   printed a b n m e g same zero h l = absurd (omega arith)
   printed a b n m e g same (suc i) h l =
       let p : suc i - 1 ≡ i = omega arith in
       ap (λ (k : ℕ). getD a k 0) p
       ∙ sym (getD-take n a i 0 (omega arith))
-      ∙ ap (λ (ns : List ℕ). getD ns i 0) (same ∙ ap (take m) g ∙ row-take (upTo f m) m (up-length f m))
+      ∙ ap (λ (ns : List ℕ). getD ns i 0) (same ∙ ap (take m) g ∙ padded-take (upTo f m) m (up-length f m))
       ∙ up-at f m i l ∙ ap f (add-one i)
 
 module _ (set : TaskSet) (plan : Plan) (full : length (set .tasks) ≡ 64) (e : makes set plan ≡ true) where

@@ -8,13 +8,14 @@ use native.Mathlib.Omega.{arith}
 use borrow.Author.Tests.{leb-true}
 use lib.Dec.{leb}
 use lib.ListN.{length, take}
+use Rattle.tasks.specs.Set.{mostTasks}
 use Rattle.laws.proofs.Tests.{and-left, and-right, true-false}
 use Rattle.refusals.specs.declared.Refusal.{Refusal}
 use Rattle.refusals.specs.declared.Outcome.{Outcome}
 use Rattle.refusals.specs.declared.Outcome.the-variants.{Done, Refused}
-use Rattle.servers.specs.Row.{row}
+use Rattle.servers.specs.Padded.{padded}
 use Rattle.servers.specs.Placement.{serversIn}
-use Rattle.servers.proofs.RowLaws.{row-take}
+use Rattle.servers.proofs.PaddedLaws.{padded-take}
 use Rattle.servers.proofs.PlacementLaws.{placement-length}
 use Rattle.ring.specs.Slotted.{SlottedFirst}
 use Rattle.ring.specs.declared.clock.Tick.{Tick}
@@ -65,7 +66,7 @@ pub record OfSet (set : TaskSet) (plan : Plan) : Type 0 where
   pub reserves : take (plan .servers) (plan .reserve) ≡ setReserves set
   pub placement : take (set .count) (plan .server) ≡ setPlacement set
 
-module _ (set : TaskSet) (full : length (set .tasks) ≡ 64) (plan : Plan) where
+module _ (set : TaskSet) (full : length (set .tasks) ≡ mostTasks) (plan : Plan) where
   made-slot : planMade set .slot ≡ set .header .slot
   unfolding planMade laidOut
   made-slot = refl
@@ -74,11 +75,11 @@ module _ (set : TaskSet) (full : length (set .tasks) ≡ 64) (plan : Plan) where
   unfolding planMade laidOut
   made-count = refl
 
-  made-reserve : planMade set .reserve ≡ row (setReserves set)
+  made-reserve : planMade set .reserve ≡ padded (setReserves set)
   unfolding planMade laidOut
   made-reserve = refl
 
-  made-server : planMade set .server ≡ row (setPlacement set)
+  made-server : planMade set .server ≡ padded (setPlacement set)
   unfolding planMade laidOut
   made-server = refl
 
@@ -102,19 +103,19 @@ module _ (set : TaskSet) (full : length (set .tasks) ≡ 64) (plan : Plan) where
       slot = same-made .slot ∙ made-slot;
       processors = ap (λ (n : ℕ). n + plan .whole) (same-made .ring) ∙ ap (λ (n : ℕ). planMade set .ring + n) (same-made .whole) ∙ made-needs set;
       servers = same-made .servers ∙ made-count ∙ set-count set full clear-set;
-      reserves = same-made .reserve ∙ ap (take (planMade set .servers)) made-reserve ∙ row-take (setReserves set) (planMade set .servers) (sym made-count);
-      placement = same-made .server ∙ ap (take (set .count)) made-server ∙ row-take (setPlacement set) (set .count) (placement-count clear-set);
+      reserves = same-made .reserve ∙ ap (take (planMade set .servers)) made-reserve ∙ padded-take (setReserves set) (planMade set .servers) (sym made-count);
+      placement = same-made .server ∙ ap (take (set .count)) made-server ∙ padded-take (setPlacement set) (set .count) (placement-count clear-set);
     }
 
     -- its reserves are laid, and a processor that is there may be asked
-    laid-in : length (plan .reserve) ≡ 64 → SlottedFirst (set .header .slot) (plan .reserve) (plan .servers)
+    laid-in : length (plan .reserve) ≡ mostTasks → SlottedFirst (set .header .slot) (plan .reserve) (plan .servers)
     unfolding setPlacement setReserves
     laid-in room =
         laid-by (loadsOfSet set) (set .header .slot) (lossOf (set .header)) (few-loads set full clear-set) (sound set full clear-set)
         (slot-some set full clear-set) (slot-below set full clear-set) (plan .reserve) (plan .servers) room (of-set .servers) (of-set .reserves)
 
     -- a processor that is there may be asked
-    pub standing : length (plan .reserve) ≡ 64 → (p : ℕ) → isProcessor plan p ≡ true → Standing plan p
+    pub standing : length (plan .reserve) ≡ mostTasks → (p : ℕ) → isProcessor plan p ≡ true → Standing plan p
     unfolding isProcessor needed
     standing room p t = record {
       laid = subst (λ (S : ℕ). SlottedFirst S (plan .reserve) (plan .servers)) (sym (of-set .slot)) (laid-in room);

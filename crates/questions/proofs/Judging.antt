@@ -9,24 +9,25 @@ use native.Mathlib.Omega.{arith}
 use borrow.Author.Tests.{leb-true, eqb-true}
 use lib.Dec.{leb, eqb}
 use lib.ListN.{length, take}
+use Rattle.tasks.specs.Set.{mostTasks}
 use Rattle.laws.proofs.Tests.{and-left, and-right}
 use Rattle.demand.specs.Load.{Load}
 use Rattle.demand.specs.Supply.{Allowed}
-use Rattle.verdict.specs.Verdict.{ownHorizon}
-use Rattle.servers.specs.Members.{membersOf, held, Sized}
+use Rattle.servers.specs.Members.{membersOf, memberLoads, Sized}
 use Rattle.servers.specs.Placement.{loadsIn}
 use Rattle.servers.specs.declared.members.Members.{Members}
-use Rattle.servers.proofs.MemberLaws.{held-members}
+use Rattle.servers.proofs.MemberLaws.{members-back}
 use Rattle.servers.proofs.LoadLaws.{every-in, in-few}
 use Rattle.servers.proofs.PartLaws.{Fine, all-fine, holds-sized}
 use Rattle.tasks.specs.declared.set.TaskSet.{TaskSet}
 use Rattle.plan.specs.declared.plan.Plan.{Plan}
 use Rattle.rows.specs.Charge.{loadsOfSet, lossOf}
+use Rattle.rows.specs.Rows.{horizonOf}
 use Rattle.plan.specs.Plan.{setPlacement}
 use Rattle.plan.specs.Planner.{Clear}
 use Rattle.questions.specs.Agrees.{makes}
 use Rattle.questions.specs.Question.{allowed}
-use Rattle.rows.proofs.Clears.{loads-length, members-count, members-held}
+use Rattle.rows.proofs.Clears.{loads-length, members-count, members-loads}
 use Rattle.plan.proofs.Made.{fits, few-loads, sound, set-sized}
 use Rattle.questions.proofs.Checked.{of-set}
 
@@ -47,32 +48,32 @@ module _ (S L R : ℕ) where
   unfolding allowed
   allowed-is e = by-ring (enters && parts) refl e
 
-module _ (set : TaskSet) (full : length (set .tasks) ≡ 64) (plan : Plan) (e : makes set plan ≡ true) {m : Members} (h : m ≡ membersOf (loadsOfSet set)) (q : ℕ)
-    {own : Members} (g : own ≡ membersOf (loadsIn (held m) (take (m .count) (plan .server)) q)) where
+module _ (set : TaskSet) (full : length (set .tasks) ≡ mostTasks) (plan : Plan) (e : makes set plan ≡ true) {m : Members} (h : m ≡ membersOf (loadsOfSet set)) (q : ℕ)
+    {own : Members} (g : own ≡ membersOf (loadsIn (memberLoads m) (take (m .count) (plan .server)) q)) where
   clear : Clear set
   clear = of-set set full plan e .clear
 
-  same-loads : held m ≡ loadsOfSet set
-  same-loads = members-held (loadsOfSet set) (few-loads set full clear) (sound set full clear) h
+  same-loads : memberLoads m ≡ loadsOfSet set
+  same-loads = members-loads (loadsOfSet set) (few-loads set full clear) (sound set full clear) h
 
   same-count : m .count ≡ set .count
   same-count = members-count (loadsOfSet set) (few-loads set full clear) (sound set full clear) h ∙ loads-length set (fits set full clear)
 
   -- the server's loads may be tested
-  pub own-sized : Sized (own .costs) (own .deadlines) (own .periods) (own .count) (set .header .slot) (lossOf (set .header))
-  own-sized =
-      let file = set-sized set full clear h in
+  pub own-sized : {H : ℕ} → H ≡ horizonOf set → Sized (own .costs) (own .deadlines) (own .periods) (own .count) (set .header .slot) (lossOf (set .header)) H
+  own-sized {H} k =
+      let file = set-sized set full clear h k in
       holds-sized file
       (record {
         is = g;
-        few = omega (arith, in-few (held m) (take (m .count) (plan .server)) q, ap length same-loads, few-loads set full clear);
-        fine = every-in (Fine (ownHorizon (set .header .slot) (held m))) (held m) (take (m .count) (plan .server)) q (all-fine file);
+        few = omega (arith, in-few (memberLoads m) (take (m .count) (plan .server)) q, ap length same-loads, few-loads set full clear);
+        fine = every-in (Fine H) (memberLoads m) (take (m .count) (plan .server)) q (all-fine file);
       })
 
   -- they are those that the set's placement gives the server
-  pub own-loads : held own ≡ loadsIn (loadsOfSet set) (setPlacement set) q
+  pub own-loads : memberLoads own ≡ loadsIn (loadsOfSet set) (setPlacement set) q
   own-loads =
-      ap held g ∙ held-members (loadsIn (held m) (take (m .count) (plan .server)) q)
+      ap memberLoads g ∙ members-back (loadsIn (memberLoads m) (take (m .count) (plan .server)) q)
       ∙ ap (λ (ls : List Load). loadsIn ls (take (m .count) (plan .server)) q) same-loads
       ∙ ap (λ (n : ℕ). loadsIn (loadsOfSet set) (take n (plan .server)) q) same-count
       ∙ ap (λ (p : List ℕ). loadsIn (loadsOfSet set) p q) (of-set set full plan e .placement)

@@ -1,9 +1,10 @@
 -- The two questions about a set and its plan: who runs on a processor at a tick, and does a server pass with a reserve.
 -- Document 01, "From tasks to servers to ring" and row 11 of the refusals.
 use Prim.Native.Nat.{ℕ, _+_, _≤_}
-use mathlib.Core.Bool.{Bool, true, false, _&&_, _||_}
+use mathlib.Core.Bool.{Bool, cond, _&&_, _||_}
 use lib.Dec.{leb, eqb}
 use lib.ListN.{take}
+use Rattle.refusals.specs.declared.Refusal.{Refusal}
 use Rattle.refusals.specs.declared.Refusal.the-variants.{Ask}
 use Rattle.refusals.specs.declared.Outcome.the-variants.{Done, Refused}
 use Rattle.verdict.specs.declared.answer.Verdict.{Verdict}
@@ -40,9 +41,12 @@ pub record Standing (plan : Plan) (p : ℕ) : Type 0 where
   pub from-one : 1 ≤ p
   pub there : p ≤ processorsOf (plan .slot) (take (plan .servers) (plan .reserve))
 
-abbrev pub pickWho : Bool → WhoAnswer → WhoAnswer
-pickWho true a = a
-pickWho false a = record { outcome = Refused Ask; server = 0; left = 0 }
+-- a refused question has zeros
+abbrev pub refusedWho : Refusal → WhoAnswer
+refusedWho r = record { outcome = Refused r; server = 0; left = 0 }
+
+abbrev pub refusedPass : Refusal → PassAnswer
+refusedPass r = record { outcome = Refused r; verdict = Yes (record { length = 0; demand = 0; supply = 0 }) }
 
 abbrev pub whoAnswer : Stand → WhoAnswer
 whoAnswer stand = record { outcome = Done; server = stand .server; left = stand .left }
@@ -50,15 +54,15 @@ whoAnswer stand = record { outcome = Done; server = stand .server; left = stand 
 -- who runs on processor p at tick x: the server (0 for idle) and the ticks left, this one included
 unfoldable pub whoRuns : TaskSet → Plan → (p : ℕ) → Tick → WhoAnswer
 whoRuns set plan p x =
-    pickWho (makes set plan && isProcessor plan p) (whoAnswer (whoOf (set .header .slot) (setReserves set) p x))
+    cond (makes set plan && isProcessor plan p) (whoAnswer (whoOf (set .header .slot) (setReserves set) p x)) (refusedWho Ask)
 
-abbrev pub pickPass : Bool → Verdict → PassAnswer
-pickPass true v = record { outcome = Done; verdict = v }
-pickPass false v = record { outcome = Refused Ask; verdict = Yes (record { length = 0; demand = 0; supply = 0 }) }
+abbrev pub passAnswer : Verdict → PassAnswer
+passAnswer verdict = record { outcome = Done; verdict = verdict }
 
 -- does server q pass with R
 unfoldable pub doesPass : TaskSet → Plan → (q R : ℕ) → PassAnswer
 doesPass set plan q R =
-    pickPass
+    cond
     (makes set plan && (isServer plan q && allowed (set .header .slot) (lossOf (set .header)) R))
-    (verdictOf (loadsIn (loadsOfSet set) (setPlacement set) q) (set .header .slot) (lossOf (set .header)) R)
+    (passAnswer (verdictOf (loadsIn (loadsOfSet set) (setPlacement set) q) (set .header .slot) (lossOf (set .header)) R))
+    (refusedPass Ask)

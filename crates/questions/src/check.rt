@@ -7,6 +7,7 @@ use tasks::set::TaskSet;
 ghost use mathlib.Core.Path.{_≡_};
 ghost use Prim.Native.Nat.{_+_, _≤_};
 ghost use lib.ListN.{length};
+ghost use Rattle.tasks.specs.Set.{mostTasks};
 ghost use Rattle.questions.specs.Agrees.{sameFront, sameFigures, sameServers, sameProcessors, agrees, makes};
 
 fn same_front<'a>(a: &'a [u64], b: &'a [u64], n: usize) -> bool
@@ -42,7 +43,7 @@ fn same_figures(a: Plan, b: Plan) -> bool
 }
 
 fn same_servers(a: Plan, b: Plan) -> bool
-    requires { ⌜ b .servers ≤ 64 ⌝ }
+    requires { ⌜ b .servers ≤ mostTasks ⌝ }
     ensures { λ r. ⌜ r ≡ sameServers a b ⌝ }
 {
     let n = b.servers as usize;
@@ -56,7 +57,7 @@ fn same_servers(a: Plan, b: Plan) -> bool
 }
 
 fn same_processors(a: Plan, b: Plan) -> bool
-    requires { ⌜ b .ring + b .whole ≤ 64 ⌝ }
+    requires { ⌜ b .ring + b .whole ≤ mostTasks ⌝ }
     ensures { λ r. ⌜ r ≡ sameProcessors a b ⌝ }
 {
     let n = (b.ring + b.whole) as usize;
@@ -68,7 +69,7 @@ fn same_processors(a: Plan, b: Plan) -> bool
 
 // The plans of so many tasks agree.
 fn agree(tasks: usize, a: Plan, b: Plan) -> bool
-    requires { ⌜ (tasks ≤ 64) × (b .servers ≤ 64) × (b .ring + b .whole ≤ 64) ⌝ }
+    requires { ⌜ (tasks ≤ mostTasks) × (b .servers ≤ mostTasks) × (b .ring + b .whole ≤ mostTasks) ⌝ }
     ensures { λ r. ⌜ r ≡ agrees tasks a b ⌝ }
 {
     if !same_figures(a, b) {

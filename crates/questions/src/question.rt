@@ -1,5 +1,5 @@
 // The two questions about a set and its plan: who runs on a processor at a tick, and does a server pass with a reserve.
-// What they mean stands in specs/Question.antt. Under each a function for a plan that is checked already.
+// What they mean stands in specs/Question.antt. Before each stands the function for a plan that is checked already.
 use crate::check::makes_plan;
 use plan::plan::Plan;
 use refusals::Outcome;
@@ -7,6 +7,7 @@ use refusals::Refusal;
 use ring::clock::Tick;
 use ring::cover::Stand;
 use rows::charge;
+use rows::rows::horizon;
 use servers::members::gather;
 use servers::members::own_horizon;
 use tasks::set::TaskSet;
@@ -15,6 +16,7 @@ use verdict::answer::Verdict;
 ghost use mathlib.Core.Path.{_≡_};
 ghost use mathlib.Core.Bool.{true};
 ghost use lib.ListN.{take};
+ghost use Rattle.tasks.specs.Set.{mostTasks};
 ghost use Rattle.ring.specs.Who.{whoOf};
 ghost use Rattle.servers.specs.Placement.{loadsIn};
 ghost use Rattle.verdict.specs.Verdict.{verdictOf};
@@ -22,7 +24,7 @@ ghost use Rattle.rows.specs.Charge.{loadsOfSet, lossOf};
 ghost use Rattle.plan.specs.Plan.{setPlacement, setReserves};
 ghost use Rattle.questions.specs.Agrees.{makes};
 ghost use Prim.Native.Nat.{_+_, _≤_};
-ghost use Rattle.questions.specs.Question.{isProcessor, isServer, allowed, whoRuns, doesPass, Standing};
+ghost use Rattle.questions.specs.Question.{isProcessor, isServer, allowed, refusedWho, refusedPass, whoRuns, doesPass, Standing};
 
 pub struct WhoAnswer {
     pub outcome: Outcome,
@@ -38,7 +40,7 @@ pub struct PassAnswer {
 
 // The processors that are there are 1 to r + whole.
 pub fn is_processor(plan: Plan, processor: u64) -> bool
-    requires { ⌜ plan .ring + plan .whole ≤ 64 ⌝ }
+    requires { ⌜ plan .ring + plan .whole ≤ mostTasks ⌝ }
     ensures { λ r. ⌜ r ≡ isProcessor plan processor ⌝ }
 {
     if processor < 1 {
@@ -56,25 +58,39 @@ pub fn who_stands(plan: Plan, processor: u64, tick: Tick) -> Stand
     ring::who::who(&plan.reserve, n, plan.slot, processor, tick)
 }
 
-pub fn who(set: TaskSet, plan: Plan, processor: u64, tick: Tick) -> WhoAnswer
-    ensures { λ r. ⌜ r ≡ whoRuns set plan processor tick ⌝ }
+pub fn refused_who(refusal: Refusal) -> WhoAnswer
+    ensures { λ r. ⌜ r ≡ refusedWho refusal ⌝ }
 {
-    let refused = WhoAnswer {
-        outcome: Outcome::Refused(Refusal::Ask),
+    WhoAnswer {
+        outcome: Outcome::Refused(refusal),
         server: 0,
         left: 0,
-    };
-    if !makes_plan(set, plan) {
-        return refused;
     }
+}
+
+// Who runs, by a plan that is checked already.
+pub fn who_made(set: TaskSet, plan: Plan, processor: u64, tick: Tick) -> WhoAnswer
+    requires { ⌜ makes set plan ≡ true ⌝ }
+    ensures { λ r. ⌜ r ≡ whoRuns set plan processor tick ⌝ }
+{
     if !is_processor(plan, processor) {
-        return refused;
+        return refused_who(Refusal::Ask);
     }
     let stand = who_stands(plan, processor, tick);
     WhoAnswer {
         outcome: Outcome::Done,
         server: stand.server,
         left: stand.left,
+    }
+}
+
+pub fn who(set: TaskSet, plan: Plan, processor: u64, tick: Tick) -> WhoAnswer
+    ensures { λ r. ⌜ r ≡ whoRuns set plan processor tick ⌝ }
+{
+    if makes_plan(set, plan) {
+        who_made(set, plan, processor, tick)
+    } else {
+        refused_who(Refusal::Ask)
     }
 }
 
@@ -105,6 +121,7 @@ pub fn pass_judged(set: TaskSet, plan: Plan, server: u64, reserve: u64) -> Verdi
     requires { ⌜ (makes set plan ≡ true) × (allowed (set .header .slot) (lossOf (set .header)) reserve ≡ true) ⌝ }
     ensures { λ r. ⌜ r ≡ verdictOf (loadsIn (loadsOfSet set) (setPlacement set) server) (set .header .slot) (lossOf (set .header)) reserve ⌝ }
 {
+    let common = horizon(set);
     let header = set.header;
     let slot = header.slot as u64;
     let loads = charge::loads(set);
@@ -117,7 +134,7 @@ pub fn pass_judged(set: TaskSet, plan: Plan, server: u64, reserve: u64) -> Verdi
         n,
         server,
     );
-    let horizon = own_horizon(own, slot);
+    let own_common = own_horizon(own, slot, common);
     let k = own.count;
     let loss = charge::loss(header);
     verdict::judge::verdict(
@@ -128,33 +145,47 @@ pub fn pass_judged(set: TaskSet, plan: Plan, server: u64, reserve: u64) -> Verdi
         slot,
         loss,
         reserve,
-        horizon,
+        own_common,
     )
 }
 
-pub fn pass(set: TaskSet, plan: Plan, server: u64, reserve: u64) -> PassAnswer
-    ensures { λ r. ⌜ r ≡ doesPass set plan server reserve ⌝ }
+pub fn refused_pass(refusal: Refusal) -> PassAnswer
+    ensures { λ r. ⌜ r ≡ refusedPass refusal ⌝ }
 {
-    let refused = PassAnswer {
-        outcome: Outcome::Refused(Refusal::Ask),
+    PassAnswer {
+        outcome: Outcome::Refused(refusal),
         verdict: Verdict::Yes(Reading {
             length: 0,
             demand: 0,
             supply: 0,
         }),
-    };
-    if !makes_plan(set, plan) {
-        return refused;
     }
+}
+
+// Does a server pass, by a plan that is checked already.
+pub fn pass_made(set: TaskSet, plan: Plan, server: u64, reserve: u64) -> PassAnswer
+    requires { ⌜ makes set plan ≡ true ⌝ }
+    ensures { λ r. ⌜ r ≡ doesPass set plan server reserve ⌝ }
+{
     if !is_server(plan, server) {
-        return refused;
+        return refused_pass(Refusal::Ask);
     }
     let header = set.header;
     if !is_allowed(header.slot as u64, charge::loss(header), reserve) {
-        return refused;
+        return refused_pass(Refusal::Ask);
     }
     PassAnswer {
         outcome: Outcome::Done,
         verdict: pass_judged(set, plan, server, reserve),
+    }
+}
+
+pub fn pass(set: TaskSet, plan: Plan, server: u64, reserve: u64) -> PassAnswer
+    ensures { λ r. ⌜ r ≡ doesPass set plan server reserve ⌝ }
+{
+    if makes_plan(set, plan) {
+        pass_made(set, plan, server, reserve)
+    } else {
+        refused_pass(Refusal::Ask)
     }
 }

@@ -17,7 +17,7 @@ use Rattle.servers.proofs.MemberLaws.{members-more}
 use Rattle.tasks.specs.declared.set.Header.{Header}
 use Rattle.tasks.specs.declared.set.Task.{Task}
 use Rattle.tasks.specs.declared.set.TaskSet.{TaskSet}
-use Rattle.tasks.specs.Set.{members, zeroTask}
+use Rattle.tasks.specs.Set.{mostTasks, members, zeroTask}
 use Rattle.tasks.proofs.FirstLaws.{first-none}
 use Rattle.tasks.proofs.SetLaws.{members-length, member-at}
 use Rattle.rows.specs.Charge.{loadOf}
@@ -47,10 +47,10 @@ set-early set fits ok i l =
 -- ---- one task more
 
 -- the struct of the loads so far, with the next task's load
-pub loads-next : (h : Header) (ts : List Task) (i : ℕ) → i < length ts → i < 64 →
+pub loads-next : (h : Header) (ts : List Task) (i : ℕ) → i < length ts → i < mostTasks →
     withLoad (membersOf (map (loadOf h) (take i ts))) (loadOf h (getD ts i zeroTask)) ≡ membersOf (map (loadOf h) (take (i + 1) ts))
 loads-next h ts i l few =
-    let short : length (map (loadOf h) (take i ts)) < 64 =
+    let short : length (map (loadOf h) (take i ts)) < mostTasks =
     rw (length-map (take i ts) (loadOf h), length-take-le i ts (omega arith)) few
     in
     members-more (map (loadOf h) (take i ts)) (loadOf h (getD ts i zeroTask)) short
@@ -64,7 +64,7 @@ module _ (h : Header) (ts : List Task) (i : ℕ) {m : Members} (e : m ≡ member
   loads-count l = ap (λ (n : Members). n .count) e ∙ length-map (take i ts) (loadOf h) ∙ length-take-le i ts l
 
   -- the next task's figures, charged
-  pub loads-step : {cost due : ℕ} → i < length ts → i < 64 → cost ≡ loadOf h (getD ts i zeroTask) .cost →
+  pub loads-step : {cost due : ℕ} → i < length ts → i < mostTasks → cost ≡ loadOf h (getD ts i zeroTask) .cost →
       due ≡ loadOf h (getD ts i zeroTask) .deadline →
       withLoad m (record { cost = cost; deadline = due; period = getD ts i zeroTask .period }) ≡ membersOf (map (loadOf h) (take (i + 1) ts))
   unfolding loadOf

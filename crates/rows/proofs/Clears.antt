@@ -8,21 +8,26 @@ use native.Mathlib.Omega.{arith}
 use borrow.Author.Tests.{leb-true, leb-false, ltb-false, lt-ltb, le-ltb, eqb-false, not-false}
 use lib.Dec.{leb, eqb}
 use lib.ListN.{length, take, getD, length-map}
-use Rattle.laws.proofs.Tests.{and-left, and-right, or-left, or-right}
+use Rattle.laws.proofs.Tests.{clash, and-left, and-right, or-left, or-right}
+use Rattle.refusals.specs.declared.Refusal.{Refusal}
 use Rattle.refusals.specs.declared.Refusal.the-variants.{Board, Range, Slot, Tight, Horizon}
 use Rattle.refusals.specs.declared.Outcome.{Outcome}
 use Rattle.refusals.specs.declared.Outcome.the-variants.{Done, Refused}
+use Rattle.refusals.proofs.FirstLaws.{done-refused, first-done, when-done}
 use Rattle.wholes.specs.Multiple.{leastMultipleOf, Positive, within}
 use Rattle.wholes.specs.declared.Multiple.the-variants.{Within, Past}
 use Rattle.wholes.proofs.WithinLaws.{within-value, past-value}
 use Rattle.demand.specs.Charging.{effectiveCost, effectiveDeadline, entryLoss}
 use Rattle.demand.specs.Load.{Load, Sound, Every, Loaded, loadAt}
 use Rattle.demand.proofs.Demand.{every-at}
-use Rattle.servers.specs.Row.{row}
-use Rattle.servers.specs.Members.{membersOf, held, Sized}
+use Rattle.verdict.specs.Verdict.{ownHorizon}
+use Rattle.verdict.proofs.Verdict.{own-horizon}
+use Rattle.servers.specs.Padded.{padded}
+use Rattle.servers.specs.Members.{membersOf, memberLoads, Sized}
 use Rattle.servers.specs.declared.members.Members.{Members}
-use Rattle.servers.proofs.RowLaws.{row-length, row-take}
-use Rattle.servers.proofs.MemberLaws.{held-members}
+use Rattle.servers.proofs.PaddedLaws.{padded-length, padded-take}
+use Rattle.servers.proofs.MemberLaws.{members-back}
+use Rattle.servers.proofs.PartLaws.{slot-divides}
 use Rattle.tasks.specs.declared.set.Header.{Header}
 use Rattle.tasks.specs.declared.set.Task.{Task}
 use Rattle.tasks.specs.declared.set.TaskSet.{TaskSet}
@@ -33,8 +38,9 @@ use Rattle.tasks.proofs.FirstLaws.{first-none}
 use Rattle.tasks.proofs.SetLaws.{members-length}
 use Rattle.tasks.proofs.Firsts.{at-some}
 use Rattle.rows.specs.Charge.{loadOf, loadsOfSet, lossOf}
-use Rattle.rows.specs.Rows.{slotRow, tightRow, horizonOf, horizonRow, chargedOutcome, Chargeable, RowsClear}
-use Rattle.rows.proofs.Outcomes.{first-done, when-done, at-done}
+use Rattle.rows.specs.declared.rows.Rows.{Rows}
+use Rattle.rows.specs.declared.rows.Rows.the-variants.{Clear}
+use Rattle.rows.specs.Rows.{slotRow, tightRow, horizonOf, horizonRow, longestHorizon, chargedOutcome, cleared, rowsOf, Chargeable, RowsClear}
 use Rattle.rows.proofs.Charges.{tight-meets}
 
 -- ---- a header and a task
@@ -89,6 +95,11 @@ every-by P f (t ∷ ts) p = (p zero (omega arith), every-by P f ts (λ i l. p (s
 
 -- ---- the rows of a set
 
+-- no task is named where nothing is given
+pub at-done : (r : ℕ → Refusal) (n : ℕ) → atTask r n ≡ Done → n ≡ 0
+at-done r zero e = refl
+at-done r (suc n) e = done-refused (sym e)
+
 module _ (set : TaskSet) where
   abbrev slot-first : ℕ
   slot-first = firstTask (slotRow (set .header)) (members set)
@@ -115,33 +126,50 @@ module _ (set : TaskSet) where
       record { few = few; board = p .0; range = p .1; tight = t }
 
   -- rows 5 to 9, by the first that holds
-  pub charged-figures : {o : Outcome} → o ≡ figuresOutcome set → (o ≡ Done → ⊥) → o ≡ chargedOutcome set
-  unfolding chargedOutcome
-  charged-figures {o} e ne = kept o ne ∙ ap (λ (p : Outcome). firstOf p (firstOf (atTask Slot slot-first) after-slot)) e
-    where
-      kept : (q : Outcome) → (q ≡ Done → ⊥) → q ≡ firstOf q (firstOf (atTask Slot slot-first) after-slot)
-      kept Done f = absurd (f refl)
-      kept (Refused r) f = refl
+  pub charged-figures : {r : Refusal} → figuresOutcome set ≡ Refused r → Rows.Refused r ≡ rowsOf set
+  unfolding rowsOf chargedOutcome
+  charged-figures e = rw e
 
   module _ (e : figuresOutcome set ≡ Done) where
-    pub charged-slot : {n : ℕ} → n ≡ slot-first → (n ≡ 0 → ⊥) → Refused (Slot n) ≡ chargedOutcome set
-    unfolding chargedOutcome
+    pub charged-slot : {n : ℕ} → n ≡ slot-first → (n ≡ 0 → ⊥) → Rows.Refused (Slot n) ≡ rowsOf set
+    unfolding rowsOf chargedOutcome
     charged-slot {n} p ne = rw (e, ← p, at-some Slot n ne)
 
     module _ (s : slot-first ≡ 0) where
-      pub charged-tight : {n : ℕ} → n ≡ tight-first → (n ≡ 0 → ⊥) → Refused (Tight n) ≡ chargedOutcome set
-      unfolding chargedOutcome
+      pub charged-tight : {n : ℕ} → n ≡ tight-first → (n ≡ 0 → ⊥) → Rows.Refused (Tight n) ≡ rowsOf set
+      unfolding rowsOf chargedOutcome
       charged-tight {n} p ne = rw (e, s, ← p, at-some Tight n ne)
 
       module _ (t : tight-first ≡ 0) where
-        pub charged-horizon : horizonRow set ≡ true → Refused Horizon ≡ chargedOutcome set
-        unfolding chargedOutcome
-        charged-horizon h = rw (e, s, t, h)
+        -- row 9 by the search for the horizon
+        pub charged-past : within longestHorizon (horizonOf set) ≡ Past → Rows.Refused Horizon ≡ rowsOf set
+        unfolding rowsOf chargedOutcome horizonRow
+        charged-past p = rw (e, s, t, lt-ltb longestHorizon (horizonOf set) (past-value longestHorizon (horizonOf set) p))
 
         -- none of them holds
-        pub charged-none : horizonRow set ≡ false → Done ≡ chargedOutcome set
-        unfolding chargedOutcome
-        charged-none h = rw (e, s, t, h)
+        pub charged-found : {H : ℕ} → within longestHorizon (horizonOf set) ≡ Within H → Clear H ≡ rowsOf set
+        unfolding rowsOf chargedOutcome horizonRow
+        charged-found {H} p =
+            let w = within-value longestHorizon (horizonOf set) H p in
+            rw (e, s, t, le-ltb longestHorizon (horizonOf set) (w .1), w .0)
+
+  -- the rows are clear: none is given, and the horizon is the set's
+  pub rows-clear : {H : ℕ} → rowsOf set ≡ Clear H → (chargedOutcome set ≡ Done) × (H ≡ horizonOf set)
+  unfolding rowsOf
+  rows-clear {H} e = by (chargedOutcome set) e
+    where
+      by : (o : Outcome) → cleared o (horizonOf set) ≡ Clear H → (o ≡ Done) × (H ≡ horizonOf set)
+      by Done p = (refl, cc)
+      by (Refused r) p = clash (cc)
+
+  -- the rows refuse as the first of them that holds
+  pub rows-refused : {r : Refusal} → rowsOf set ≡ Rows.Refused r → chargedOutcome set ≡ Refused r
+  unfolding rowsOf
+  rows-refused {r} e = by (chargedOutcome set) e
+    where
+      by : (o : Outcome) → cleared o (horizonOf set) ≡ Rows.Refused r → o ≡ Refused r
+      by Done p = clash (cc)
+      by (Refused s) p = cc
 
   -- rows 5 to 9 are clear where none of them is given
   pub charged-clear : chargedOutcome set ≡ Done → RowsClear set
@@ -179,25 +207,15 @@ module _ (set : TaskSet) where
   same-periods [] = refl
   same-periods (t ∷ ts) = ap (λ (ns : List ℕ). t .period ∷ ns) (same-periods ts)
 
-  -- the horizon is the multiple of the slot and the loads' periods
-  pub horizon-of-loads : leastMultipleOf (set .header .slot) (map (λ (l : Load). l .period) (loadsOfSet set)) ≡ horizonOf set
-  unfolding horizonOf loadsOfSet
+  -- the horizon is that of the loads
+  pub horizon-of-loads : ownHorizon (set .header .slot) (loadsOfSet set) ≡ horizonOf set
+  unfolding ownHorizon horizonOf loadsOfSet
   horizon-of-loads = ap (leastMultipleOf (set .header .slot)) (same-periods (members set))
 
-  -- row 9 clear: it is within the limit
-  pub horizon-within : horizonRow set ≡ false → leastMultipleOf (set .header .slot) (map (λ (l : Load). l .period) (loadsOfSet set)) ≤ 10000000
+  -- row 9 clear: it is at most the limit
+  pub horizon-short : horizonRow set ≡ false → horizonOf set ≤ longestHorizon
   unfolding horizonRow
-  horizon-within e = rw (horizon-of-loads) (ltb-false 10000000 (horizonOf set) e)
-
-  -- row 9 by the multiple that was found, or by none
-  pub horizon-found : (n : ℕ) → within 10000000 (horizonOf set) ≡ Within n → false ≡ horizonRow set
-  unfolding horizonRow
-  horizon-found n e = sym (le-ltb 10000000 (horizonOf set) (within-value 10000000 (horizonOf set) n e .1))
-
-  -- no multiple within the limit: row 9 holds
-  pub horizon-past : within 10000000 (horizonOf set) ≡ Past → true ≡ horizonRow set
-  unfolding horizonRow
-  horizon-past e = sym (lt-ltb 10000000 (horizonOf set) (past-value 10000000 (horizonOf set) e))
+  horizon-short e = ltb-false longestHorizon (horizonOf set) e
 
   -- ---- row 11: the entry loss and the slot of a set that lines can carry
 
@@ -248,9 +266,9 @@ module _ (set : TaskSet) where
 
 -- ---- the struct of sound loads
 
-module _ (ls : List Load) (few : length ls ≤ 64) (sound : Every Sound ls) where
-  there : (f : Load → ℕ) → length ls ≤ length (row (map f ls))
-  there f = omega (arith, length-map ls f, row-length (map f ls) (rw (length-map ls f) few))
+module _ (ls : List Load) (few : length ls ≤ mostTasks) (sound : Every Sound ls) where
+  there : (f : Load → ℕ) → length ls ≤ length (padded (map f ls))
+  there f = omega (arith, length-map ls f, padded-length (map f ls) (rw (length-map ls f) few))
 
   made-loaded : Loaded (membersOf ls .costs) (membersOf ls .deadlines) (membersOf ls .periods) (membersOf ls .count)
   unfolding membersOf
@@ -259,7 +277,7 @@ module _ (ls : List Load) (few : length ls ≤ 64) (sound : Every Sound ls) wher
     deadlines-there = there (λ (l : Load). l .deadline);
     periods-there = there (λ (l : Load). l .period);
     few = omega arith;
-    sound = rw (held-members ls) sound;
+    sound = rw (members-back ls) sound;
   }
 
   module _ {m : Members} (e : m ≡ membersOf ls) where
@@ -272,8 +290,8 @@ module _ (ls : List Load) (few : length ls ≤ 64) (sound : Every Sound ls) wher
     members-count = ap (λ (k : Members). k .count) e
 
     -- and those loads
-    pub members-held : held m ≡ ls
-    members-held = ap held e ∙ held-members ls
+    pub members-loads : memberLoads m ≡ ls
+    members-loads = ap memberLoads e ∙ members-back ls
 
     -- the periods are at least 1
     pub members-positive : {S : ℕ} → 1 ≤ S → Positive S (m .periods) (m .count)
@@ -286,23 +304,24 @@ module _ (ls : List Load) (few : length ls ≤ 64) (sound : Every Sound ls) wher
     }
 
     -- they may be placed and sized
-    pub members-sized : {S L : ℕ} → 1 ≤ S → L ≤ 131070 → leastMultipleOf S (map (λ (l : Load). l .period) ls) ≤ 10000000 →
-        Sized (m .costs) (m .deadlines) (m .periods) (m .count) S L
-    members-sized s l h = record {
+    pub members-sized : {S L H : ℕ} → 1 ≤ S → L < 2 ^ 48 → H ≡ ownHorizon S ls → H < 2 ^ 48 → Sized (m .costs) (m .deadlines) (m .periods) (m .count) S L H
+    members-sized {S} {L} {H} s l h small = record {
       bounded = record {
         loaded = members-loaded;
         few = omega (arith, members-count);
         slot = s;
-        horizon = rw (members-held) h;
+        of-slot = rw h (slot-divides ls S);
+        horizon = rw (members-loads, h) (own-horizon ls S (record { sound = sound; slot = s }));
       };
-      loss = l;
+      loss-small = l;
+      horizon-small = small;
     }
 
 -- the first loads of the struct have the set's horizon
 pub horizon-taken : (set : TaskSet) {m : Members} → m ≡ membersOf (loadsOfSet set) →
     leastMultipleOf (set .header .slot) (take (m .count) (m .periods)) ≡ horizonOf set
-unfolding membersOf
+unfolding membersOf ownHorizon
 horizon-taken set {m} e =
     ap (λ (k : Members). leastMultipleOf (set .header .slot) (take (k .count) (k .periods))) e
-    ∙ ap (leastMultipleOf (set .header .slot)) (row-take (map (λ (l : Load). l .period) (loadsOfSet set)) (length (loadsOfSet set)) (length-map (loadsOfSet set) (λ (l : Load). l .period)))
+    ∙ ap (leastMultipleOf (set .header .slot)) (padded-take (map (λ (l : Load). l .period) (loadsOfSet set)) (length (loadsOfSet set)) (length-map (loadsOfSet set) (λ (l : Load). l .period)))
     ∙ horizon-of-loads set

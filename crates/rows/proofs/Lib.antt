@@ -1,4 +1,3 @@
-pub mod Outcomes
 pub mod Searches
 pub mod Charges
 pub mod Clears

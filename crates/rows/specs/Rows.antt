@@ -7,6 +7,7 @@ use mathlib.Core.Bool.{Bool, false, _||_}
 use lib.Dec.{leb, ltb}
 use Rattle.refusals.specs.declared.Refusal.the-variants.{Slot, Tight, Horizon}
 use Rattle.refusals.specs.declared.Outcome.{Outcome}
+use Rattle.refusals.specs.declared.Outcome.the-variants.{Done}
 use Rattle.wholes.specs.Multiple.{leastMultipleOf}
 use Rattle.tasks.specs.declared.set.Header.{Header}
 use Rattle.tasks.specs.declared.set.Task.{Task}
@@ -14,6 +15,8 @@ use Rattle.tasks.specs.declared.set.TaskSet.{TaskSet}
 use Rattle.tasks.specs.Set.{mostTasks, members}
 use Rattle.refusals.specs.First.{firstOf, when}
 use Rattle.tasks.specs.Rows.{firstTask, atTask, boardRow, rangeRow, figuresOutcome}
+use Rattle.rows.specs.declared.rows.Rows.{Rows}
+use Rattle.rows.specs.declared.rows.Rows.the-variants.{Clear}
 use Rattle.rows.specs.Charge.{loadOf}
 
 -- 7 SLOT: a task has D < S
@@ -43,7 +46,16 @@ chargedOutcome set =
     (firstOf (atTask Slot (firstTask (slotRow (set .header)) (members set)))
     (firstOf (atTask Tight (firstTask (tightRow (set .header)) (members set))) (when (horizonRow set) Horizon)))
 
--- what charging a set and its horizon ask: at most 64 tasks, and rows 5, 6 and 8 clear
+-- what the rows say of a set, and the horizon where they are clear
+abbrev pub cleared : Outcome → (H : ℕ) → Rows
+cleared Done H = Clear H
+cleared (Outcome.Refused r) H = Rows.Refused r
+
+-- rows 5 to 9: refused by the first that holds, else clear with the horizon
+unfoldable pub rowsOf : TaskSet → Rows
+rowsOf set = cleared (chargedOutcome set) (horizonOf set)
+
+-- what charging a set and its horizon ask: few tasks, and rows 5, 6 and 8 clear
 pub record Chargeable (set : TaskSet) : Type 0 where
   pub few : set .count ≤ mostTasks
   pub board : boardRow (set .header) ≡ false

@@ -42,7 +42,7 @@ pub fn loads(set: TaskSet) -> Members
 {
     let header = set.header;
     let count = set.count;
-    let none = [0u64; 64];
+    let none = [0u64; TaskSet::MOST_TASKS];
     let mut members = Members {
         count: 0,
         costs: none,

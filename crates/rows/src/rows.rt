@@ -1,4 +1,4 @@
-// Rows 7 to 9 of the refusals over a set, each over all tasks, and rows 5 to 9 in order.
+// Rows 7 to 9 of the refusals over a set, each over all tasks, and rows 5 to 9 in order, with the horizon that row 9 finds.
 // What they mean stands in specs/Rows.antt.
 use crate::charge;
 use refusals::Outcome;
@@ -8,10 +8,12 @@ use tasks::set::Task;
 use tasks::set::TaskSet;
 use wholes::Multiple;
 ghost use mathlib.Core.Path.{_≡_};
+ghost use mathlib.Core.Bool.{false};
 ghost use Prim.Native.Nat.{_≤_};
+ghost use Rattle.wholes.specs.Multiple.{within};
 ghost use Rattle.tasks.specs.Set.{members, mostTasks};
 ghost use Rattle.tasks.specs.Rows.{firstTask};
-ghost use Rattle.rows.specs.Rows.{slotRow, tightRow, horizonRow, chargedOutcome, Chargeable};
+ghost use Rattle.rows.specs.Rows.{slotRow, tightRow, horizonOf, horizonRow, longestHorizon, rowsOf, Chargeable};
 
 // 7 SLOT.
 fn breaks_slot(header: Header, task: Task) -> bool
@@ -67,40 +69,54 @@ fn first_tight(set: TaskSet) -> usize
     0
 }
 
-// 9 HORIZON.
-fn breaks_horizon(set: TaskSet) -> bool
+// The horizon of a set, or none where it is past the limit.
+fn horizon_within(set: TaskSet) -> Multiple
     requires { ⌜ Chargeable set ⌝ }
-    ensures { λ r. ⌜ r ≡ horizonRow set ⌝ }
+    ensures { λ r. ⌜ r ≡ within longestHorizon (horizonOf set) ⌝ }
 {
     let slot = set.header.slot as u64;
     let loads = charge::loads(set);
     let n = loads.count;
-    let horizon = wholes::least_multiple_of(slot, &loads.periods, n, TaskSet::LONGEST_HORIZON);
-    match horizon {
-        Multiple::Within(_) => false,
-        Multiple::Past => true,
-    }
+    wholes::least_multiple_of(slot, &loads.periods, n, TaskSet::LONGEST_HORIZON)
+}
+
+// The horizon of a set for which row 9 is clear.
+pub fn horizon(set: TaskSet) -> u64
+    requires { ⌜ Chargeable set × (horizonRow set ≡ false) ⌝ }
+    ensures { λ r. ⌜ r ≡ horizonOf set ⌝ }
+{
+    let Multiple::Within(horizon) = horizon_within(set) else {
+        return 0;
+    };
+    horizon
+}
+
+// What rows 5 to 9 say of a set: refused by one of them, or clear, with the horizon that row 9 found.
+pub enum Rows {
+    Clear(u64),
+    Refused(Refusal),
 }
 
 // Rows 5 to 9, the first that holds.
-pub fn charged(set: TaskSet) -> Outcome
+pub fn charged(set: TaskSet) -> Rows
     requires { ⌜ set .count ≤ mostTasks ⌝ }
-    ensures { λ r. ⌜ r ≡ chargedOutcome set ⌝ }
+    ensures { λ r. ⌜ r ≡ rowsOf set ⌝ }
 {
-    let figures = tasks::rows::figures(set);
-    let Outcome::Done = figures else {
-        return figures;
-    };
+    let outcome = tasks::rows::figures(set);
+    if let Outcome::Refused(refusal) = outcome {
+        return Rows::Refused(refusal);
+    }
     let early = first_slot(set);
     if early != 0 {
-        return Outcome::Refused(Refusal::Slot(early as u8));
+        return Rows::Refused(Refusal::Slot(early as u8));
     }
     let tight = first_tight(set);
     if tight != 0 {
-        return Outcome::Refused(Refusal::Tight(tight as u8));
+        return Rows::Refused(Refusal::Tight(tight as u8));
     }
-    if breaks_horizon(set) {
-        return Outcome::Refused(Refusal::Horizon);
+    let found = horizon_within(set);
+    match found {
+        Multiple::Within(horizon) => Rows::Clear(horizon),
+        Multiple::Past => Rows::Refused(Refusal::Horizon),
     }
-    Outcome::Done
 }

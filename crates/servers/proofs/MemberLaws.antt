@@ -1,4 +1,4 @@
--- Laws of the struct that holds a server's loads: what it holds, one load more, and its horizon by the row of periods.
+-- Laws of the struct that holds a server's loads: what it holds, one load more, and that its periods are at least 1.
 use Prim.Native.Nat.{ℕ, zero, suc, _<_}
 use native.Mathlib.Omega.{arith}
 use mathlib.Core.Path.{_≡_, refl, sym, ap, _∙_}
@@ -7,9 +7,10 @@ use lib.ListN.{length, set, length-append, length-map}
 use Rattle.wholes.specs.Multiple.{Positive}
 use Rattle.demand.specs.Load.{Load, Sound, loadAt, loadsOf}
 use Rattle.demand.proofs.Demand.{every-at}
-use Rattle.servers.specs.Row.{row}
-use Rattle.servers.specs.Members.{membersOf, held, withLoad, Bounded}
-use Rattle.servers.proofs.RowLaws.{row-more}
+use Rattle.tasks.specs.Set.{mostTasks}
+use Rattle.servers.specs.Padded.{padded}
+use Rattle.servers.specs.Members.{membersOf, memberLoads, withLoad, Bounded}
+use Rattle.servers.proofs.PaddedLaws.{padded-more}
 
 -- ---- three slices
 
@@ -33,25 +34,25 @@ loads-laid (l ∷ ls) us vs ws =
 -- ---- the struct
 
 -- a struct made of loads holds them
-pub held-members : (ls : List Load) → held (membersOf ls) ≡ ls
+pub members-back : (ls : List Load) → memberLoads (membersOf ls) ≡ ls
 unfolding membersOf
-held-members ls = loads-laid ls _ _ _
+members-back ls = loads-laid ls _ _ _
 
--- one figure more in a row of figures
-figure-more : (f : Load → ℕ) (ls : List Load) (l : Load) → length ls < 64 → set (row (map f ls)) (length ls) (f l) ≡ row (map f (ls ++ (l ∷ [])))
+-- one figure more
+figure-more : (f : Load → ℕ) (ls : List Load) (l : Load) → length ls < mostTasks → set (padded (map f ls)) (length ls) (f l) ≡ padded (map f (ls ++ (l ∷ [])))
 figure-more f ls l h =
-    ap (λ (n : ℕ). set (row (map f ls)) n (f l)) (sym (length-map ls f)) ∙
-    row-more (map f ls) (f l) (rw (length-map ls f) h) ∙
-    ap row (sym (map-append f ls (l ∷ [])))
+    ap (λ (n : ℕ). set (padded (map f ls)) n (f l)) (sym (length-map ls f)) ∙
+    padded-more (map f ls) (f l) (rw (length-map ls f) h) ∙
+    ap padded (sym (map-append f ls (l ∷ [])))
 
 -- a struct with one load more holds one load more
-pub members-more : (ls : List Load) (l : Load) → length ls < 64 → withLoad (membersOf ls) l ≡ membersOf (ls ++ (l ∷ []))
+pub members-more : (ls : List Load) (l : Load) → length ls < mostTasks → withLoad (membersOf ls) l ≡ membersOf (ls ++ (l ∷ []))
 unfolding membersOf
 members-more ls l h =
     rw (figure-more (λ (l : Load). l .cost) ls l h, figure-more (λ (l : Load). l .deadline) ls l h, figure-more (λ (l : Load). l .period) ls l h, length-append ls (l ∷ []))
 
 -- every period is at least 1
-pub bounded-positive : {costs deadlines periods : List ℕ} {n S : ℕ} → Bounded costs deadlines periods n S → Positive S periods n
+pub bounded-positive : {costs deadlines periods : List ℕ} {n S H : ℕ} → Bounded costs deadlines periods n S H → Positive S periods n
 bounded-positive {costs} {deadlines} {periods} {n} b =
     record {
       there = b .loaded .periods-there;

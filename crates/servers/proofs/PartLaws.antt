@@ -1,4 +1,4 @@
--- A part of a file's loads, as one server has it: it is sound, and its horizon divides the file's.
+-- A part of a file's loads, as one server has it: it is sound, and what the file's periods divide, its periods divide.
 -- So whatever is asked of the file's loads for placing and sizing holds of the struct that holds such a part.
 use Prim.Native.Nat.{ℕ, zero, suc, _≤_, _<_, _∣_}
 use native.Mathlib.Omega.{arith}
@@ -13,12 +13,13 @@ use Rattle.demand.proofs.Demand.{loads-length, every-snoc, every-first, every-a
 use Rattle.verdict.specs.Verdict.{ownHorizon, Horizon, Testable}
 use Rattle.verdict.specs.Claims.{Asked}
 use Rattle.verdict.proofs.Verdict.{own-horizon}
-use Rattle.servers.specs.Row.{row}
-use Rattle.servers.specs.Members.{membersOf, held, withLoad, Bounded, Sized}
+use Rattle.tasks.specs.Set.{mostTasks}
+use Rattle.servers.specs.Padded.{padded}
+use Rattle.servers.specs.Members.{membersOf, memberLoads, withLoad, Bounded, Sized}
 use Rattle.servers.specs.Placement.{loadsIn}
 use Rattle.servers.specs.declared.members.Members.{Members}
-use Rattle.servers.proofs.RowLaws.{row-length}
-use Rattle.servers.proofs.MemberLaws.{held-members, members-more}
+use Rattle.servers.proofs.PaddedLaws.{padded-length}
+use Rattle.servers.proofs.MemberLaws.{members-back, members-more}
 use Rattle.servers.proofs.LoadLaws.{every-in, in-few}
 
 -- two things that hold of every load hold together
@@ -58,37 +59,24 @@ abbrev pub Fine : ℕ → Load → Type 0
 Fine H l = Sound l × (l .period ∣ H)
 
 -- the loads may be asked about
-pub asked : {costs deadlines periods : List ℕ} {n S : ℕ} → Bounded costs deadlines periods n S → Asked (loadsOf costs deadlines periods n) S
+pub asked : {costs deadlines periods : List ℕ} {n S H : ℕ} → Bounded costs deadlines periods n S H → Asked (loadsOf costs deadlines periods n) S
 asked b = record { sound = b .loaded .sound; slot = b .slot }
 
-module _ {costs deadlines periods : List ℕ} {n S L : ℕ} (file : Sized costs deadlines periods n S L) where
-  -- the file's horizon
-  abbrev H : ℕ
-  H = ownHorizon S (loadsOf costs deadlines periods n)
+-- the loads' own horizon is within H
+pub own-within : {costs deadlines periods : List ℕ} {n S H : ℕ} → Bounded costs deadlines periods n S H → ownHorizon S (loadsOf costs deadlines periods n) ≤ H
+own-within {costs} {deadlines} {periods} {n} {S} {H} b =
+    le-of-dvd (b .horizon .some) (own-divides (loadsOf costs deadlines periods n) S H (b .of-slot) (b .horizon .of-periods))
 
+module _ {costs deadlines periods : List ℕ} {n S L H : ℕ} (file : Sized costs deadlines periods n S L H) where
   -- the file's loads are a part of it
-  pub all-fine : Every (Fine (ownHorizon S (loadsOf costs deadlines periods n))) (loadsOf costs deadlines periods n)
+  pub all-fine : Every (Fine H) (loadsOf costs deadlines periods n)
   all-fine =
-      every-both Sound (λ (l : Load). l .period ∣ H) (loadsOf costs deadlines periods n) (file .bounded .loaded .sound)
-      (own-horizon (loadsOf costs deadlines periods n) S (asked (file .bounded)) .of-periods)
+      every-both Sound (λ (l : Load). l .period ∣ H) (loadsOf costs deadlines periods n) (file .bounded .loaded .sound) (file .bounded .horizon .of-periods)
 
-  -- it is at least 1 and within the limit
-  horizon-some : 1 ≤ H
-  horizon-some = own-horizon (loadsOf costs deadlines periods n) S (asked (file .bounded)) .some
-
-  horizon-within : H ≤ 10000000
-  unfolding ownHorizon
-  horizon-within = file .bounded .horizon
-
-  -- so a part's horizon is within the limit, and the struct that holds the part may be placed and sized
-  part-within : (ks : List Load) → Every (Fine H) ks → ownHorizon S ks ≤ 10000000
-  part-within ks e =
-      let d : ownHorizon S ks ∣ H = own-divides ks S H (slot-divides (loadsOf costs deadlines periods n) S) (every-map (Fine H) (λ (l : Load). l .period ∣ H) ks (λ l p. p .1) e) in
-      omega (arith, le-of-dvd horizon-some d, horizon-within)
-
-  part-made : (ks : List Load) → length ks ≤ 64 → Every (Fine H) ks →
-      Sized (membersOf ks .costs) (membersOf ks .deadlines) (membersOf ks .periods) (membersOf ks .count) S L
-  unfolding membersOf ownHorizon
+  -- the struct that holds a part may be placed and sized
+  part-made : (ks : List Load) → length ks ≤ mostTasks → Every (Fine H) ks →
+      Sized (membersOf ks .costs) (membersOf ks .deadlines) (membersOf ks .periods) (membersOf ks .count) S L H
+  unfolding membersOf
   part-made ks few e =
       record {
         bounded = record {
@@ -97,33 +85,37 @@ module _ {costs deadlines periods : List ℕ} {n S L : ℕ} (file : Sized costs 
             deadlines-there = there (λ (l : Load). l .deadline);
             periods-there = there (λ (l : Load). l .period);
             few = omega arith;
-            sound = rw (held-members ks) (every-map (Fine H) Sound ks (λ l p. p .0) e);
+            sound = rw (members-back ks) (every-map (Fine H) Sound ks (λ l p. p .0) e);
           };
           few = few;
           slot = file .bounded .slot;
-          horizon = rw (held-members ks) (part-within ks e);
+          of-slot = file .bounded .of-slot;
+          horizon = record {
+            some = file .bounded .horizon .some;
+            of-periods = rw (members-back ks) (every-map (Fine H) (λ (l : Load). l .period ∣ H) ks (λ l p. p .1) e);
+          };
         };
-        loss = file .loss;
+        loss-small = file .loss-small;
+        horizon-small = file .horizon-small;
       }
     where
-      there : (f : Load → ℕ) → length ks ≤ length (row (map f ks))
-      there f = omega (arith, length-map ks f, row-length (map f ks) (rw (length-map ks f) few))
+      there : (f : Load → ℕ) → length ks ≤ length (padded (map f ks))
+      there f = omega (arith, length-map ks f, padded-length (map f ks) (rw (length-map ks f) few))
 
   -- with its own horizon it may be tested
   pub testable : (h : ℕ) → h ≡ ownHorizon S (loadsOf costs deadlines periods n) → Testable (loadsOf costs deadlines periods n) S L h
   testable h e =
       record {
         slot-some = file .bounded .slot;
-        slot-small = omega (arith, le-of-dvd horizon-some (slot-divides (loadsOf costs deadlines periods n) S), horizon-within);
-        loss-small = omega (arith, file .loss);
-        horizon-small = omega (arith, horizon-within);
+        slot-small = omega (arith, le-of-dvd (file .bounded .horizon .some) (file .bounded .of-slot), file .horizon-small);
+        loss-small = file .loss-small;
+        horizon-small = omega (arith, e, own-within (file .bounded), file .horizon-small);
         horizon = subst (λ (k : ℕ). Horizon (loadsOf costs deadlines periods n) k) (sym e) (own-horizon (loadsOf costs deadlines periods n) S (asked (file .bounded)));
       }
 
 -- the first tasks of a file may be placed where all may
-pub sized-first : {costs deadlines periods : List ℕ} {n S L : ℕ} (i : ℕ) → i ≤ n → Sized costs deadlines periods n S L → Sized costs deadlines periods i S L
-unfolding ownHorizon
-sized-first {costs} {deadlines} {periods} {n} {S} {L} i h file =
+pub sized-first : {costs deadlines periods : List ℕ} {n S L H : ℕ} (i : ℕ) → i ≤ n → Sized costs deadlines periods n S L H → Sized costs deadlines periods i S L H
+sized-first {costs} {deadlines} {periods} {n} {S} {L} {H} i h file =
     let b = file .bounded .loaded in
     record {
       bounded = record {
@@ -136,44 +128,48 @@ sized-first {costs} {deadlines} {periods} {n} {S} {L} i h file =
         };
         few = omega (arith, file .bounded .few);
         slot = file .bounded .slot;
-        horizon = part-within file (loadsOf costs deadlines periods i)
-            (every-first costs deadlines periods (Fine (ownHorizon S (loadsOf costs deadlines periods n))) n h (all-fine file));
+        of-slot = file .bounded .of-slot;
+        horizon = record {
+          some = file .bounded .horizon .some;
+          of-periods = every-first costs deadlines periods (λ (l : Load). l .period ∣ H) n h (file .bounded .horizon .of-periods);
+        };
       };
-      loss = file .loss;
+      loss-small = file .loss-small;
+      horizon-small = file .horizon-small;
     }
 
--- a struct that holds a part of the file's loads
-pub record Holds (costs deadlines periods : List ℕ) (n S : ℕ) (m : Members) (ks : List Load) : Type 0 where
+-- a struct that holds a part of loads whose horizon divides H
+pub record Holds (H : ℕ) (m : Members) (ks : List Load) : Type 0 where
   pub is : m ≡ membersOf ks
-  pub few : length ks ≤ 64
-  pub fine : Every (Fine (ownHorizon S (loadsOf costs deadlines periods n))) ks
+  pub few : length ks ≤ mostTasks
+  pub fine : Every (Fine H) ks
 
-module _ {costs deadlines periods : List ℕ} {n S L : ℕ} (file : Sized costs deadlines periods n S L) where
+module _ {costs deadlines periods : List ℕ} {n S L H : ℕ} (file : Sized costs deadlines periods n S L H) where
   -- what is asked of the file's loads holds of the struct's
-  pub holds-sized : {m : Members} {ks : List Load} → Holds costs deadlines periods n S m ks → Sized (m .costs) (m .deadlines) (m .periods) (m .count) S L
+  pub holds-sized : {m : Members} {ks : List Load} → Holds H m ks → Sized (m .costs) (m .deadlines) (m .periods) (m .count) S L H
   holds-sized {m} {ks} h =
-      subst (λ (k : Members). Sized (k .costs) (k .deadlines) (k .periods) (k .count) S L) (sym (h .is)) (part-made file ks (h .few) (h .fine))
+      subst (λ (k : Members). Sized (k .costs) (k .deadlines) (k .periods) (k .count) S L H) (sym (h .is)) (part-made file ks (h .few) (h .fine))
 
   -- the loads of a server among the first i tasks
   pub holds-gathered : (placement : List ℕ) (i q : ℕ) (m : Members) → i ≤ n → m ≡ membersOf (loadsIn (loadsOf costs deadlines periods i) placement q) →
-      Holds costs deadlines periods n S m (loadsIn (loadsOf costs deadlines periods i) placement q)
+      Holds H m (loadsIn (loadsOf costs deadlines periods i) placement q)
   holds-gathered placement i q m h e =
       record {
         is = e;
         few = omega (arith, file .bounded .few, in-few (loadsOf costs deadlines periods i) placement q, loads-length costs deadlines periods i);
-        fine = every-in (Fine (H file)) (loadsOf costs deadlines periods i) placement q (every-first costs deadlines periods (Fine (H file)) n h (all-fine file));
+        fine = every-in (Fine H) (loadsOf costs deadlines periods i) placement q (every-first costs deadlines periods (Fine H) n h (all-fine file));
       }
 
   -- and task i with them
-  pub holds-with : (i : ℕ) {m : Members} {ks : List Load} (more : Members) → i < n → length ks < 64 → Holds costs deadlines periods n S m ks →
-      more ≡ withLoad m (loadAt costs deadlines periods i) → Holds costs deadlines periods n S more (ks ++ (loadAt costs deadlines periods i ∷ []))
+  pub holds-with : (i : ℕ) {m : Members} {ks : List Load} (more : Members) → i < n → length ks < mostTasks → Holds H m ks →
+      more ≡ withLoad m (loadAt costs deadlines periods i) → Holds H more (ks ++ (loadAt costs deadlines periods i ∷ []))
   holds-with i {m} {ks} more h room w e =
       record {
         is = e ∙ ap (λ (k : Members). withLoad k (loadAt costs deadlines periods i)) (w .is) ∙ members-more ks (loadAt costs deadlines periods i) room;
         few = omega (arith, length-append ks (loadAt costs deadlines periods i ∷ []));
-        fine = every-snoc (Fine (H file)) ks (loadAt costs deadlines periods i) (w .fine) (every-at costs deadlines periods (Fine (H file)) n h (all-fine file));
+        fine = every-snoc (Fine H) ks (loadAt costs deadlines periods i) (w .fine) (every-at costs deadlines periods (Fine H) n h (all-fine file));
       }
 
 -- the loads that such a struct holds are the part
-pub holds-loads : {costs deadlines periods : List ℕ} {n S : ℕ} {m : Members} {ks : List Load} → Holds costs deadlines periods n S m ks → held m ≡ ks
-holds-loads {ks = ks} h = ap held (h .is) ∙ held-members ks
+pub holds-loads : {H : ℕ} {m : Members} {ks : List Load} → Holds H m ks → memberLoads m ≡ ks
+holds-loads {ks = ks} h = ap memberLoads (h .is) ∙ members-back ks

@@ -1,41 +1,33 @@
--- Laws of the reserves of a placement: how many, one more, and the reserve of each server.
-use Prim.Native.Nat.{ℕ, zero, suc, _+_, _<_}
-use native.Mathlib.Numerals.{add-one}
+-- Laws of the reserves of a placement: how many there are, and their range.
+use Prim.Native.Nat.{ℕ, suc, _-_, _≤_, _<_}
 use native.Mathlib.Omega.{arith}
-use native.Mathlib.Decide.{decLt}
-use mathlib.Core.Path.{_≡_, refl, ap, _∙_}
-use mathlib.Core.List.{List, [], _∷_, _++_}
-use lib.ListN.{length, getD, length-append, List·getD-append}
-use lib.Seq.{getD-at}
+use mathlib.Core.Path.{_≡_, subst}
+use mathlib.Core.Logic.{⊎-elim}
+use mathlib.Core.List.{List}
+use lib.ListN.{length, getD}
 use Rattle.demand.specs.Load.{Load}
-use Rattle.verdict.specs.Reserve.{smallestReserve}
-use Rattle.servers.specs.Placement.{loadsIn}
-use Rattle.servers.specs.Reserve.{reservesUpTo}
+use Rattle.demand.specs.Supply.{Ring, Allowed}
+use Rattle.verdict.specs.Claims.{Asked}
+use Rattle.servers.specs.Placement.{serversIn, placementOf}
+use Rattle.servers.specs.Reserve.{reserveIn, reservesOf}
+use Rattle.servers.proofs.PaddedLaws.{up-length}
+use Rattle.servers.proofs.Claims.{smallest-reserves}
 
-module _ (ls : List Load) (S L : ℕ) (placement : List ℕ) where
-  -- as many reserves as servers
-  pub reserves-length : (n : ℕ) → length (reservesUpTo ls S L placement n) ≡ n
-  unfolding reservesUpTo
-  reserves-length zero = refl
-  reserves-length (suc n) =
-      length-append (reservesUpTo ls S L placement n) (smallestReserve (loadsIn ls placement (suc n)) S L ∷ []) ∙ omega (arith, reserves-length n)
+-- an allowed reserve is from 1 to the slot
+pub allowed-range : (S L R : ℕ) → 1 ≤ S → Allowed S L R → (1 ≤ R) × (R ≤ S)
+allowed-range S L R some a =
+    ⊎-elim (λ (r : Ring S L R). (omega (arith, r .enters), omega (arith, r .parts))) (λ (e : R ≡ S). (omega arith, omega arith)) a
 
-  -- one server more
-  pub reserves-more : (n : ℕ) → reservesUpTo ls S L placement (n + 1) ≡ reservesUpTo ls S L placement n ++ (smallestReserve (loadsIn ls placement (n + 1)) S L ∷ [])
-  unfolding reservesUpTo
-  reserves-more n = rw add-one
+-- one reserve for each server
+pub reserves-count : (ls : List Load) (S L : ℕ) → length (reservesOf ls S L) ≡ serversIn (placementOf ls S L)
+unfolding reservesOf
+reserves-count ls S L = up-length (reserveIn ls S L (placementOf ls S L)) (serversIn (placementOf ls S L))
 
-  -- server i + 1 has the i-th reserve
-  pub reserves-at : (n i : ℕ) → i < n → getD (reservesUpTo ls S L placement n) i 0 ≡ smallestReserve (loadsIn ls placement (suc i)) S L
-  unfolding reservesUpTo
-  reserves-at zero i h = absurd (omega arith)
-  reserves-at (suc n) i h = by (decLt i n) (reserves-at n i)
-    where
-      by : Dec (i < n) → (i < n → getD (reservesUpTo ls S L placement n) i 0 ≡ smallestReserve (loadsIn ls placement (suc i)) S L)
-          → getD (reservesUpTo ls S L placement n ++ (smallestReserve (loadsIn ls placement (suc n)) S L ∷ [])) i 0 ≡ smallestReserve (loadsIn ls placement (suc i)) S L
-      by (yes g) before =
-          List·getD-append (reservesUpTo ls S L placement n) (smallestReserve (loadsIn ls placement (suc n)) S L ∷ []) 0 i (rw (reserves-length n) g) ∙ before g
-      by (no g) before =
-          let e : n ≡ i = omega arith in
-          getD-at (reservesUpTo ls S L placement n) (smallestReserve (loadsIn ls placement (suc n)) S L) [] 0 i (reserves-length n ∙ e) ∙
-          ap (λ (k : ℕ). smallestReserve (loadsIn ls placement (suc k)) S L) e
+-- each reserve is from 1 to the slot
+pub reserves-range : (ls : List Load) (S L : ℕ) → Asked ls S → (i : ℕ) → i < length (reservesOf ls S L) →
+    (1 ≤ getD (reservesOf ls S L) i 0) × (getD (reservesOf ls S L) i 0 ≤ S)
+reserves-range ls S L a i h =
+    let e : suc i - 1 ≡ i = omega arith in
+    subst (λ (k : ℕ). (1 ≤ getD (reservesOf ls S L) k 0) × (getD (reservesOf ls S L) k 0 ≤ S)) e
+    (allowed-range S L (getD (reservesOf ls S L) (suc i - 1) 0) (a .slot)
+    (smallest-reserves ls S L a .1 (suc i) (omega arith) (omega (arith, reserves-count ls S L)) .allowed))

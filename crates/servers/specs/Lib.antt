@@ -1,4 +1,4 @@
-pub mod Row
+pub mod Padded
 pub mod Members
 pub mod Placement
 pub mod Reserve

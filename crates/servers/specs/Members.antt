@@ -1,25 +1,26 @@
--- The loads of one server in a struct: a count and a row for each figure. What functions over such a struct ask of it.
+-- The loads of one server in a struct: a count, and the places of each figure. What functions over such a struct ask of it.
 -- The one place that says how a server's loads are held.
-use Prim.Native.Nat.{ℕ, _+_, _≤_}
+use Prim.Native.Nat.{ℕ, _+_, _^_, _≤_, _<_, _∣_}
 use mathlib.Core.List.{List, map}
 use lib.ListN.{length, set}
-use Rattle.wholes.specs.Multiple.{leastMultipleOf}
 use Rattle.demand.specs.Load.{Load, Loaded, loadsOf}
-use Rattle.servers.specs.Row.{row}
+use Rattle.verdict.specs.Verdict.{Horizon}
+use Rattle.tasks.specs.Set.{mostTasks}
+use Rattle.servers.specs.Padded.{padded}
 use Rattle.servers.specs.declared.members.Members.{Members}
 
 unfoldable pub membersOf : List Load → Members
 membersOf ls =
     record {
       count = length ls;
-      costs = row (map (λ (l : Load). l .cost) ls);
-      deadlines = row (map (λ (l : Load). l .deadline) ls);
-      periods = row (map (λ (l : Load). l .period) ls);
+      costs = padded (map (λ (l : Load). l .cost) ls);
+      deadlines = padded (map (λ (l : Load). l .deadline) ls);
+      periods = padded (map (λ (l : Load). l .period) ls);
     }
 
 -- the loads that a struct holds
-abbrev pub held : Members → List Load
-held m = loadsOf (m .costs) (m .deadlines) (m .periods) (m .count)
+abbrev pub memberLoads : Members → List Load
+memberLoads m = loadsOf (m .costs) (m .deadlines) (m .periods) (m .count)
 
 -- the same struct with one load more, in the first unused place
 abbrev pub withLoad : Members → Load → Members
@@ -37,16 +38,18 @@ pub record Gathered (costs deadlines periods server : List ℕ) (n : ℕ) : Type
   pub deadlines-there : n ≤ length deadlines
   pub periods-there : n ≤ length periods
   pub server-there : n ≤ length server
-  pub few : n ≤ 64
+  pub few : n ≤ mostTasks
 
--- at most 64 sound loads with a slot, and a horizon within document 01's limit
-pub record Bounded (costs deadlines periods : List ℕ) (n S : ℕ) : Type 0 where
+-- a few sound loads with a slot, and a multiple H of the slot and of every period: the file's horizon is one
+pub record Bounded (costs deadlines periods : List ℕ) (n S H : ℕ) : Type 0 where
   pub loaded : Loaded costs deadlines periods n
-  pub few : n ≤ 64
+  pub few : n ≤ mostTasks
   pub slot : 1 ≤ S
-  pub horizon : leastMultipleOf S (map (λ (l : Load). l .period) (loadsOf costs deadlines periods n)) ≤ 10000000
+  pub of-slot : S ∣ H
+  pub horizon : Horizon (loadsOf costs deadlines periods n) H
 
--- the same with an entry loss that a file can carry: what placing and sizing ask
-pub record Sized (costs deadlines periods : List ℕ) (n S L : ℕ) : Type 0 where
-  pub bounded : Bounded costs deadlines periods n S
-  pub loss : L ≤ 131070
+-- the same with an entry loss, both small enough for the test's sums: what placing and sizing ask
+pub record Sized (costs deadlines periods : List ℕ) (n S L H : ℕ) : Type 0 where
+  pub bounded : Bounded costs deadlines periods n S H
+  pub loss-small : L < 2 ^ 48
+  pub horizon-small : H < 2 ^ 48

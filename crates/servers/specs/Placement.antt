@@ -7,7 +7,7 @@ use lib.Dec.{eqb}
 use Rattle.demand.specs.Load.{Load}
 use Rattle.verdict.specs.Search.{firstUpTo, orElse}
 use Rattle.verdict.specs.Verdict.{passing}
-use Rattle.servers.specs.Row.{row}
+use Rattle.servers.specs.Padded.{padded}
 use Rattle.servers.specs.declared.placement.Placed.{Placed}
 
 abbrev pub keep : Bool → Load → List Load → List Load
@@ -43,6 +43,6 @@ placeFrom done S L placement (l ∷ left) =
 unfoldable pub placementOf : List Load → (S L : ℕ) → List ℕ
 placementOf ls S L = placeFrom [] S L [] ls
 
--- a placement in a struct: how many servers there are, and the row of the tasks' servers
+-- a placement in a struct: how many servers there are, and the tasks' servers
 unfoldable pub placed : List ℕ → Placed
-placed placement = record { count = serversIn placement; server = row placement }
+placed placement = record { count = serversIn placement; server = padded placement }

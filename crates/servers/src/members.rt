@@ -1,25 +1,27 @@
 // The loads of one server, gathered from the tasks in file order, and the server's own horizon.
 // What they mean stands in specs/Members.antt and specs/Placement.antt.
+use tasks::set::TaskSet;
 use wholes::Multiple;
 ghost use mathlib.Core.Path.{_≡_};
 ghost use Prim.Native.Nat.{_<_};
 ghost use lib.ListN.{take};
 ghost use Rattle.demand.specs.Load.{Load, loadsOf};
 ghost use Rattle.verdict.specs.Verdict.{ownHorizon};
-ghost use Rattle.servers.specs.Members.{membersOf, held, withLoad, Gathered, Bounded};
+ghost use Rattle.tasks.specs.Set.{mostTasks};
+ghost use Rattle.servers.specs.Members.{membersOf, memberLoads, withLoad, Gathered, Bounded};
 ghost use Rattle.servers.specs.Placement.{loadsIn};
 
 // Unused room is zero.
 pub struct Members {
     pub count: usize,
-    pub costs: [u64; 64],
-    pub deadlines: [u64; 64],
-    pub periods: [u64; 64],
+    pub costs: [u64; TaskSet::MOST_TASKS],
+    pub deadlines: [u64; TaskSet::MOST_TASKS],
+    pub periods: [u64; TaskSet::MOST_TASKS],
 }
 
 // One load more, in the first unused place.
 pub fn with_load(m: Members, cost: u64, deadline: u64, period: u64) -> Members
-    requires { ⌜ m .count < 64 ⌝ }
+    requires { ⌜ m .count < mostTasks ⌝ }
     ensures { λ r. ⌜ r ≡ withLoad m (record { cost = cost; deadline = deadline; period = period }) ⌝ }
 {
     let at = m.count;
@@ -43,7 +45,7 @@ pub fn gather<'a>(
     requires { ⌜ Gathered (now costs) (now deadlines) (now periods) (now server) n ⌝ }
     ensures { λ r. ⌜ r ≡ membersOf (loadsIn (loadsOf (now (costs .entry)) (now (deadlines .entry)) (now (periods .entry)) n) (take n (now (server .entry))) q) ⌝ }
 {
-    let none = [0u64; 64];
+    let none = [0u64; TaskSet::MOST_TASKS];
     let mut m = Members {
         count: 0,
         costs: none,
@@ -64,17 +66,14 @@ pub fn gather<'a>(
     m
 }
 
-// Document 01's limit of a file's horizon.
-const LIMIT: u64 = 10_000_000;
-
-// The least common multiple of the slot and the server's periods. It divides the file's horizon, so it is within the limit.
-pub fn own_horizon(m: Members, slot: u64) -> u64
-    requires { ⌜ Bounded (m .costs) (m .deadlines) (m .periods) (m .count) slot ⌝ }
-    ensures { λ r. ⌜ r ≡ ownHorizon slot (held m) ⌝ }
+// The least common multiple of the slot and the server's periods. It divides the file's horizon, so it is within that.
+pub fn own_horizon(m: Members, slot: u64, horizon: u64) -> u64
+    requires { ⌜ Bounded (m .costs) (m .deadlines) (m .periods) (m .count) slot horizon ⌝ }
+    ensures { λ r. ⌜ r ≡ ownHorizon slot (memberLoads m) ⌝ }
 {
     let n = m.count;
-    let Multiple::Within(horizon) = wholes::least_multiple_of(slot, &m.periods, n, LIMIT) else {
+    let Multiple::Within(own) = wholes::least_multiple_of(slot, &m.periods, n, horizon) else {
         return slot;
     };
-    horizon
+    own
 }

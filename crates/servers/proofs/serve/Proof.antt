@@ -6,18 +6,18 @@ use native.Mathlib.Omega.{arith}
 use lib.ListN.{take}
 use Rattle.demand.specs.Load.{Load, loadsOf}
 use Rattle.demand.proofs.Demand.{loads-length}
-use Rattle.servers.specs.Row.{row}
-use Rattle.servers.specs.Reserve.{reservesUpTo, reservesOf, serversOf}
+use Rattle.servers.specs.Padded.{padded, upTo}
+use Rattle.servers.specs.Reserve.{reserveIn, reservesOf, serversOf}
 use Rattle.servers.proofs.SoFarLaws.{SoFar, so-far-room, so-far-front, so-far-few, placed-so-far}
 use Rattle.servers.proofs.serve.Statement.{statement}
 use Rattle.servers.proofs.serve.Tie as tie
 
 -- a placement and the reserves of its servers are the answer
 served : {ls : List Load} {S L n : ℕ} {server : List ℕ} {count : ℕ} → SoFar ls S L n server count →
-    (reserve : List ℕ) → reserve ≡ row (reservesUpTo ls S L (take n server) count) →
+    (reserve : List ℕ) → reserve ≡ padded (upTo (reserveIn ls S L (take n server)) count) →
     record { count = count; server = server; reserve = reserve } ≡ serversOf ls S L
 unfolding serversOf reservesOf
-served w reserve r = rw (r, so-far-front w, w .count-is, w .row-is)
+served w reserve r = rw (r, so-far-front w, w .count-is, w .server-is)
 
 place-requires : tie.Need-place-requires
 place-requires c κs = c .before .before .before .pre

@@ -1,26 +1,24 @@
 -- `layout::first_reserves` meets its contract. The loop's invariant: the places passed hold the first reserves of the processors so far.
 -- The measure is what is left of the processors. Assumes nothing.
 use Prim.Native.Nat.{ℕ, _-_, _≤_}
-use mathlib.Core.Path.{_≡_}
+use mathlib.Core.Path.{refl, ap}
 use native.Mathlib.Omega.{arith}
 use lib.ListN.{take}
-use Rattle.servers.specs.Row.{row}
 use Rattle.ring.specs.Who.{firstReserve}
-use Rattle.plan.specs.Plan.{upTo}
-use Rattle.plan.proofs.UpTo.{row-none, row-next, row-end}
-use mathlib.Core.Path.{ap}
+use Rattle.servers.proofs.PaddedLaws.{Filled, filled-none, filled-next, filled-all}
 use Rattle.ring.specs.declared.cover.Stand.{Stand}
 use Rattle.plan.proofs.layout.first_reserves.Statement.{statement}
 use Rattle.plan.proofs.layout.first_reserves.Tie as tie
 
 abbrev Inv-loop : tie.InvT-loop
-Inv-loop reserves n slot processors server₀ duration₀ i₀ server duration i = (i ≤ processors) × (server ≡ row (upTo (λ (p : ℕ). firstReserve slot (take n reserves) p .server) i)) × (duration ≡ row (upTo (λ (p : ℕ). firstReserve slot (take n reserves) p .left) i))
+Inv-loop reserves n slot processors server₀ duration₀ i₀ server duration i =
+    (i ≤ processors) × Filled (λ (p : ℕ). firstReserve slot (take n reserves) p .server) i server × Filled (λ (p : ℕ). firstReserve slot (take n reserves) p .left) i duration
 
 abbrev μ-loop : tie.MeasureT-loop
 μ-loop reserves n slot processors server₀ duration₀ i₀ server duration i = processors - i
 
 loop-holds : tie.Need-loop-holds Inv-loop μ-loop
-loop-holds c = (omega arith, row-none _, row-none _)
+loop-holds c = (omega arith, filled-none _, filled-none _)
 
 add-first : tie.Need-add-first Inv-loop μ-loop
 add-first c = omega arith
@@ -50,12 +48,12 @@ loop-again : tie.Need-loop-again Inv-loop μ-loop
 loop-again c =
     let at = c .before .before .loop in (
       omega arith,
-      row-next _ (at .i) (omega arith) (at .inv .1) (ap (λ (s : Stand). s .server) (c .first .ensures)),
-      row-next _ (at .i) (omega arith) (at .inv .2) (ap (λ (s : Stand). s .left) (c .first .ensures)),
+      filled-next (at .inv .1) refl (omega arith) (ap (λ (s : Stand). s .server) (c .first .ensures)),
+      filled-next (at .inv .2) refl (omega arith) (ap (λ (s : Stand). s .left) (c .first .ensures)),
     )
 
 returns : tie.Need-returns Inv-loop μ-loop
-returns c = (row-end _ (c .before .loop .inv .1) (c .before .loop .inv .0) (c .loop-test .left), row-end _ (c .before .loop .inv .2) (c .before .loop .inv .0) (c .loop-test .left))
+returns c = (filled-all (c .before .loop .inv .1) (omega arith), filled-all (c .before .loop .inv .2) (omega arith))
 
 pub first-reserves-spec : {M : Type 1} → statement M
 first-reserves-spec =

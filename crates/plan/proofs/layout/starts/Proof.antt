@@ -1,23 +1,22 @@
 -- `layout::starts` meets its contract. The loop's invariant: the places passed hold the starts of the servers so far.
 -- The measure is what is left of n. Assumes nothing.
 use Prim.Native.Nat.{_-_, _≤_}
-use mathlib.Core.Path.{_≡_}
+use mathlib.Core.Path.{refl}
 use native.Mathlib.Omega.{arith}
 use lib.ListN.{take}
-use Rattle.servers.specs.Row.{row}
-use Rattle.plan.specs.Plan.{upTo, ringStart}
-use Rattle.plan.proofs.UpTo.{row-none, row-next, row-end}
+use Rattle.plan.specs.Plan.{ringStart}
+use Rattle.servers.proofs.PaddedLaws.{Filled, filled-none, filled-next, filled-all}
 use Rattle.plan.proofs.layout.starts.Statement.{statement}
 use Rattle.plan.proofs.layout.starts.Tie as tie
 
 abbrev Inv-loop : tie.InvT-loop
-Inv-loop reserves n slot starts₀ i₀ starts i = (i ≤ n) × (starts ≡ row (upTo (ringStart slot (take n reserves)) i))
+Inv-loop reserves n slot starts₀ i₀ starts i = (i ≤ n) × Filled (ringStart slot (take n reserves)) i starts
 
 abbrev μ-loop : tie.MeasureT-loop
 μ-loop reserves n slot starts₀ i₀ starts i = n - i
 
 loop-holds : tie.Need-loop-holds Inv-loop μ-loop
-loop-holds c = (omega arith, row-none _)
+loop-holds c = (omega arith, filled-none _)
 
 add-start-of : tie.Need-add-start-of Inv-loop μ-loop
 add-start-of c = omega arith
@@ -38,10 +37,10 @@ loop-less : tie.Need-loop-less Inv-loop μ-loop
 loop-less c = omega arith
 
 loop-again : tie.Need-loop-again Inv-loop μ-loop
-loop-again c = (omega arith, row-next _ (c .before .before .loop .i) (omega arith) (c .before .before .loop .inv .1) (c .start-of .ensures))
+loop-again c = (omega arith, filled-next (c .before .before .loop .inv .1) refl (omega arith) (c .start-of .ensures))
 
 returns : tie.Need-returns Inv-loop μ-loop
-returns c = row-end _ (c .before .loop .inv .1) (c .before .loop .inv .0) (c .loop-test .left)
+returns c = filled-all (c .before .loop .inv .1) (omega arith)
 
 pub starts-spec : {M : Type 1} → statement M
 starts-spec =

@@ -1,26 +1,24 @@
 -- `layout::task_counts` meets its contract. The loop's invariant: the places passed hold the counts of the servers so far.
 -- The measure is what is left of n. Assumes nothing.
 use Prim.Native.Nat.{ℕ, _-_, _≤_}
-use mathlib.Core.Path.{_≡_}
+use mathlib.Core.Path.{refl}
 use native.Mathlib.Omega.{arith}
 use lib.ListN.{length, take}
-use Rattle.servers.specs.Row.{row}
-use Rattle.servers.specs.Members.{held}
+use Rattle.servers.specs.Members.{memberLoads}
 use Rattle.servers.specs.Placement.{loadsIn}
-use Rattle.plan.specs.Plan.{upTo}
-use Rattle.plan.proofs.UpTo.{row-none, row-next, row-end}
+use Rattle.servers.proofs.PaddedLaws.{Filled, filled-none, filled-next, filled-all}
 use borrow.Author.Needs.{needs}
 use Rattle.plan.proofs.layout.task_counts.Statement.{statement}
 use Rattle.plan.proofs.layout.task_counts.Tie as tie
 
 abbrev Inv-loop : tie.InvT-loop
-Inv-loop loads server n counts₀ i₀ counts i = (i ≤ n) × (counts ≡ row (upTo (λ (q : ℕ). length (loadsIn (held loads) (take (loads .count) server) q)) i))
+Inv-loop loads server n counts₀ i₀ counts i = (i ≤ n) × Filled (λ (q : ℕ). length (loadsIn (memberLoads loads) (take (loads .count) server) q)) i counts
 
 abbrev μ-loop : tie.MeasureT-loop
 μ-loop loads server n counts₀ i₀ counts i = n - i
 
 loop-holds : tie.Need-loop-holds Inv-loop μ-loop
-loop-holds c = (omega arith, row-none _)
+loop-holds c = (omega arith, filled-none _)
 
 add-tasks-of : tie.Need-add-tasks-of Inv-loop μ-loop
 add-tasks-of c = omega arith
@@ -41,10 +39,10 @@ loop-less : tie.Need-loop-less Inv-loop μ-loop
 loop-less c = omega arith
 
 loop-again : tie.Need-loop-again Inv-loop μ-loop
-loop-again c = (omega arith, row-next _ (c .before .before .loop .i) (omega arith) (c .before .before .loop .inv .1) (c .tasks-of .ensures))
+loop-again c = (omega arith, filled-next (c .before .before .loop .inv .1) refl (omega arith) (c .tasks-of .ensures))
 
 returns : tie.Need-returns Inv-loop μ-loop
-returns c = row-end _ (c .before .loop .inv .1) (c .before .loop .inv .0) (c .loop-test .left)
+returns c = filled-all (c .before .loop .inv .1) (omega arith)
 
 pub task-counts-spec : {M : Type 1} → statement M
 task-counts-spec =

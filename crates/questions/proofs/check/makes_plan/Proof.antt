@@ -4,6 +4,7 @@ use borrow.Author.Needs.{needs}
 use mathlib.Core.Path.{_≡_, sym, ap, _∙_}
 use lib.ListN.{length, length-map}
 use native.Mathlib.Omega.{arith}
+use Rattle.tasks.specs.Set.{mostTasks}
 use Rattle.refusals.specs.declared.Outcome.the-variants.{Done}
 use Rattle.plan.specs.declared.plan.Plan.{Plan}
 use Rattle.plan.specs.declared.planner.PlanAnswer.{PlanAnswer}
@@ -14,8 +15,8 @@ use Rattle.questions.proofs.Checked.{makes-refused, makes-by}
 use Rattle.questions.proofs.check.makes_plan.Statement.{statement}
 use Rattle.questions.proofs.check.makes_plan.Tie as tie
 
--- a set's tasks have 64 places
-full : (c : tie.Start) → length (c .args .set .tasks) ≡ 64
+-- a set's tasks have their places
+full : (c : tie.Start) → length (c .args .set .tasks) ≡ mostTasks
 full c = sym (length-map (c .args .set .tasks) _) ∙ c .good .0 .1 .1 .1 .1 .0 .1 .0 .1
 
 -- where the planner is done, its plan is the set's

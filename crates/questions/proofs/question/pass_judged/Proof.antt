@@ -6,22 +6,24 @@ use mathlib.Core.Path.{_≡_, sym, _∙_}
 use mathlib.Core.List.{List}
 use native.Mathlib.Omega.{arith}
 use lib.ListN.{length, length-map}
+use Rattle.tasks.specs.Set.{mostTasks}
 use Rattle.demand.specs.Load.{Load}
 use Rattle.verdict.specs.declared.answer.Verdict.{Verdict}
 use Rattle.verdict.specs.Verdict.{verdictOf}
 use Rattle.servers.specs.Members.{Sized}
 use Rattle.servers.proofs.PartLaws.{testable}
 use Rattle.tasks.specs.declared.set.TaskSet.{TaskSet}
+use Rattle.plan.specs.Planner.{Clear}
 use Rattle.rows.specs.Charge.{loadsOfSet, lossOf}
 use Rattle.rows.proofs.Clears.{members-loaded, members-count}
-use Rattle.plan.proofs.Made.{may-charge, few-loads, sound}
+use Rattle.plan.proofs.Made.{rows-clear, may-charge, few-loads, sound}
 use Rattle.questions.proofs.Checked.{of-set}
 use Rattle.questions.proofs.Judging.{allowed-is, own-sized, own-loads}
 use Rattle.questions.proofs.question.pass_judged.Statement.{statement}
 use Rattle.questions.proofs.question.pass_judged.Tie as tie
 
--- a set's tasks have 64 places
-full : (c : tie.Start) → length (c .args .set .tasks) ≡ 64
+-- a set's tasks have their places
+full : (c : tie.Start) → length (c .args .set .tasks) ≡ mostTasks
 full c = sym (length-map (c .args .set .tasks) _) ∙ c .good .0 .1 .1 .1 .1 .0 .1 .0 .1
 
 -- the verdict on the loads gathered, with the loss found, is the verdict asked for
@@ -29,28 +31,36 @@ judged : (set : TaskSet) (R : ℕ) (ks : List Load) {ls : List Load} {L : ℕ} {
     v ≡ verdictOf ls (set .header .slot) L R → v ≡ verdictOf ks (set .header .slot) (lossOf (set .header)) R
 judged set R ks e g h = rw (← e, ← g) h
 
+-- the rows of the set are clear
+clear-of : (s : tie.Start) → Clear (s .args .set)
+clear-of s = of-set (s .args .set) (full s) (s .args .t2) (s .pre .0) .clear
+
+horizon-requires : tie.Need-horizon-requires
+horizon-requires c κs = (may-charge (c .args .set) (full c) (clear-of c), rows-clear (c .args .set) (full c) (clear-of c) .horizon)
+
 -- the server's loads may be tested
 sized-at : (c : tie.After-gather) →
-    let s = c .before .before .before .before .before .before .before .before .before .before .before .before .before .before in
+    let h = c .before .before .before .before .before .before .before .before .before .before .before .before .before .before in
+    let s = h .before in
     let m = c .gather .result in
-    Sized (m .costs) (m .deadlines) (m .periods) (m .count) (s .args .set .header .slot) (lossOf (s .args .set .header))
+    Sized (m .costs) (m .deadlines) (m .periods) (m .count) (s .args .set .header .slot) (lossOf (s .args .set .header)) (h .horizon .result)
 sized-at c =
-    let s = c .before .before .before .before .before .before .before .before .before .before .before .before .before .before in
-    own-sized (s .args .set) (full s) (s .args .t2) (s .pre .0) (c .before .before .before .before .before .before .before .before .before .before .before .loads .ensures) (s .args .server) (c .gather .ensures)
+    let h = c .before .before .before .before .before .before .before .before .before .before .before .before .before .before in
+    let s = h .before in
+    own-sized (s .args .set) (full s) (s .args .t2) (s .pre .0) (c .before .before .before .before .before .before .before .before .before .before .before .loads .ensures) (s .args .server) (c .gather .ensures) (h .horizon .ensures)
 
 cast-slot : tie.Need-cast-slot
 cast-slot c = search needs
 
 loads-requires : tie.Need-loads-requires
-loads-requires c κs = let s = c .before .before in may-charge (s .args .set) (full s) (of-set (s .args .set) (full s) (s .args .t2) (s .pre .0) .clear)
+loads-requires c κs = let s = c .before .before .before in may-charge (s .args .set) (full s) (clear-of s)
 
 gather-requires : tie.Need-gather-requires
 gather-requires c κs =
-    let s = c .before .before .before .before .before .before .before .before .before .before .before .before .before in
-    let clear = of-set (s .args .set) (full s) (s .args .t2) (s .pre .0) .clear in
-    let few = few-loads (s .args .set) (full s) clear in
-    let there = members-loaded (loadsOfSet (s .args .set)) few (sound (s .args .set) (full s) clear) (c .before .before .before .before .before .before .before .before .before .before .loads .ensures) in
-    let count = members-count (loadsOfSet (s .args .set)) few (sound (s .args .set) (full s) clear) (c .before .before .before .before .before .before .before .before .before .before .loads .ensures) in
+    let s = c .before .before .before .before .before .before .before .before .before .before .before .before .before .before in
+    let few = few-loads (s .args .set) (full s) (clear-of s) in
+    let there = members-loaded (loadsOfSet (s .args .set)) few (sound (s .args .set) (full s) (clear-of s)) (c .before .before .before .before .before .before .before .before .before .before .loads .ensures) in
+    let count = members-count (loadsOfSet (s .args .set)) few (sound (s .args .set) (full s) (clear-of s)) (c .before .before .before .before .before .before .before .before .before .before .loads .ensures) in
     record {
       costs-there = there .costs-there;
       deadlines-there = there .deadlines-there;
@@ -67,8 +77,9 @@ loss-requires c κs = search needs
 
 verdict-requires : tie.Need-verdict-requires
 verdict-requires c κs =
-    let s = c .before .before .before .before .before .before .before .before .before .before .before .before .before .before .before .before .before .before .before .before .before .before .before in
-    let w = rw (sym (c .before .before .before .before .before .before .before .loss .ensures)) at (sized-at (c .before .before .before .before .before .before .before .before .before)) in (
+    let gathered = c .before .before .before .before .before .before .before .before .before in
+    let s = gathered .before .before .before .before .before .before .before .before .before .before .before .before .before .before .before in
+    let w = rw (sym (c .before .before .before .before .before .before .before .loss .ensures)) at (sized-at gathered) in (
       w .bounded .loaded,
       (
         testable w (c .before .before .before .before .before .before .before .before .own-horizon .result) (c .before .before .before .before .before .before .before .before .own-horizon .ensures),
@@ -79,7 +90,7 @@ verdict-requires c κs =
 returns : tie.Need-returns
 returns c =
     let gathered = c .before .before .before .before .before .before .before .before .before .before in
-    let s = gathered .before .before .before .before .before .before .before .before .before .before .before .before .before .before in
+    let s = gathered .before .before .before .before .before .before .before .before .before .before .before .before .before .before .before in
     judged (s .args .set) (s .args .reserve) _
     (own-loads (s .args .set) (full s) (s .args .t2) (s .pre .0) (gathered .before .before .before .before .before .before .before .before .before .before .before .loads .ensures) (s .args .server) (gathered .gather .ensures))
     (c .before .before .before .before .before .before .before .before .loss .ensures)
@@ -89,6 +100,7 @@ pub pass-judged-spec : {M : Type 1} → statement M
 pass-judged-spec =
     tie.close
     (tie.spec
+    horizon-requires
     cast-slot
     loads-requires
     gather-requires

@@ -11,6 +11,7 @@ use lib.ListN.{length, getD, take}
 use lib.Seq.{take-suc, length-take-le}
 use Rattle.demand.specs.Load.{Load, loadAt, loadsOf}
 use Rattle.demand.proofs.Demand.{loads-next, loads-length}
+use Rattle.tasks.specs.Set.{mostTasks}
 use Rattle.servers.specs.Members.{membersOf, withLoad, Gathered}
 use Rattle.servers.specs.Placement.{loadsIn}
 use Rattle.servers.specs.declared.members.Members.{Members}
@@ -32,11 +33,11 @@ module _ (costs deadlines periods server : List ℕ) (n : ℕ) (g : Gathered cos
   even = length-take-le i server (omega (arith, g .server-there)) ∙ sym (loads-length costs deadlines periods i)
 
   -- there is room for one more
-  room : length (loadsIn (loadsOf costs deadlines periods i) (take i server) q) < 64
+  room : length (loadsIn (loadsOf costs deadlines periods i) (take i server) q) < mostTasks
   room = omega (arith, g .few, in-few (loadsOf costs deadlines periods i) (take i server) q, loads-length costs deadlines periods i)
 
   -- so the next place is one of the row
-  free : (m : Members) → m ≡ membersOf (loadsIn (loadsOf costs deadlines periods i) (take i server) q) → m .count < 64
+  free : (m : Members) → m ≡ membersOf (loadsIn (loadsOf costs deadlines periods i) (take i server) q) → m .count < mostTasks
   unfolding membersOf
   free m e = omega (arith, ap (λ (k : Members). k .count) e, room)
 
@@ -80,14 +81,14 @@ mul-m-2 : tie.Need-mul-m-2 Inv-loop μ-loop
 mul-m-2 c =
     let at = c .before .before .before .before in
     let s = at .before in
-    let h : at .loop .m .count < 64 = free (s .args .costs .now) (s .args .deadlines .now) (s .args .periods .now) (s .args .server .now) (s .args .n) (s .pre) (s .args .q) (at .loop .i) (c .before .before .before .loop-test .taken) (at .loop .m) (at .loop .inv .1) in
+    let h : at .loop .m .count < mostTasks = free (s .args .costs .now) (s .args .deadlines .now) (s .args .periods .now) (s .args .server .now) (s .args .n) (s .pre) (s .args .q) (at .loop .i) (c .before .before .before .loop-test .taken) (at .loop .m) (at .loop .inv .1) in
     search needs
 
 element-write-m : tie.Need-element-write-m Inv-loop μ-loop
 element-write-m c =
     let at = c .before .before .before .before in
     let s = at .before in
-    let h : at .loop .m .count < 64 = free (s .args .costs .now) (s .args .deadlines .now) (s .args .periods .now) (s .args .server .now) (s .args .n) (s .pre) (s .args .q) (at .loop .i) (c .before .before .before .loop-test .taken) (at .loop .m) (at .loop .inv .1) in
+    let h : at .loop .m .count < mostTasks = free (s .args .costs .now) (s .args .deadlines .now) (s .args .periods .now) (s .args .server .now) (s .args .n) (s .pre) (s .args .q) (at .loop .i) (c .before .before .before .loop-test .taken) (at .loop .m) (at .loop .inv .1) in
     search needs
 
 mul-m-3 : tie.Need-mul-m-3 Inv-loop μ-loop
@@ -100,14 +101,14 @@ mul-m-4 : tie.Need-mul-m-4 Inv-loop μ-loop
 mul-m-4 c =
     let at = c .before .before .before .before .before in
     let s = at .before in
-    let h : at .loop .m .count < 64 = free (s .args .costs .now) (s .args .deadlines .now) (s .args .periods .now) (s .args .server .now) (s .args .n) (s .pre) (s .args .q) (at .loop .i) (c .before .before .before .before .loop-test .taken) (at .loop .m) (at .loop .inv .1) in
+    let h : at .loop .m .count < mostTasks = free (s .args .costs .now) (s .args .deadlines .now) (s .args .periods .now) (s .args .server .now) (s .args .n) (s .pre) (s .args .q) (at .loop .i) (c .before .before .before .before .loop-test .taken) (at .loop .m) (at .loop .inv .1) in
     search needs
 
 element-write-m-2 : tie.Need-element-write-m-2 Inv-loop μ-loop
 element-write-m-2 c =
     let at = c .before .before .before .before .before in
     let s = at .before in
-    let h : at .loop .m .count < 64 = free (s .args .costs .now) (s .args .deadlines .now) (s .args .periods .now) (s .args .server .now) (s .args .n) (s .pre) (s .args .q) (at .loop .i) (c .before .before .before .before .loop-test .taken) (at .loop .m) (at .loop .inv .1) in
+    let h : at .loop .m .count < mostTasks = free (s .args .costs .now) (s .args .deadlines .now) (s .args .periods .now) (s .args .server .now) (s .args .n) (s .pre) (s .args .q) (at .loop .i) (c .before .before .before .before .loop-test .taken) (at .loop .m) (at .loop .inv .1) in
     search needs
 
 mul-m-5 : tie.Need-mul-m-5 Inv-loop μ-loop
@@ -120,21 +121,21 @@ mul-m-6 : tie.Need-mul-m-6 Inv-loop μ-loop
 mul-m-6 c =
     let at = c .before .before .before .before .before .before in
     let s = at .before in
-    let h : at .loop .m .count < 64 = free (s .args .costs .now) (s .args .deadlines .now) (s .args .periods .now) (s .args .server .now) (s .args .n) (s .pre) (s .args .q) (at .loop .i) (c .before .before .before .before .before .loop-test .taken) (at .loop .m) (at .loop .inv .1) in
+    let h : at .loop .m .count < mostTasks = free (s .args .costs .now) (s .args .deadlines .now) (s .args .periods .now) (s .args .server .now) (s .args .n) (s .pre) (s .args .q) (at .loop .i) (c .before .before .before .before .before .loop-test .taken) (at .loop .m) (at .loop .inv .1) in
     search needs
 
 element-write-m-3 : tie.Need-element-write-m-3 Inv-loop μ-loop
 element-write-m-3 c =
     let at = c .before .before .before .before .before .before in
     let s = at .before in
-    let h : at .loop .m .count < 64 = free (s .args .costs .now) (s .args .deadlines .now) (s .args .periods .now) (s .args .server .now) (s .args .n) (s .pre) (s .args .q) (at .loop .i) (c .before .before .before .before .before .loop-test .taken) (at .loop .m) (at .loop .inv .1) in
+    let h : at .loop .m .count < mostTasks = free (s .args .costs .now) (s .args .deadlines .now) (s .args .periods .now) (s .args .server .now) (s .args .n) (s .pre) (s .args .q) (at .loop .i) (c .before .before .before .before .before .loop-test .taken) (at .loop .m) (at .loop .inv .1) in
     search needs
 
 add-m : tie.Need-add-m Inv-loop μ-loop
 add-m c =
     let at = c .before .before .before .before .before .before in
     let s = at .before in
-    let h : at .loop .m .count < 64 = free (s .args .costs .now) (s .args .deadlines .now) (s .args .periods .now) (s .args .server .now) (s .args .n) (s .pre) (s .args .q) (at .loop .i) (c .before .before .before .before .before .loop-test .taken) (at .loop .m) (at .loop .inv .1) in
+    let h : at .loop .m .count < mostTasks = free (s .args .costs .now) (s .args .deadlines .now) (s .args .periods .now) (s .args .server .now) (s .args .n) (s .pre) (s .args .q) (at .loop .i) (c .before .before .before .before .before .loop-test .taken) (at .loop .m) (at .loop .inv .1) in
     search needs
 
 add-i : tie.Need-add-i Inv-loop μ-loop

@@ -1,28 +1,29 @@
--- `own_horizon` meets its contract: the limit holds the server's horizon, so the multiple is always within it. Assumes nothing.
+-- `own_horizon` meets its contract: the server's horizon divides the file's, so the multiple is always within it. Assumes nothing.
 use Prim.Native.Nat.{ℕ, _<_}
-use mathlib.Core.Path.{sym, ap, _∙_}
+use mathlib.Core.Path.{sym, _∙_}
 use mathlib.Core.List.{List}
 use borrow.Author.Needs.{needs}
 use native.Mathlib.Omega.{arith}
 use lib.ListN.{take}
 use Rattle.wholes.specs.Multiple.{leastMultipleOf, within}
 use Rattle.wholes.proofs.WithinLaws.{within-value, past-value}
-use Rattle.verdict.proofs.Horizons.{periods-taken, own-taken}
+use Rattle.verdict.proofs.Horizons.{own-taken}
 use Rattle.servers.specs.Members.{Bounded}
 use Rattle.servers.proofs.MemberLaws.{bounded-positive}
+use Rattle.servers.proofs.PartLaws.{own-within}
 use Rattle.servers.proofs.members.own_horizon.Statement.{statement}
 use Rattle.servers.proofs.members.own_horizon.Tie as tie
 
--- no horizon is past the limit
-within-limit : {costs deadlines periods : List ℕ} {n S : ℕ} {A : Type 0} → Bounded costs deadlines periods n S → 10000000 < leastMultipleOf S (take n periods) → A
-within-limit {costs} {deadlines} {periods} {n} {S} b h =
-    absurd (omega (arith, b .horizon, ap (leastMultipleOf S) (periods-taken costs deadlines periods n (b .loaded .periods-there))))
+-- the server's horizon is not past the file's
+never-past : {costs deadlines periods : List ℕ} {n S H : ℕ} {A : Type 0} → Bounded costs deadlines periods n S H → H < leastMultipleOf S (take n periods) → A
+never-past {costs} {deadlines} {periods} {n} {S} b h =
+    absurd (omega (arith, own-within b, own-taken costs deadlines periods S n (b .loaded .periods-there)))
 
 least-multiple-of-requires : tie.Need-least-multiple-of-requires
 least-multiple-of-requires c κs = bounded-positive (c .before .before .before .pre)
 
-enum-known-horizon : tie.Need-enum-known-horizon
-enum-known-horizon c = search needs
+enum-known-own : tie.Need-enum-known-own
+enum-known-own c = search needs
 
 enum-told : tie.Need-enum-told
 enum-told c = search needs
@@ -30,14 +31,14 @@ enum-told c = search needs
 returns : tie.Need-returns
 returns c =
     let s = c .before .before .before .before .before .before in
-    within-limit (s .pre) (omega (arith, past-value _ _ (sym (c .before .before .least-multiple-of .ensures) ∙ c .enum-told .given .1)))
+    never-past (s .pre) (omega (arith, past-value _ _ (sym (c .before .before .least-multiple-of .ensures) ∙ c .enum-told .given .1)))
 
 returns-2 : tie.Need-returns-2
 returns-2 c =
     let s = c .before .before .before .before .before .before .before in
-    within-value _ _ _ (sym (c .before .before .before .least-multiple-of .ensures) ∙ c .before .horizon .given .1) .0 ∙
+    within-value _ _ _ (sym (c .before .before .before .least-multiple-of .ensures) ∙ c .before .own .given .1) .0 ∙
     sym (own-taken (s .args .t1 .costs) (s .args .t1 .deadlines) (s .args .t1 .periods) (s .args .slot) (s .args .t1 .count) (s .pre .loaded .periods-there))
 
 pub own-horizon-spec : {M : Type 1} → statement M
 own-horizon-spec =
-    tie.close (tie.spec least-multiple-of-requires enum-known-horizon enum-told returns returns-2)
+    tie.close (tie.spec least-multiple-of-requires enum-known-own enum-told returns returns-2)

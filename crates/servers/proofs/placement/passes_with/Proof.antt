@@ -10,6 +10,7 @@ use lib.ListN.{length, take}
 use Rattle.demand.specs.Load.{Load, loadAt, loadsOf}
 use Rattle.demand.proofs.Demand.{loads-length}
 use Rattle.verdict.specs.Verdict.{passing}
+use Rattle.tasks.specs.Set.{mostTasks}
 use Rattle.servers.specs.Members.{membersOf, withLoad, Sized}
 use Rattle.servers.specs.Placement.{loadsIn, takes}
 use Rattle.servers.specs.declared.members.Members.{Members}
@@ -19,16 +20,16 @@ use Rattle.servers.proofs.placement.passes_with.Statement.{statement}
 use Rattle.servers.proofs.placement.passes_with.Tie as tie
 
 -- the server has room for one load more
-room : (costs deadlines periods placement : List ℕ) (i q S L : ℕ) → Sized costs deadlines periods (i + 1) S L → length (loadsIn (loadsOf costs deadlines periods i) placement q) < 64
-room costs deadlines periods placement i q S L file =
+room : (costs deadlines periods placement : List ℕ) (i q S L H : ℕ) → Sized costs deadlines periods (i + 1) S L H → length (loadsIn (loadsOf costs deadlines periods i) placement q) < mostTasks
+room costs deadlines periods placement i q S L H file =
     omega (arith, file .bounded .few, in-few (loadsOf costs deadlines periods i) placement q, loads-length costs deadlines periods i)
 
 -- so the next place is one of the row
-free : (m : Members) (costs deadlines periods placement : List ℕ) (i q S L : ℕ) → Sized costs deadlines periods (i + 1) S L →
-    m ≡ membersOf (loadsIn (loadsOf costs deadlines periods i) placement q) → m .count < 64
+free : (m : Members) (costs deadlines periods placement : List ℕ) (i q S L H : ℕ) → Sized costs deadlines periods (i + 1) S L H →
+    m ≡ membersOf (loadsIn (loadsOf costs deadlines periods i) placement q) → m .count < mostTasks
 unfolding membersOf
-free m costs deadlines periods placement i q S L file e =
-    omega (arith, ap (λ (k : Members). k .count) e, room costs deadlines periods placement i q S L file)
+free m costs deadlines periods placement i q S L H file e =
+    omega (arith, ap (λ (k : Members). k .count) e, room costs deadlines periods placement i q S L H file)
 
 gather-requires : tie.Need-gather-requires
 gather-requires c κs = search needs
@@ -42,13 +43,13 @@ shared-slice-read-after c = search needs
 mul-after-2 : tie.Need-mul-after-2
 mul-after-2 c =
     let s = c .before .before .before .before .before .before in
-    let h : c .before .gather .result .count < 64 = free (c .before .gather .result) _ _ _ _ (s .args .i) (s .args .q) _ _ (s .pre .0) (c .before .gather .ensures) in
+    let h : c .before .gather .result .count < mostTasks = free (c .before .gather .result) _ _ _ _ (s .args .i) (s .args .q) _ _ _ (s .pre .0) (c .before .gather .ensures) in
     search needs
 
 element-write-after : tie.Need-element-write-after
 element-write-after c =
     let s = c .before .before .before .before .before .before in
-    let h : c .before .gather .result .count < 64 = free (c .before .gather .result) _ _ _ _ (s .args .i) (s .args .q) _ _ (s .pre .0) (c .before .gather .ensures) in
+    let h : c .before .gather .result .count < mostTasks = free (c .before .gather .result) _ _ _ _ (s .args .i) (s .args .q) _ _ _ (s .pre .0) (c .before .gather .ensures) in
     search needs
 
 mul-after-3 : tie.Need-mul-after-3
@@ -60,13 +61,13 @@ shared-slice-read-after-2 c = search needs
 mul-after-4 : tie.Need-mul-after-4
 mul-after-4 c =
     let s = c .before .before .before .before .before .before .before in
-    let h : c .before .before .gather .result .count < 64 = free (c .before .before .gather .result) _ _ _ _ (s .args .i) (s .args .q) _ _ (s .pre .0) (c .before .before .gather .ensures) in
+    let h : c .before .before .gather .result .count < mostTasks = free (c .before .before .gather .result) _ _ _ _ (s .args .i) (s .args .q) _ _ _ (s .pre .0) (c .before .before .gather .ensures) in
     search needs
 
 element-write-after-2 : tie.Need-element-write-after-2
 element-write-after-2 c =
     let s = c .before .before .before .before .before .before .before in
-    let h : c .before .before .gather .result .count < 64 = free (c .before .before .gather .result) _ _ _ _ (s .args .i) (s .args .q) _ _ (s .pre .0) (c .before .before .gather .ensures) in
+    let h : c .before .before .gather .result .count < mostTasks = free (c .before .before .gather .result) _ _ _ _ (s .args .i) (s .args .q) _ _ _ (s .pre .0) (c .before .before .gather .ensures) in
     search needs
 
 mul-after-5 : tie.Need-mul-after-5
@@ -78,19 +79,19 @@ shared-slice-read-after-3 c = search needs
 mul-after-6 : tie.Need-mul-after-6
 mul-after-6 c =
     let s = c .before .before .before .before .before .before .before .before in
-    let h : c .before .before .before .gather .result .count < 64 = free (c .before .before .before .gather .result) _ _ _ _ (s .args .i) (s .args .q) _ _ (s .pre .0) (c .before .before .before .gather .ensures) in
+    let h : c .before .before .before .gather .result .count < mostTasks = free (c .before .before .before .gather .result) _ _ _ _ (s .args .i) (s .args .q) _ _ _ (s .pre .0) (c .before .before .before .gather .ensures) in
     search needs
 
 element-write-after-3 : tie.Need-element-write-after-3
 element-write-after-3 c =
     let s = c .before .before .before .before .before .before .before .before in
-    let h : c .before .before .before .gather .result .count < 64 = free (c .before .before .before .gather .result) _ _ _ _ (s .args .i) (s .args .q) _ _ (s .pre .0) (c .before .before .before .gather .ensures) in
+    let h : c .before .before .before .gather .result .count < mostTasks = free (c .before .before .before .gather .result) _ _ _ _ (s .args .i) (s .args .q) _ _ _ (s .pre .0) (c .before .before .before .gather .ensures) in
     search needs
 
 add-after : tie.Need-add-after
 add-after c =
     let s = c .before .before .before .before .before .before .before .before in
-    let h : c .before .before .before .gather .result .count < 64 = free (c .before .before .before .gather .result) _ _ _ _ (s .args .i) (s .args .q) _ _ (s .pre .0) (c .before .before .before .gather .ensures) in
+    let h : c .before .before .before .gather .result .count < mostTasks = free (c .before .before .before .gather .result) _ _ _ _ (s .args .i) (s .args .q) _ _ _ (s .pre .0) (c .before .before .before .gather .ensures) in
     search needs
 
 -- the server before the task joins, and with it
@@ -104,13 +105,13 @@ module _ (c : tie.After-shared-slice-known7) where
   abbrev joining : Load
   joining = loadAt (start .args .costs .now) (start .args .deadlines .now) (start .args .periods .now) (start .args .i)
 
-  before : Holds (start .args .costs .now) (start .args .deadlines .now) (start .args .periods .now) (start .args .i + 1) (start .args .slot) (c .before .before .before .gather .result) inside
+  before : Holds (start .args .horizon) (c .before .before .before .gather .result) inside
   before = holds-gathered (start .pre .0) _ _ _ _ (omega arith) (c .before .before .before .gather .ensures)
 
-  after : Holds (start .args .costs .now) (start .args .deadlines .now) (start .args .periods .now) (start .args .i + 1) (start .args .slot) (withLoad (c .before .before .before .gather .result) joining) (inside ++ (joining ∷ []))
+  after : Holds (start .args .horizon) (withLoad (c .before .before .before .gather .result) joining) (inside ++ (joining ∷ []))
   after =
       holds-with (start .pre .0) (start .args .i) (withLoad (c .before .before .before .gather .result) joining) (omega arith)
-      (room _ _ _ (take (start .args .i) (start .args .server .now)) (start .args .i) (start .args .q) _ _ (start .pre .0)) before refl
+      (room _ _ _ (take (start .args .i) (start .args .server .now)) (start .args .i) (start .args .q) _ _ _ (start .pre .0)) before refl
 
 -- both have a horizon; the one that is asked for below is that with the task
 own-horizon-requires : tie.Need-own-horizon-requires

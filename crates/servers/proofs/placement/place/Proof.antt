@@ -16,11 +16,11 @@ use Rattle.servers.proofs.placement.place.Statement.{statement}
 use Rattle.servers.proofs.placement.place.Tie as tie
 
 abbrev Inv-loop : tie.InvT-loop
-Inv-loop costs deadlines periods n slot loss count₀ server₀ i₀ count server i =
+Inv-loop costs deadlines periods n slot loss horizon count₀ server₀ i₀ count server i =
     (i ≤ n) × SoFar (loadsOf costs deadlines periods i) slot loss i server count
 
 abbrev μ-loop : tie.MeasureT-loop
-μ-loop costs deadlines periods n slot loss count₀ server₀ i₀ count server i = n - i
+μ-loop costs deadlines periods n slot loss horizon count₀ server₀ i₀ count server i = n - i
 
 loop-holds : tie.Need-loop-holds Inv-loop μ-loop
 unfolding loadsOf

@@ -15,12 +15,12 @@ use Rattle.servers.proofs.placement.server_for.Statement.{statement}
 use Rattle.servers.proofs.placement.server_for.Tie as tie
 
 abbrev Inv-loop : tie.InvT-loop
-Inv-loop costs deadlines periods server i count slot loss q₀ q =
+Inv-loop costs deadlines periods server i count slot loss horizon q₀ q =
     (1 ≤ q) × (q ≤ count + 1)
     × ((x : ℕ) → 1 ≤ x → x < q → takes (loadsOf costs deadlines periods i) slot loss (take i server) (loadAt costs deadlines periods i) x ≡ false)
 
 abbrev μ-loop : tie.MeasureT-loop
-μ-loop costs deadlines periods server i count slot loss q₀ q = count + 1 - q
+μ-loop costs deadlines periods server i count slot loss horizon q₀ q = count + 1 - q
 
 -- one server more that does not have p
 below-next : (p : ℕ → Bool) (q : ℕ) → ((x : ℕ) → 1 ≤ x → x < q → p x ≡ false) → p q ≡ false → (x : ℕ) → 1 ≤ x → x < q + 1 → p x ≡ false

@@ -17,7 +17,7 @@ gather-requires c κs = search needs
 sized : (c : tie.After-gather) →
     let s = c .before .before .before .before .before in
     let m = c .gather .result in
-    Sized (m .costs) (m .deadlines) (m .periods) (m .count) (s .args .slot) (s .args .loss)
+    Sized (m .costs) (m .deadlines) (m .periods) (m .count) (s .args .slot) (s .args .loss) (s .args .horizon)
 sized c =
     let s = c .before .before .before .before .before in
     holds-sized (s .pre .0) (holds-gathered (s .pre .0) _ _ _ _ (le-refl (s .args .n)) (c .gather .ensures))

@@ -1,5 +1,6 @@
 -- The claims of specs/Claims.antt, proved.
 use Prim.Native.Nat.{ℕ, zero, suc, _-_, _≤_}
+use native.Mathlib.Numerals.{add-one}
 use native.Mathlib.Omega.{arith}
 use mathlib.Core.Path.{_≡_, refl, sym, ap, subst, _∙_}
 use mathlib.Core.Logic.{_⊎_, inl, inr, ⊎-elim}
@@ -14,14 +15,14 @@ use Rattle.verdict.specs.Search.{NoneIn, First}
 use Rattle.verdict.specs.Reserve.{Smallest}
 use Rattle.verdict.proofs.Claims.{passing-means, reserve-means}
 use Rattle.servers.specs.Placement.{loadsIn, serversIn, takes, fit, placeFrom, placementOf}
-use Rattle.servers.specs.Reserve.{reservesUpTo, reservesOf}
+use Rattle.servers.specs.Reserve.{reserveIn, reservesOf}
 use Rattle.servers.specs.Claims.{Parted, EachInOne, EveryPasses, PassesWith, Lowest, Opened, FirstFit, SmallestReserves, ServerLoads}
 use Rattle.servers.proofs.LoadLaws.{every-in}
 use Rattle.servers.proofs.PartLaws.{own-in-divides}
 use Rattle.servers.proofs.FitLaws.{fit-view}
 use Rattle.servers.proofs.PlacementLaws.{placement-length, placement-more, by-last, placement-grows}
 use Rattle.servers.proofs.StandingLaws.{OldOrNew, TakesOrNew, old-or-new, AllPass, parted-more, few-more, all-pass-more}
-use Rattle.servers.proofs.ReserveLaws.{reserves-length, reserves-at}
+use Rattle.servers.proofs.PaddedLaws.{up-length, up-at}
 
 -- first fit picks a server that takes the task, or a new one
 fit-takes-or-new : (ls : List Load) (S L : ℕ) (placement : List ℕ) (l : Load) → TakesOrNew ls S L placement l (fit ls S L placement l)
@@ -147,7 +148,7 @@ first-fit before l after S L a = (
 
 pub smallest-reserves : SmallestReserves
 unfolding reservesOf
-smallest-reserves ls S L a = (reserves-length ls S L (placementOf ls S L) (serversIn (placementOf ls S L)), each)
+smallest-reserves ls S L a = (up-length (reserveIn ls S L (placementOf ls S L)) (serversIn (placementOf ls S L)), each)
   where
     p : List ℕ
     p = placementOf ls S L
@@ -157,7 +158,7 @@ smallest-reserves ls S L a = (reserves-length ls S L (placementOf ls S L) (serve
     each (suc q) first there =
         let e : suc q - 1 ≡ q = omega arith in
         subst (λ (R : ℕ). Smallest (loadsIn ls p (suc q)) S L R)
-        (sym (ap (λ (k : ℕ). getD (reservesUpTo ls S L p (serversIn p)) k 0) e ∙ reserves-at ls S L p (serversIn p) q there))
+        (sym (ap (λ (k : ℕ). getD (reservesOf ls S L) k 0) e ∙ up-at (reserveIn ls S L p) (serversIn p) q there ∙ ap (reserveIn ls S L p) (add-one q)))
         (reserve-means (loadsIn ls p (suc q)) S L (asked-in ls p S (suc q) a) (every-passes ls S L a (suc q) first there))
 
 pub server-loads : ServerLoads

@@ -3,13 +3,14 @@
 use Prim.Native.Nat.{ℕ, _+_, _-_, _≤_, _<_}
 use mathlib.Core.Path.{_≡_, refl, sym, ap, subst, _∙_}
 use mathlib.Core.Logic.{_⊎_, ⊎-elim}
-use mathlib.Core.Bool.{true, false, and-false}
+use mathlib.Core.Bool.{true}
 use mathlib.Core.List.{List}
 use native.Mathlib.Omega.{arith}
 use borrow.Author.Tests.{leb-true, ltb-false}
 use lib.Dec.{leb}
 use lib.ListN.{length, getD, take}
 use lib.Seq.{getD-take}
+use Rattle.tasks.specs.Set.{mostTasks}
 use Rattle.laws.proofs.Tests.{and-left, and-right}
 use Rattle.refusals.specs.declared.Outcome.the-variants.{Done}
 use Rattle.demand.specs.Passes.{Passes}
@@ -19,7 +20,7 @@ use Rattle.verdict.specs.Claims.{Asked}
 use Rattle.verdict.proofs.Claims.{verdict-means}
 use Rattle.servers.specs.Placement.{loadsIn, serversIn}
 use Rattle.servers.specs.Claims.{Parted}
-use Rattle.servers.proofs.ServerClaims.{each-in-one, every-passes, smallest-reserves}
+use Rattle.servers.proofs.Claims.{each-in-one, every-passes, smallest-reserves}
 use Rattle.servers.proofs.LoadLaws.{every-in}
 use Rattle.ring.specs.declared.clock.Tick.{Tick}
 use Rattle.ring.specs.Who.{whoOf}
@@ -33,11 +34,11 @@ use Rattle.plan.specs.Plan.{laidOut, setPlacement, setReserves, planMade}
 use Rattle.plan.specs.Planner.{needed, fullRow}
 use Rattle.questions.specs.Agrees.{makes}
 use Rattle.questions.specs.Question.{allowed, isProcessor, isServer, whoAnswer, whoRuns, doesPass}
-use Rattle.plan_claims.specs.Claims.{at, Placed, Reserved, Laid, AcceptedPlan, Accepted, WhoTells, WhoAnswers, PassTells, PassAnswers, AsksElse}
+use Rattle.plan_claims.specs.Claims.{at, PlacedOnce, Reserved, OnBoard, CheckedPlan, WhoTells, PassTells}
 use Rattle.plan.proofs.Made.{sound, slot-some, outcome-clear}
 use Rattle.questions.proofs.Checked.{OfSet, of-set, same-made, makes-done, placement-count}
 
-module _ (set : TaskSet) (plan : Plan) (full : length (set .tasks) ≡ 64) (e : makes set plan ≡ true) where
+module _ (set : TaskSet) (plan : Plan) (full : length (set .tasks) ≡ mostTasks) (e : makes set plan ≡ true) where
   known : OfSet set plan
   known = of-set set full plan e
 
@@ -54,7 +55,7 @@ module _ (set : TaskSet) (plan : Plan) (full : length (set .tasks) ≡ 64) (e : 
   server-at : (i : ℕ) → i < set .count → getD (setPlacement set) i 0 ≡ getD (plan .server) i 0
   server-at i h = sym (ap (λ (l : List ℕ). getD l i 0) (known .placement)) ∙ getD-take (set .count) (plan .server) i 0 h
 
-  placed : Placed set plan
+  placed : PlacedOnce set plan
   placed = record {
     there = λ k h l.
         let i : k - 1 < length (setPlacement set) = omega (arith, counted) in
@@ -102,15 +103,16 @@ module _ (set : TaskSet) (plan : Plan) (full : length (set .tasks) ≡ 64) (e : 
   unfolding fullRow
   on-board = ltb-false (set .header .processors) (needed set) (outcome-clear set (makes-done set plan e) .1)
 
-  laid : Laid set plan
-  laid = record {
+  within-board : OnBoard set plan
+  within-board = record {
     ring = same-made set full plan e .ring ∙ made-ring ∙ ap (ringProcessors (set .header .slot)) (sym (known .reserves));
     whole = same-made set full plan e .whole ∙ made-whole ∙ ap (wholes (set .header .slot)) (sym (known .reserves));
     within = omega (arith, known .processors, on-board);
   }
 
-  accepted-plan : AcceptedPlan set plan
-  accepted-plan = record { placed = placed; reserved = reserved; laid = laid }
+  -- all of it
+  pub checked-plan : CheckedPlan set plan
+  checked-plan = record { placed = placed; reserved = reserved; on-board = within-board }
 
   -- ---- who runs
 
@@ -127,7 +129,8 @@ module _ (set : TaskSet) (plan : Plan) (full : length (set .tasks) ≡ 64) (e : 
     unfolding isProcessor needed
     among = omega (arith, leb-true p (plan .ring + plan .whole) (and-right (leb 1 p) (leb p (plan .ring + plan .whole)) t), known .processors)
 
-    who-tells : (x : Tick) → WhoTells set plan p x
+    -- what it answers
+    pub who-tells : (x : Tick) → WhoTells set plan p x
     who-tells x =
         let served = who-serves (set .header .slot) (setReserves set) p x from-one among in
         let stays = who-stays (set .header .slot) (setReserves set) p x (asked .slot) from-one among in
@@ -149,7 +152,8 @@ module _ (set : TaskSet) (plan : Plan) (full : length (set .tasks) ≡ 64) (e : 
     own-asked : Asked (loadsIn (loadsOfSet set) (setPlacement set) q) (set .header .slot)
     own-asked = record { sound = every-in _ (loadsOfSet set) (setPlacement set) q (asked .sound); slot = asked .slot }
 
-    pass-tells : PassTells set plan q R
+    -- what it answers
+    pub pass-tells : PassTells set plan q R
     pass-tells =
         let v = verdict-means (loadsIn (loadsOfSet set) (setPlacement set) q) (set .header .slot) (lossOf (set .header)) R own-asked in
         record {
@@ -157,31 +161,3 @@ module _ (set : TaskSet) (plan : Plan) (full : length (set .tasks) ≡ 64) (e : 
           yes-means = rw (known .placement, pass-is) (v .0);
           no-means = rw (known .placement, pass-is) (v .1);
         }
-
--- what a checked plan is
-pub accepted : Accepted
-accepted set plan full e = accepted-plan set plan full e
-
--- who runs
-pub who-answers : WhoAnswers
-who-answers set plan p x full e t = who-tells set plan full e p t x
-
--- does it pass
-pub pass-answers : PassAnswers
-pass-answers set plan q R full e s a = pass-tells set plan full e q R s a
-
--- ---- otherwise
-
--- both questions refuse where something is not there
-pub asks-else : AsksElse
-unfolding whoRuns doesPass
-asks-else = record {
-  who = λ set plan p x h.
-      ⊎-elim (λ (e : makes set plan ≡ false). rw e) (λ (e : isProcessor plan p ≡ false). rw (e, and-false (makes set plan))) h;
-  pass = λ set plan q R h.
-      ⊎-elim (λ (e : makes set plan ≡ false). rw e)
-      (λ (w : (isServer plan q ≡ false) ⊎ (allowed (set .header .slot) (lossOf (set .header)) R ≡ false)).
-      ⊎-elim (λ (e : isServer plan q ≡ false). rw (e, and-false (makes set plan)))
-      (λ (e : allowed (set .header .slot) (lossOf (set .header)) R ≡ false). rw (e, and-false (isServer plan q), and-false (makes set plan))) w)
-      h;
-}

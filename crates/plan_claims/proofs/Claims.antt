@@ -1,0 +1,135 @@
+-- The claims of specs/Claims.antt, proved.
+-- Assumes nothing.
+use Prim.Native.Nat.{ℕ, _<_}
+use mathlib.Core.Path.{_≡_, refl, sym, ap, subst, _∙_}
+use mathlib.Core.Logic.{_⊎_, ⊎-elim}
+use mathlib.Core.Bool.{true, false, and-false}
+use native.Mathlib.Omega.{arith}
+use Rattle.refusals.specs.declared.Refusal.{Refusal}
+use Rattle.refusals.specs.declared.Outcome.{Outcome}
+use Rattle.refusals.specs.declared.Outcome.the-variants.{Done, Refused}
+use Rattle.refusals.proofs.FirstLaws.{done-refused, till-done, done-till, stays, found}
+use Rattle.tasks.specs.declared.set.TaskSet.{TaskSet}
+use Rattle.rows.specs.Charge.{lossOf}
+use Rattle.plan.specs.declared.plan.Plan.{Plan}
+use Rattle.plan.specs.Plan.{planMade, zeroPlan}
+use Rattle.plan.specs.Planner.{planOutcome, answer, planOf}
+use Rattle.plan.proofs.Made.{plan-outcome, plan-is}
+use Rattle.questions.specs.Agrees.{makes}
+use Rattle.questions.specs.Question.{allowed, isProcessor, isServer, whoRuns, doesPass}
+use Rattle.questions.proofs.AgreeLaws.{agree-same, agree-self}
+use Rattle.questions.proofs.Checked.{makes-done, makes-agrees}
+use Rattle.plan_claims.specs.Claims.{PlannerRow, turn, refusalOf, NotHeld, FirstHolds, PlanExactly, PlanDone, PlanOnly, PlanGiven, PlanDetermined, RoomIgnored, MakesOwn, PlanChecked, WhoAnswers, PassAnswers, AsksElse}
+use Rattle.plan_claims.proofs.ExactLaws.{outcomeOf, rowAt, rowOf, outs, holds-by, by-holds, not-by, by-not, refusal-named, row-back, at-turn, turn-below, turn-at, outcome-is}
+use Rattle.plan_claims.proofs.RoomLaws.{set-room, plan-room}
+use Rattle.plan_claims.proofs.CheckedLaws.{checked-plan, who-tells, pass-tells}
+
+-- each refusal exactly when its row holds first
+pub plan-exactly : PlanExactly
+plan-exactly row set k = (there, back)
+  where
+    there : planOf set .outcome ≡ Refused (refusalOf row k) → FirstHolds row set k
+    there e =
+        let f = found (outs set) 7 (refusalOf row k) (sym (outcome-is set) ∙ e) in
+        let n = refusal-named (rowAt (f .before)) set (refusalOf row k) (f .refuses) in
+        let same : rowAt (f .before) ≡ row = sym (row-back (rowAt (f .before)) (n .0)) ∙ sym (ap rowOf (n .1)) ∙ row-back row k in
+        let place : f .before ≡ turn row = sym (turn-at (f .before) (f .within)) ∙ ap turn same in
+        record {
+          holds = holds-by row set k (subst (λ (q : PlannerRow). outcomeOf q set ≡ Refused (refusalOf row k)) same (f .refuses));
+          earlier = λ other h. not-by other set (subst (λ (q : PlannerRow). outcomeOf q set ≡ Done) (at-turn other) (till-done (outs set) (f .before) (f .clear) (turn other) (omega arith)));
+        }
+
+    back : FirstHolds row set k → planOf set .outcome ≡ Refused (refusalOf row k)
+    back w =
+        outcome-is set
+        ∙ stays (outs set) (turn row) 7 (refusalOf row k)
+        (done-till (outs set) (turn row) (λ j l. by-not (rowAt j) set (w .earlier (rowAt j) (omega (arith, turn-at j (omega (arith, turn-below row)))))))
+        (subst (λ (q : PlannerRow). outcomeOf q set ≡ Refused (refusalOf row k)) (sym (at-turn row)) (by-holds row set k (w .holds)))
+        (turn-below row)
+
+-- a plan exactly when no row holds
+pub plan-done : PlanDone
+plan-done set = (there, back)
+  where
+    there : planOf set .outcome ≡ Done → (row : PlannerRow) → NotHeld row set
+    there e row =
+        not-by row set (subst (λ (q : PlannerRow). outcomeOf q set ≡ Done) (at-turn row) (till-done (outs set) 7 (sym (outcome-is set) ∙ e) (turn row) (turn-below row)))
+
+    back : ((row : PlannerRow) → NotHeld row set) → planOf set .outcome ≡ Done
+    back f = outcome-is set ∙ done-till (outs set) 7 (λ j l. by-not (rowAt j) set (f (rowAt j)))
+
+-- no other refusal
+pub plan-only : PlanOnly
+plan-only set r e =
+    let f = found (outs set) 7 r (sym (outcome-is set) ∙ e) in
+    let n = refusal-named (rowAt (f .before)) set r (f .refuses) in
+    (rowAt (f .before), n .0, n .1)
+
+refused-zero : (o : Outcome) (p : Plan) (r : Refusal) → answer o p .outcome ≡ Refused r → answer o p .plan ≡ zeroPlan
+refused-zero Done p r e = done-refused e
+refused-zero (Refused q) p r e = refl
+
+module _ (set : TaskSet) where
+  done-outcome : planOf set .outcome ≡ Done → planOutcome set ≡ Done
+  done-outcome e = sym (plan-outcome set) ∙ e
+
+  -- the plan of each outcome
+  pub plan-given : PlanGiven set
+  unfolding planOf
+  plan-given = record {
+    made = λ e. plan-is set (done-outcome e);
+    zero = λ r e. refused-zero (planOutcome set) (planMade set) r e;
+  }
+
+  own-made : planOf set .outcome ≡ Done → makes set (planOf set .plan) ≡ true
+  unfolding makes
+  own-made e = rw (plan-is set (done-outcome e), done-outcome e) (agree-self (set .count) (planMade set))
+
+  -- the planner makes its own plan and no other
+  pub makes-own : MakesOwn set
+  makes-own = record {
+    own = own-made;
+    other = λ plan e.
+        let d = makes-done set plan e in
+        let s = agree-same plan (planMade set) (set .count) (makes-agrees set plan e) in
+        (plan-outcome set ∙ d, rw (plan-is set d) s);
+  }
+
+-- each contract names its one answer
+pub plan-determined : PlanDetermined
+plan-determined = record {
+  planner = λ set a b p q. p ∙ sym q;
+  check = λ set plan a b p q. p ∙ sym q;
+  who = λ set plan x t a b p q. p ∙ sym q;
+  pass = λ set plan x t a b p q. p ∙ sym q;
+}
+
+-- unused room changes no answer
+pub room-ignored : RoomIgnored
+room-ignored = record { of-sets = set-room; of-plans = plan-room }
+
+-- what a checked plan is
+pub plan-checked : PlanChecked
+plan-checked set plan full e = checked-plan set plan full e
+
+-- who runs
+pub who-answers : WhoAnswers
+who-answers set plan p x full e t = who-tells set plan full e p t x
+
+-- does it pass
+pub pass-answers : PassAnswers
+pass-answers set plan q R full e s a = pass-tells set plan full e q R s a
+
+-- both questions refuse where something is not there
+pub asks-else : AsksElse
+unfolding whoRuns doesPass
+asks-else = record {
+  who = λ set plan p x h.
+      ⊎-elim (λ (e : makes set plan ≡ false). rw e) (λ (e : isProcessor plan p ≡ false). rw (e, and-false (makes set plan))) h;
+  pass = λ set plan q R h.
+      ⊎-elim (λ (e : makes set plan ≡ false). rw e)
+      (λ (w : (isServer plan q ≡ false) ⊎ (allowed (set .header .slot) (lossOf (set .header)) R ≡ false)).
+      ⊎-elim (λ (e : isServer plan q ≡ false). rw (e, and-false (makes set plan)))
+      (λ (e : allowed (set .header .slot) (lossOf (set .header)) R ≡ false). rw (e, and-false (isServer plan q), and-false (makes set plan))) w)
+      h;
+}

@@ -1,0 +1,30 @@
+-- `rows::horizon` meets its contract: row 9 is clear, so the horizon is within the limit.
+-- Assumes nothing.
+use borrow.Author.Needs.{needs}
+use mathlib.Core.Path.{sym, _∙_}
+use native.Mathlib.Omega.{arith}
+use Rattle.wholes.proofs.WithinLaws.{within-value, past-value}
+use Rattle.rows.proofs.Clears.{horizon-short}
+use Rattle.rows.proofs.rows.horizon.Statement.{statement}
+use Rattle.rows.proofs.rows.horizon.Tie as tie
+
+horizon-within-requires : tie.Need-horizon-within-requires
+horizon-within-requires c κs = search needs
+
+enum-known-horizon : tie.Need-enum-known-horizon
+enum-known-horizon c = search needs
+
+enum-told : tie.Need-enum-told
+enum-told c = search needs
+
+returns : tie.Need-returns
+returns c =
+    let s = c .before .before .before in
+    absurd (omega (arith, horizon-short (s .args .set) (s .pre .1), past-value _ _ (sym (c .before .before .horizon-within .ensures) ∙ c .enum-told .given .1)))
+
+returns-2 : tie.Need-returns-2
+returns-2 c = within-value _ _ _ (sym (c .before .before .before .horizon-within .ensures) ∙ c .before .horizon .given .1) .0
+
+pub horizon-spec : {M : Type 1} → statement M
+horizon-spec =
+    tie.close (tie.spec horizon-within-requires enum-known-horizon enum-told returns returns-2)
