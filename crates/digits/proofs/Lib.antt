@@ -1,3 +1,4 @@
+pub mod Claims
 pub mod Digits
 pub mod Numbers
 pub mod Stored

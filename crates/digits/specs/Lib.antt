@@ -1,3 +1,4 @@
 pub mod Digit
 pub mod Number
 pub mod Stored
+pub mod Claims

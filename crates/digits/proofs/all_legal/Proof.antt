@@ -1,4 +1,4 @@
--- `frames::number::all_legal` meets its contract: the bytes passed are legal, so the whole part is as legal as what is left of it.
+-- `digits::all_legal` meets its contract: the bytes passed are legal, so the whole part is as legal as what is left of it.
 -- Assumes nothing.
 use Prim.Native.Nat.{_+_, _-_, _≤_}
 use mathlib.Core.Path.{_≡_, sym, _∙_, ap}

@@ -1,4 +1,4 @@
--- `frames::number::digit` meets its contract: the digit of a value by its two cases.
+-- `digits::digit` meets its contract: the digit of a value by its two cases.
 -- Assumes nothing.
 use mathlib.Core.Path.{sym}
 use borrow.Author.Needs.{needs}

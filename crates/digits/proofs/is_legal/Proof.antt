@@ -1,4 +1,4 @@
--- `frames::number::is_legal` meets its contract: the test of a byte by its two cases.
+-- `digits::is_legal` meets its contract: the test of a byte by its two cases.
 -- Assumes nothing.
 use mathlib.Core.Path.{sym}
 use borrow.Author.Tests.{le-leb, lt-leb}

@@ -1,4 +1,4 @@
--- `frames::number::number_at` meets its contract: the number so far, with the digits left, stands for the whole number.
+-- `digits::number_at` meets its contract: the number so far, with the digits left, stands for the whole number.
 -- Assumes nothing.
 use Prim.Native.Nat.{_+_, _-_, _*_, _^_, _≤_, _<_}
 use mathlib.Core.Path.{_≡_, sym, _∙_, ap}

@@ -1,4 +1,4 @@
--- `frames::number::put_number` meets its contract: the digits set so far, with the rest yet to be stored, are the whole number stored.
+-- `digits::put_number` meets its contract: the digits set so far, with the rest yet to be stored, are the whole number stored.
 -- Assumes nothing.
 use Prim.Native.Nat.{ℕ, suc, _+_, _-_, _/_, _≤_}
 use mathlib.Core.Path.{_≡_, refl, sym, _∙_, ap}

@@ -1,4 +1,4 @@
--- `frames::number::value` meets its contract: the value of a legal digit by its two cases.
+-- `digits::value` meets its contract: the value of a legal digit by its two cases.
 -- Assumes nothing.
 use mathlib.Core.Path.{sym}
 use native.Mathlib.Omega.{arith}

@@ -19,8 +19,7 @@ add-line c = omega (arith, c .length .ensures, length-most (c .before .args .fra
 mul-result : tie.Need-mul-result
 mul-result c =
     let few : c .before .args .n ≤ 65535 = omega arith in
-    let short : c .length .result + 1 ≤ 65 = omega (arith, c .length .ensures, length-most (c .before .args .frame)) in
-    record { fits = lt-of-le-of-lt (mul-le-mul few short) (lit< tt) }
+    record { fits = lt-of-le-of-lt (mul-le-mul {n₂ = 65535} {m₂ = 70} few (omega (arith, c .length .ensures, length-most (c .before .args .frame)))) (lit< tt) }
 
 returns : tie.Need-returns
 returns c = ap (λ (k : ℕ). c .before .args .n * (k + 1)) (c .length .ensures)
