@@ -1,7 +1,6 @@
--- Laws of the text past so many lines: where it is empty it stays so, and it shrinks with each line.
-use Prim.Native.Nat.{ℕ, zero, suc, _+_, _-_, _≤_, _<_}
+-- Laws of the text past so many lines: where it is empty it stays so, it shrinks with each line, and a formed line is passed by its length.
+use Prim.Native.Nat.{ℕ, zero, suc, _+_, _-_, _≤_}
 use native.Mathlib.Omega.{arith}
-use native.Mathlib.Decide.{ℕ-discrete}
 use native.Mathlib.Nat.{add-zero, add-suc, le-refl}
 use mathlib.Core.List.{List, [], _∷_}
 use mathlib.Core.Bool.{Bool, true, false, cond}
@@ -10,10 +9,9 @@ use lib.ListN.{length, drop, length-drop}
 use lib.Seq.{drop-drop}
 use lib.Dec.{eqb}
 use Rattle.frames.specs.Line.{after, formed, LF}
-use Rattle.frames.specs.Table.{lengthOf, widthsOf, sum}
+use Rattle.frames.specs.Table.{lengthOf}
 use Rattle.frames.specs.declared.table.Frame.{Frame}
 use Rattle.taskread.specs.File.{past}
-use Rattle.taskread.specs.Shape.{Shaped, placeAfter}
 use Rattle.frames.proofs.Formed.{formed-length, formed-after}
 
 -- what follows the first of n + m lines
@@ -74,30 +72,12 @@ absent-past n text h =
     let s : length (past n text) ≤ length text - n = past-shorter n text in
     nothing-left (past n text) (omega arith)
 
--- fewer tasks taken
-pub shaped-less : (text : List ℕ) (m n : ℕ) → m ≤ n → Shaped text n → Shaped text m
-shaped-less text m n le s = record { header = s .header; tasks = λ j h. s .tasks j (omega arith) }
-
--- one more task taken
-pub shaped-more : (text : List ℕ) (n : ℕ) → Shaped text n → formed Frame.Task (past (suc n) text) ≡ true → Shaped text (suc n)
-shaped-more text n s h = record { header = s .header; tasks = below n (s .tasks) h }
-  where
-    below : (n : ℕ) → ((j : ℕ) → j < n → formed Frame.Task (past (suc j) text) ≡ true) → formed Frame.Task (past (suc n) text) ≡ true → (j : ℕ) → j < suc n → formed Frame.Task (past (suc j) text) ≡ true
-    below n f h j lt = elim (ℕ-discrete j n) [ yes e ↦ subst (λ (k : ℕ). formed Frame.Task (past (suc k) text) ≡ true) (sym e) h | no ne ↦ f j (omega (arith, ne)) ]
-
--- past the header and n tasks stands what follows their bytes, and the text has those bytes
-pub past-shaped : (text : List ℕ) (n : ℕ) → Shaped text n → (past (suc n) text ≡ drop (placeAfter n) text) × (placeAfter n ≤ length text)
-unfolding past widthsOf sum
-past-shaped text zero s =
-    let e : 31 ≡ placeAfter 0 = omega arith in
-    (formed-after Frame.Header text (s .header) ∙ ap (λ (k : ℕ). drop k text) e, omega (arith, formed-length Frame.Header text (s .header)))
-past-shaped text (suc n) s =
-    let ih : (past (suc n) text ≡ drop (placeAfter n) text) × (placeAfter n ≤ length text) = past-shaped text n (shaped-less text n (suc n) (omega arith) s) in
-    let f : formed Frame.Task (past (suc n) text) ≡ true = s .tasks n (omega arith) in
-    let e : placeAfter n + 23 ≡ placeAfter (suc n) = omega arith in (
-      formed-after Frame.Task (past (suc n) text) f
-          ∙ (ap (drop 23) (ih .0)
-          ∙ (drop-drop 23 (placeAfter n) text
-          ∙ ap (λ (k : ℕ). drop k text) e)),
-      omega (arith, ih .1, formed-length Frame.Task (past (suc n) text) f, ap length (ih .0), length-drop (placeAfter n) text),
-    )
+-- a formed line at the cursor is passed by its length and its LF
+pub past-formed : (frame : Frame) (text : List ℕ) (k at : ℕ) → past k text ≡ drop at text → at ≤ length text → formed frame (drop at text) ≡ true → (past (suc k) text ≡ drop (at + (lengthOf frame + 1)) text) × (at + (lengthOf frame + 1) ≤ length text)
+unfolding past
+past-formed frame text k at rest within f = (
+  ap after rest
+      ∙ formed-after frame (drop at text) f
+      ∙ drop-drop (lengthOf frame + 1) at text,
+  omega (arith, formed-length frame (drop at text) f, length-drop at text),
+)

@@ -1,32 +1,39 @@
 -- How reading goes on: from the header, over each task, to the answer of the whole text.
-use Prim.Native.Nat.{ℕ, zero, suc, _+_, _-_, _≤_, _<_}
+-- Assumes nothing.
+use Prim.Native.Nat.{ℕ, zero, suc, _+_, _≤_, _<_}
 use native.Mathlib.Omega.{arith}
-use native.Mathlib.Numerals.{add-one, add-two}
-use mathlib.Core.List.{List, [], _∷_, _++_}
+use native.Mathlib.Numerals.{add-one}
+use native.Mathlib.Nat.{zero-add}
+use mathlib.Core.List.{List, [], _∷_, _++_, map, map-append}
+use mathlib.Core.Bool.{true}
 use mathlib.Core.Path.{_≡_, refl, sym, _∙_, ap, subst}
-use lib.ListN.{length, drop, replicate, set as put, length-append, drop-of-length-le}
+use lib.ListN.{length, drop, take, set as put, length-append, length-set, drop-of-length-le}
+use lib.Seq.{take-suc-set}
 use Rattle.laws.proofs.Tests.{clash}
 use Rattle.frames.specs.Line.{formed, closed}
-use Rattle.frames.specs.Table.{widthsOf, sum}
+use Rattle.frames.specs.Table.{lengthOf}
+use Rattle.frames.specs.declared.table.Frame.{Frame}
 use Rattle.refusals.specs.declared.Refusal.{Refusal}
 use Rattle.refusals.specs.declared.Refusal.the-variants.{Count}
 use Rattle.refusals.specs.declared.Outcome.{Outcome}
 use Rattle.refusals.specs.declared.Outcome.the-variants.{Done, Refused}
+use Rattle.refusals.specs.First.{till}
 use Rattle.tasks.specs.declared.set.Header.{Header}
 use Rattle.tasks.specs.declared.set.Task.{Task}
 use Rattle.tasks.specs.declared.set.TaskSet.{TaskSet}
 use Rattle.taskread.specs.declared.line.HeaderLine.{HeaderLine}
 use Rattle.taskread.specs.declared.line.TaskLine.{TaskLine}
-use Rattle.tasks.specs.Set.{mostTasks, setOf, zeroSet, zeroTask, withTask}
+use Rattle.tasks.specs.Set.{mostTasks, setOf, zeroSet, withTask}
 use Rattle.tasks.specs.Rows.{figuresOutcome}
-use Rattle.taskread.specs.File.{past, empty, lineRow, orderRow, countLineRow, lineOutcome, linesOutcome, headerAt, taskAt, tasksFrom}
-use Rattle.taskread.specs.Shape.{Shaped, Taken, placeAfter, headerOr, taskOr, ofHeader, ofTask}
+use Rattle.taskread.specs.File.{past, empty, lineRow, orderRow, countLineRow, lineOutcome, headerAt, taskAt, tasksAmong, fileTasks}
+use Rattle.taskread.specs.Shape.{Taken, idsOf, headerOr, taskOr, ofHeader, ofTask}
 use Rattle.taskread.specs.Read.{readOf, fileSet, answer}
-use Rattle.refusals.proofs.FirstLaws.{done-refused}
+use Rattle.refusals.proofs.FirstLaws.{done-refused, till-suc}
 use Rattle.tasks.proofs.SetLaws.{set-more}
-use Rattle.taskread.proofs.Past.{shaped-more, past-shaped}
-use Rattle.taskread.proofs.Lines.{lines-suc, reads-refused, reads-clear, clear-header, clear-task, clear-room, clear-past, shaped-all, tasks-length, tasks-suc}
-use Rattle.taskread.proofs.Standing.{byte-there, rest-at}
+use Rattle.taskread.proofs.Past.{past-formed}
+use Rattle.taskread.proofs.AmongLaws.{among-none, among-task, among-other, among-all}
+use Rattle.taskread.proofs.Lines.{header-no-task, reads-refused, reads-clear, clear-header, clear-task, clear-room, clear-past}
+use Rattle.taskread.proofs.Standing.{byte-there}
 
 -- a line's answer, taken apart
 pub of-header : (o : Outcome) (h : Header) → ofHeader (headerOr o h) ≡ o
@@ -54,71 +61,154 @@ task-refused Done s r e d = clash (cc)
 task-refused (Refused q) s r e d = done-refused (sym d)
 
 -- where the first lines are clear and the next is not, that line answers
-pub reads-line : (text : List ℕ) (n : ℕ) (set : TaskSet) → linesOutcome text n ≡ Done → (lineOutcome text (suc n) ≡ Done → ⊥) → answer (lineOutcome text (suc n)) set ≡ readOf text
-reads-line text n set clear refused = at (lineOutcome text (suc n)) refl
+pub reads-line : (text : List ℕ) (n : ℕ) (set : TaskSet) → till (lineOutcome text) n ≡ Done → (lineOutcome text (suc n) ≡ Done → ⊥) → answer (lineOutcome text (suc n)) set ≡ readOf text
+reads-line text n set clear refused = go (lineOutcome text (suc n)) refl
   where
-    at : (o : Outcome) → lineOutcome text (suc n) ≡ o → answer o set ≡ readOf text
-    at Done e = absurd (refused e)
-    at (Refused r) e = sym (reads-refused text n r clear e)
+    go : (o : Outcome) → lineOutcome text (suc n) ≡ o → answer o set ≡ readOf text
+    go Done e = absurd (refused e)
+    go (Refused r) e = sym (reads-refused text n r clear e)
 
--- the header is taken
-pub taken-header : (text : List ℕ) (h : Header) (set : TaskSet) → set ≡ zeroSet → headerOr (lineOutcome text 1) (headerAt text) ≡ HeaderLine.Header h → Taken text (set .count) (record { header = h; count = set .count; tasks = set .tasks })
-unfolding setOf tasksFrom linesOutcome
-taken-header text h set zeroed e =
-    let given : (lineOutcome text 1 ≡ Done) × (h ≡ headerAt text) = header-given (lineOutcome text 1) (headerAt text) h e in
-    let none : Shaped text 0 = record { header = clear-header text (given .0); tasks = λ j lt. absurd (omega arith) } in
-    rw (zeroed, given .1) (record { shaped = none; clear = given .0; held = refl; room = omega arith })
+-- the reader's state after k lines: the cursor, the set that they hold, and its ids
+pub record Held (text : List ℕ) (k at : ℕ) (set : TaskSet) (ids : List ℕ) : Type 0 where
+  pub taken : Taken text k at
+  pub all : set ≡ setOf (headerAt text) (tasksAmong text k)
+  pub room : length ids ≡ mostTasks
+  pub listed : take (set .count) ids ≡ idsOf (tasksAmong text k)
 
-module _ (text : List ℕ) (at n : ℕ) (set : TaskSet) (t : Task) (taken : Taken text n set) (place : at ≡ placeAfter n) (within : at < length text) (e : taskOr (lineOutcome text (n + 2)) (taskAt (drop at text)) ≡ TaskLine.Task t) where
-  given : (lineOutcome text (suc (suc n)) ≡ Done) × (t ≡ taskAt (past (suc n) text))
-  given =
-      let given : (lineOutcome text (n + 2) ≡ Done) × (t ≡ taskAt (drop at text)) = task-given (lineOutcome text (n + 2)) (taskAt (drop at text)) t e in
-      (ap (lineOutcome text) (sym (add-two n)) ∙ given .0, given .1 ∙ ap taskAt (sym (rest-at text at n set taken place)))
+-- the set counts what the lines hold, which has room
+pub held-count : {text : List ℕ} {k at : ℕ} {set : TaskSet} {ids : List ℕ} → Held text k at set ids → set .count ≡ length (tasksAmong text k)
+unfolding setOf
+held-count held = ap (λ (s : TaskSet). s .count) (held .all)
 
-  one-more : Shaped text (suc n)
-  one-more =
-      shaped-more text n (taken .shaped)
-      (clear-task text n (ap empty (rest-at text at n set taken place) ∙ byte-there at text within) (given .0))
+pub held-few : {text : List ℕ} {k at : ℕ} {set : TaskSet} {ids : List ℕ} → Held text k at set ids → set .count ≤ mostTasks
+held-few held = omega (arith, held-count held, held .taken .few)
 
-  -- a line that gives a task leaves room for it
-  pub task-room : n < 64
-  task-room = let full : n ≡ 64 → ⊥ = clear-room text n one-more (given .0) in omega (arith, taken .room, full)
+-- ---- the header is taken
 
-  -- the task is taken
-  pub taken-task : Taken text (n + 1) (withTask set t)
-  taken-task =
-      rw (add-one n)
+-- a clear first line holds no task
+header-none : (text : List ℕ) → lineOutcome text 1 ≡ Done → tasksAmong text 1 ≡ []
+unfolding past
+header-none text clear = among-other text 0 (header-no-task text (clear-header text clear)) ∙ among-none text
+
+header-held : (text : List ℕ) → lineOutcome text 1 ≡ Done → Taken text 1 (lengthOf Frame.Header + 1)
+unfolding past till
+header-held text clear =
+    let start : 0 + (lengthOf Frame.Header + 1) ≡ lengthOf Frame.Header + 1 = zero-add (lengthOf Frame.Header + 1) in
+    let passed = past-formed Frame.Header text 0 0 refl (omega arith) (clear-header text clear) in
+    let none : length (tasksAmong text 1) ≡ 0 = ap length (header-none text clear) in
+    record {
+      some-line = omega arith;
+      within = rw start at (passed .1);
+      rest = rw start at (passed .0);
+      clear = clear;
+      lines = omega (arith, none);
+      few = omega (arith, none);
+    }
+
+pub held-header : (text : List ℕ) (h : Header) (set : TaskSet) (ids : List ℕ) → set ≡ zeroSet → length ids ≡ mostTasks → headerOr (lineOutcome text 1) (headerAt text) ≡ HeaderLine.Header h → Held text 1 (lengthOf Frame.Header + 1) (record { header = h; count = set .count; tasks = set .tasks }) ids
+unfolding setOf
+held-header text h set ids zeroed room e =
+    let given = header-given (lineOutcome text 1) (headerAt text) h e in
+    rw (zeroed, given .1)
+    (record {
+      taken = header-held text (given .0);
+      all = ap (setOf (headerAt text)) (sym (header-none text (given .0)));
+      room = room;
+      listed = ap idsOf (sym (header-none text (given .0)));
+    })
+
+-- ---- a task is taken
+
+module _ {text : List ℕ} {k at : ℕ} {set : TaskSet} {ids : List ℕ} (t : Task) (held : Held text k at set ids) (within : at < length text) (e : taskOr (lineOutcome text (k + 1)) (taskAt (drop at text)) ≡ TaskLine.Task t) where
+  line : lineOutcome text (suc k) ≡ Done
+  line = ap (lineOutcome text) (sym (add-one k)) ∙ task-given (lineOutcome text (k + 1)) (taskAt (drop at text)) t e .0
+
+  figures : t ≡ taskAt (past k text)
+  figures = task-given (lineOutcome text (k + 1)) (taskAt (drop at text)) t e .1 ∙ ap taskAt (sym (held .taken .rest))
+
+  task : formed Frame.Task (past k text) ≡ true
+  task = clear-task text k (held .taken .some-line) (ap empty (held .taken .rest) ∙ byte-there at text within) line
+
+  count : set .count ≡ length (tasksAmong text k)
+  count = held-count held
+
+  -- there is room for it
+  pub task-room : set .count < mostTasks
+  task-room =
+      let full : length (tasksAmong text k) ≡ mostTasks → ⊥ = clear-room text k (held .taken .some-line) task line in
+      omega (arith, held .taken .few, count, full)
+
+  more : tasksAmong text (suc k) ≡ tasksAmong text k ++ (t ∷ [])
+  more = among-task text k task ∙ ap (λ (u : Task). tasksAmong text k ++ (u ∷ [])) (sym figures)
+
+  longer : length (tasksAmong text (suc k)) ≡ length (tasksAmong text k) + 1
+  longer = ap length more ∙ length-append (tasksAmong text k) (t ∷ [])
+
+  taken-more : Taken text (suc k) (at + (lengthOf Frame.Task + 1))
+  taken-more =
+      let passed = past-formed Frame.Task text k at (held .taken .rest) (held .taken .within) (ap (formed Frame.Task) (sym (held .taken .rest)) ∙ task) in
+      record {
+        some-line = omega arith;
+        within = passed .1;
+        rest = passed .0;
+        clear = till-suc (lineOutcome text) k ∙ rw (held .taken .clear) line;
+        lines = omega (arith, longer, held .taken .lines);
+        few = omega (arith, longer, task-room, count);
+      }
+
+  listed-more : take (set .count + 1) (put ids (set .count) (t .id)) ≡ idsOf (tasksAmong text (suc k))
+  listed-more =
+      ap (λ (n : ℕ). take n (put ids (set .count) (t .id))) (add-one (set .count))
+      ∙ take-suc-set ids (set .count) (t .id) (omega (arith, task-room, held .room))
+      ∙ ap (λ (l : List ℕ). l ++ (t .id ∷ [])) (held .listed)
+      ∙ sym (ap idsOf more ∙ map-append (λ (u : Task). u .id) (tasksAmong text k) (t ∷ []))
+
+  pub held-task : Held text (k + 1) (at + (lengthOf Frame.Task + 1)) (withTask set t) (put ids (set .count) (t .id))
+  held-task =
+      rw (add-one k)
       (record {
-        shaped = one-more;
-        clear = rw (lines-suc text (suc n), taken .clear, given .0);
-        held = ap (λ (s : TaskSet). withTask s t) (taken .held) ∙ (set-more (headerAt text) (tasksFrom text n) t (omega (arith, tasks-length text n, task-room)) ∙ ap (setOf (headerAt text)) (ap (λ (u : Task). tasksFrom text n ++ (u ∷ [])) (given .1) ∙ sym (tasks-suc text n)));
-        room = omega (arith, task-room);
+        taken = taken-more;
+        all = ap (λ (s : TaskSet). withTask s t) (held .all) ∙ set-more (headerAt text) (tasksAmong text k) t (omega (arith, task-room, count)) ∙ ap (setOf (headerAt text)) (sym more);
+        room = length-set ids (set .count) (t .id) ∙ held .room;
+        listed = listed-more;
       })
 
--- no task after the header: COUNT at line 2
-pub no-task : (text : List ℕ) → Shaped text 0 → past 1 text ≡ [] → lineOutcome text 2 ≡ Refused (Count 2)
+-- ---- no line is left
+
+-- of one clear line, that line is clear
+first-clear : (text : List ℕ) → till (lineOutcome text) 1 ≡ Done → lineOutcome text 1 ≡ Done
+unfolding till
+first-clear text e = e
+
+-- nothing behind the header: COUNT at line 2
+pub no-task : (text : List ℕ) → past 1 text ≡ [] → length (fileTasks text) ≡ 0 → lineOutcome text 2 ≡ Refused (Count 2)
 unfolding lineOutcome lineRow orderRow countLineRow formed closed
-no-task text s e = rw (e, shaped-all text 0 s e)
+no-task text e none = rw (e, none)
 
--- all lines are taken: rows 5 and 6 of the set answer
-pub taken-all : (text : List ℕ) (n : ℕ) (set : TaskSet) → Taken text n set → past (suc n) text ≡ [] → (n ≡ 0 → ⊥) → answer (figuresOutcome set) set ≡ readOf text
-unfolding widthsOf sum fileSet
-taken-all text zero set taken e some = absurd (some refl)
-taken-all text (suc n) set taken e some =
-    let k : suc (suc n) + (length text - n) ≡ length text + 2 = omega (arith, past-shaped text (suc n) (taken .shaped) .1) in
-    let clear : linesOutcome text (length text + 2) ≡ Done = subst (λ (k : ℕ). linesOutcome text k ≡ Done) k (clear-past text n (length text - n) e (taken .clear)) in
-    let all : set ≡ fileSet text =
-    taken .held ∙ ap (λ (m : ℕ). setOf (headerAt text) (tasksFrom text m)) (sym (shaped-all text (suc n) (taken .shaped) e)) in
-    ap (λ (s : TaskSet). answer (figuresOutcome s) s) all ∙ sym (reads-clear text clear)
+module _ {text : List ℕ} {k at : ℕ} {set : TaskSet} {ids : List ℕ} (held : Held text k at set ids) (over : length text ≤ at) where
+  ended : past k text ≡ []
+  ended = held .taken .rest ∙ drop-of-length-le text over
 
--- no line is left where the place is past the text
-pub text-ended : (text : List ℕ) (at n : ℕ) (set : TaskSet) → Taken text n set → at ≡ placeAfter n → length text ≤ at → past (suc n) text ≡ []
-text-ended text at n set taken place over = rest-at text at n set taken place ∙ drop-of-length-le text over
+  -- where no task was taken, that is COUNT at line 2
+  pub ended-none : set .count ≡ 0 → answer (Refused (Count 2)) set ≡ readOf text
+  ended-none none =
+      let one : k ≡ 1 = omega (arith, held .taken .lines, held .taken .some-line, held-count held) in
+      let end : past 1 text ≡ [] = subst (λ (n : ℕ). past n text ≡ []) one ended in
+      let clear : till (lineOutcome text) 1 ≡ Done = subst (λ (n : ℕ). till (lineOutcome text) n ≡ Done) one (held .taken .clear) in
+      let empty : length (fileTasks text) ≡ 0 = ap length (sym (among-all text k ended)) ∙ sym (held-count held) ∙ none in
+      sym (reads-refused text 1 (Count 2) clear (no-task text end empty))
 
--- and where no task was taken, that is COUNT
-pub taken-none : (text : List ℕ) (n : ℕ) (set : TaskSet) → Taken text n set → n ≡ 0 → past (suc n) text ≡ [] → answer (Refused (Count 2)) set ≡ readOf text
-taken-none text n set taken none e =
-    let start : Shaped text 0 = subst (λ (k : ℕ). Shaped text k) none (taken .shaped) in
-    let clear : linesOutcome text 1 ≡ Done = subst (λ (k : ℕ). linesOutcome text (suc k) ≡ Done) none (taken .clear) in
-    let ended : past 1 text ≡ [] = subst (λ (k : ℕ). past (suc k) text ≡ []) none e in
-    sym (reads-refused text 1 (Count 2) clear (no-task text start ended))
+  -- else rows 5 and 6 of the set answer
+  pub ended-all : (set .count ≡ 0 → ⊥) → answer (figuresOutcome set) set ≡ readOf text
+  unfolding fileSet
+  ended-all some =
+      ap (λ (s : TaskSet). answer (figuresOutcome s) s) (held .all ∙ ap (setOf (headerAt text)) (among-all text k ended))
+      ∙ sym (reads-clear text (all-lines k refl))
+    where
+      all-lines : (n : ℕ) → k ≡ n → till (lineOutcome text) (length text + 2) ≡ Done
+      all-lines zero same = absurd (omega (arith, held .taken .some-line))
+      all-lines (suc zero) same =
+          let clear : lineOutcome text 1 ≡ Done = first-clear text (subst (λ (n : ℕ). till (lineOutcome text) n ≡ Done) same (held .taken .clear)) in
+          absurd (some (held-count held ∙ ap (λ (n : ℕ). length (tasksAmong text n)) same ∙ ap length (header-none text clear)))
+      all-lines (suc (suc n)) same =
+          clear-past text n (length text + 2) (subst (λ (n : ℕ). past n text ≡ []) same ended) (subst (λ (n : ℕ). till (lineOutcome text) n ≡ Done) same (held .taken .clear))

@@ -1,32 +1,31 @@
--- What the reader learns at a line, after a header and the tasks that its set holds.
+-- What the reader learns at the cursor, after some lines.
+-- Assumes nothing.
 use Prim.Native.Nat.{ℕ, zero, suc, _+_, _<_, _^_}
 use native.Mathlib.Omega.{arith}
-use native.Mathlib.Numerals.{add-two}
-use mathlib.Core.List.{List, [], _∷_}
-use mathlib.Core.Bool.{Bool, true, false}
+use native.Mathlib.Numerals.{add-one}
+use mathlib.Core.List.{List, [], _∷_, map}
+use mathlib.Core.Bool.{Bool, true, false, _||_}
 use mathlib.Core.Path.{_≡_, refl, sym, _∙_, ap, subst}
-use lib.ListN.{length, drop}
+use lib.ListN.{length, drop, length-map}
 use lib.Dec.{eqb}
 use borrow.Author.Tests.{eq-eqb, ne-eqb}
 use Rattle.frames.specs.Line.{formed, fieldOf}
-use Rattle.frames.specs.Table.{widthOf}
+use types.Run.{OneOf, miss}
+use denote.Enum.Declared.{tagOf}
+use Rattle.frames.proofs.table.Frame.{the-type}
+use Rattle.frames.specs.Table.{widthOf, indexOf, allFrames}
+use Rattle.frames.proofs.KindLaws.{not-formed}
 use Rattle.frames.specs.declared.table.Frame.{Frame}
 use Rattle.refusals.specs.declared.Refusal.the-variants.{Line, Order, Count, Twice}
 use Rattle.refusals.specs.declared.Outcome.the-variants.{Refused}
-use Rattle.frames.proofs.Formed.{field-below}
-use Rattle.frames.proofs.KindLaws.{not-formed}
-use Rattle.tasks.specs.declared.set.Header.{Header}
-use Rattle.tasks.specs.declared.set.Task.{Task}
-use Rattle.tasks.specs.declared.set.TaskSet.{TaskSet}
-use Rattle.tasks.specs.Set.{members, setOf}
 use Rattle.refusals.specs.First.{firstOf, when}
-use Rattle.tasks.specs.Rows.{some}
-use Rattle.taskread.specs.File.{past, empty, lineRow, lineOutcome, tasksFrom, headerAt}
-use Rattle.taskread.specs.Shape.{Taken, placeAfter}
-use Rattle.tasks.proofs.SetLaws.{members-set}
-use Rattle.taskread.proofs.Past.{past-shaped}
-use Rattle.tasks.proofs.Some.{hasId}
-use Rattle.taskread.proofs.Lines.{line-refused, row-from, later-header, task-line}
+use Rattle.frames.proofs.Formed.{field-below}
+use Rattle.tasks.specs.declared.set.Task.{Task}
+use Rattle.tasks.specs.Set.{mostTasks}
+use Rattle.tasks.specs.Rows.{some, hasId}
+use Rattle.taskread.specs.File.{past, empty, lineOutcome, tasksAmong, taskAt}
+use Rattle.taskread.specs.Shape.{Taken, idsOf}
+use Rattle.taskread.proofs.Lines.{line-other, later-header, later-task}
 
 -- a number that is a field of a formed line is below its width's power of 16
 pub field-within : (frame : Frame) (k x : ℕ) (text : List ℕ) → formed frame text ≡ true → x ≡ fieldOf frame k text → x < 16 ^ widthOf frame k
@@ -38,27 +37,50 @@ byte-there at [] lt = absurd (omega arith)
 byte-there zero (b ∷ bs) lt = refl
 byte-there (suc at) (b ∷ bs) lt = byte-there at bs (omega arith)
 
-module _ (text : List ℕ) (at n : ℕ) (set : TaskSet) (taken : Taken text n set) (place : at ≡ placeAfter n) where
-  -- the next line stands at the place
-  pub rest-at : past (suc n) text ≡ drop at text
-  rest-at = past-shaped text n (taken .shaped) .0 ∙ ap (λ (k : ℕ). drop k text) (sym place)
+-- a frame's tag is its index in the table
+tag-index : (frame : Frame) → tagOf the-type frame ≡ indexOf frame
+tag-index Frame.Header = refl
+tag-index Frame.Task = refl
+tag-index Frame.Plan = refl
+tag-index Frame.Server = refl
+tag-index Frame.Placed = refl
+tag-index Frame.Processor = refl
+tag-index Frame.Refused = refl
 
-  pub held-members : members set ≡ tasksFrom text n
-  held-members = ap members (taken .held) ∙ members-set (headerAt text) (tasksFrom text n)
+-- the tags of the frames that are none of a task file's
+abbrev otherTags : List ℕ
+otherTags = drop 2 (map indexOf allFrames)
 
-  pub said-line : lineRow (drop at text) 1 ≡ true → lineOutcome text (n + 2) ≡ Refused (Line (n + 2))
-  said-line e = rw (add-two n) (line-refused text (suc (suc n)) (row-from text (suc n) ∙ (ap (λ (rest : List ℕ). lineRow rest 1) rest-at ∙ e)))
+-- a line of such a frame is neither an 01 nor an 02 line
+pub other-frame : (frame : Frame) (text : List ℕ) → OneOf otherTags (tagOf the-type frame) → formed frame text ≡ true → (formed Frame.Header text ≡ false) × (formed Frame.Task text ≡ false)
+other-frame frame text o f = (
+  not-formed frame Frame.Header (ne-eqb (indexOf frame) 0 (λ (e : indexOf frame ≡ 0). miss otherTags 0 tt (subst (OneOf otherTags) (tag-index frame ∙ e) o))) text f,
+  not-formed frame Frame.Task (ne-eqb (indexOf frame) 1 (λ (e : indexOf frame ≡ 1). miss otherTags 1 tt (subst (OneOf otherTags) (tag-index frame ∙ e) o))) text f,
+)
 
-  pub said-order : formed Frame.Header (drop at text) ≡ true → lineOutcome text (n + 2) ≡ Refused (Order (n + 2))
-  said-order e = rw (add-two n) (later-header text n (ap (formed Frame.Header) rest-at ∙ e))
+-- an id is among tasks' ids exactly if a task has it
+pub some-ids : (id : ℕ) (ts : List Task) → some (λ i. eqb i id) (idsOf ts) ≡ some (hasId id) ts
+unfolding some
+some-ids id [] = refl
+some-ids id (t ∷ ts) = ap (λ (b : Bool). eqb (t .id) id || b) (some-ids id ts)
 
-  said-task : formed Frame.Task (drop at text) ≡ true → lineOutcome text (n + 2) ≡ firstOf (when (eqb n 64) (Count (n + 2))) (when (some (hasId (fieldOf Frame.Task 0 (drop at text))) (members set)) (Twice (n + 2)))
-  said-task e =
-      rw (add-two n, held-members, ← rest-at)
-      (task-line text n (taken .shaped) (not-formed Frame.Task Frame.Header refl (past (suc n) text) (ap (formed Frame.Task) rest-at ∙ e)) (ap (formed Frame.Task) rest-at ∙ e))
+module _ {text : List ℕ} {k at : ℕ} (taken : Taken text k at) where
+  pub said-line : at < length text → formed Frame.Header (drop at text) ≡ false → formed Frame.Task (drop at text) ≡ false → lineOutcome text (k + 1) ≡ Refused (Line (k + 1))
+  said-line lt header task =
+      rw (add-one k)
+      (line-other text k (ap empty (taken .rest) ∙ byte-there at text lt) (ap (formed Frame.Header) (taken .rest) ∙ header) (ap (formed Frame.Task) (taken .rest) ∙ task))
 
-  pub said-count : formed Frame.Task (drop at text) ≡ true → n ≡ 64 → lineOutcome text (n + 2) ≡ Refused (Count (n + 2))
-  said-count e full = rw (eq-eqb n 64 full) at (said-task e)
+  pub said-order : formed Frame.Header (drop at text) ≡ true → lineOutcome text (k + 1) ≡ Refused (Order (k + 1))
+  said-order e = rw (add-one k) (later-header text k (taken .some-line) (ap (formed Frame.Header) (taken .rest) ∙ e))
 
-  pub said-twice : formed Frame.Task (drop at text) ≡ true → (n ≡ 64 → ⊥) → (b : Bool) → some (hasId (fieldOf Frame.Task 0 (drop at text))) (members set) ≡ b → lineOutcome text (n + 2) ≡ when b (Twice (n + 2))
-  said-twice e room b seen = rw (ne-eqb n 64 room, seen) at (said-task e)
+  module _ (task : formed Frame.Task (drop at text) ≡ true) (ids : List ℕ) (held : ids ≡ idsOf (tasksAmong text k)) where
+    said-task : lineOutcome text (k + 1) ≡ firstOf (when (eqb (length ids) mostTasks) (Count (k + 1))) (when (some (λ i. eqb i (taskAt (drop at text) .id)) ids) (Twice (k + 1)))
+    said-task =
+        rw (add-one k, held, some-ids (taskAt (drop at text) .id) (tasksAmong text k), length-map, ← taken .rest)
+        (later-task text k (taken .some-line) (ap (formed Frame.Task) (taken .rest) ∙ task))
+
+    pub said-count : length ids ≡ mostTasks → lineOutcome text (k + 1) ≡ Refused (Count (k + 1))
+    said-count full = rw (eq-eqb (length ids) mostTasks full) at said-task
+
+    pub said-twice : (length ids ≡ mostTasks → ⊥) → (b : Bool) → some (λ i. eqb i (taskAt (drop at text) .id)) ids ≡ b → lineOutcome text (k + 1) ≡ when b (Twice (k + 1))
+    said-twice room b seen = rw (ne-eqb (length ids) mostTasks room, seen) at said-task

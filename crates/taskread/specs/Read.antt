@@ -5,16 +5,16 @@ use mathlib.Core.List.{List}
 use lib.ListN.{length}
 use Rattle.refusals.specs.declared.Outcome.{Outcome}
 use Rattle.refusals.specs.declared.Outcome.the-variants.{Done, Refused}
+use Rattle.refusals.specs.First.{firstOf, till}
 use Rattle.tasks.specs.declared.set.TaskSet.{TaskSet}
 use Rattle.taskread.specs.declared.read.ReadAnswer.{ReadAnswer}
 use Rattle.tasks.specs.Set.{setOf, zeroSet}
-use Rattle.refusals.specs.First.{firstOf}
 use Rattle.tasks.specs.Rows.{figuresOutcome}
-use Rattle.taskread.specs.File.{linesOutcome, headerAt, tasksFrom, tasksIn}
+use Rattle.taskread.specs.File.{lineOutcome, headerAt, fileTasks}
 
 -- the set that a file's lines hold
 unfoldable pub fileSet : List ℕ → TaskSet
-fileSet text = setOf (headerAt text) (tasksFrom text (tasksIn text))
+fileSet text = setOf (headerAt text) (fileTasks text)
 
 -- a refused read gives the all-zero set
 abbrev pub answer : Outcome → TaskSet → ReadAnswer
@@ -23,7 +23,7 @@ answer (Refused r) set = record { outcome = Refused r; set = zeroSet }
 
 -- the lines in order, each of the file and the one after the last; then rows 5 and 6
 unfoldable pub readOutcome : List ℕ → Outcome
-readOutcome text = firstOf (linesOutcome text (length text + 2)) (figuresOutcome (fileSet text))
+readOutcome text = firstOf (till (lineOutcome text) (length text + 2)) (figuresOutcome (fileSet text))
 
 unfoldable pub readOf : List ℕ → ReadAnswer
 readOf text = answer (readOutcome text) (fileSet text)

@@ -1,37 +1,32 @@
--- The shape of a task file's first lines, and where the reader stands after them.
--- Document 01, "A task file is one 01 then 02 lines" and "Reading takes lines in order".
-use Prim.Native.Nat.{ℕ, suc, _+_, _*_, _<_, _≤_}
-use mathlib.Core.List.{List}
-use mathlib.Core.Bool.{true}
+-- Where the reader stands after some lines, and how it takes a line's answer apart.
+-- Document 01, "Reading takes lines in order".
+use Prim.Native.Nat.{ℕ, _+_, _≤_}
+use mathlib.Core.List.{List, map}
 use mathlib.Core.Path.{_≡_}
-use Rattle.frames.specs.Line.{formed}
-use Rattle.frames.specs.Table.{lengthOf}
-use Rattle.frames.specs.declared.table.Frame.{Frame}
+use lib.ListN.{length, drop}
 use Rattle.refusals.specs.declared.Outcome.{Outcome}
 use Rattle.refusals.specs.declared.Outcome.the-variants.{Done, Refused}
+use Rattle.refusals.specs.First.{till}
 use Rattle.tasks.specs.declared.set.Header.{Header}
 use Rattle.tasks.specs.declared.set.Task.{Task}
-use Rattle.tasks.specs.declared.set.TaskSet.{TaskSet}
 use Rattle.taskread.specs.declared.line.HeaderLine.{HeaderLine}
 use Rattle.taskread.specs.declared.line.TaskLine.{TaskLine}
-use Rattle.tasks.specs.Set.{mostTasks, setOf}
-use Rattle.taskread.specs.File.{past, linesOutcome, headerAt, tasksFrom}
+use Rattle.tasks.specs.Set.{mostTasks}
+use Rattle.taskread.specs.File.{past, lineOutcome, tasksAmong}
 
--- line 1 is an 01 line, and the n lines after it are 02 lines
-pub record Shaped (text : List ℕ) (n : ℕ) : Type 0 where
-  pub header : formed Frame.Header text ≡ true
-  pub tasks : (j : ℕ) → j < n → formed Frame.Task (past (suc j) text) ≡ true
+-- the reader has taken k lines, at least one: each is clear, and the rest of the text starts at the cursor
+pub record Taken (text : List ℕ) (k at : ℕ) : Type 0 where
+  pub some-line : 1 ≤ k
+  pub within : at ≤ length text
+  pub rest : past k text ≡ drop at text
+  pub clear : till (lineOutcome text) k ≡ Done
+  -- all lines but the first hold a task, and there is room for these
+  pub lines : k ≤ length (tasksAmong text k) + 1
+  pub few : length (tasksAmong text k) ≤ mostTasks
 
--- the place after an 01 line and n 02 lines
-abbrev pub placeAfter : ℕ → ℕ
-placeAfter n = (lengthOf Frame.Header + 1) + (lengthOf Frame.Task + 1) * n
-
--- the reader has taken the header and n tasks: each line so far is clear, and the set is what they hold
-pub record Taken (text : List ℕ) (n : ℕ) (set : TaskSet) : Type 0 where
-  pub shaped : Shaped text n
-  pub clear : linesOutcome text (suc n) ≡ Done
-  pub held : set ≡ setOf (headerAt text) (tasksFrom text n)
-  pub room : n ≤ mostTasks
+-- the ids of these tasks
+abbrev pub idsOf : List Task → List ℕ
+idsOf ts = map (λ (t : Task). t .id) ts
 
 -- a line that is clear gives its figures, another hands its refusal up
 abbrev pub headerOr : Outcome → Header → HeaderLine

@@ -1,7 +1,8 @@
 // One line of a task file: its figures, or the refusal of the lowest row that holds there.
 // The reader takes each answer apart and hands a refusal straight up.
+use frames::line::Found;
 use frames::line::field;
-use frames::line::is_line;
+use frames::line::kind_at;
 use frames::table::Frame;
 use refusals::Outcome;
 use refusals::Refusal;
@@ -15,10 +16,9 @@ ghost use lib.ListN.{length, drop};
 ghost use lib.Dec.{eqb};
 ghost use Rattle.frames.specs.Line.{formed};
 ghost use Rattle.frames.specs.declared.table.Frame.{Frame};
-ghost use Rattle.tasks.specs.Set.{members, mostTasks};
 ghost use Rattle.tasks.specs.Rows.{some};
-ghost use Rattle.taskread.specs.File.{lineRow, lineOutcome, headerAt, taskAt};
-ghost use Rattle.taskread.specs.Shape.{Taken, placeAfter, headerOr, taskOr, ofHeader, ofTask};
+ghost use Rattle.taskread.specs.File.{lineOutcome, headerAt, taskAt, tasksAmong};
+ghost use Rattle.taskread.specs.Shape.{Taken, headerOr, taskOr, ofHeader, ofTask, idsOf};
 
 pub enum HeaderLine {
     Header(Header),
@@ -46,20 +46,6 @@ pub fn task_outcome(line: TaskLine) -> Outcome
         TaskLine::Task(_) => Outcome::Done,
         TaskLine::Refused(refusal) => Outcome::Refused(refusal),
     }
-}
-
-// 1 LINE, of the text from `at` on.
-fn breaks_line(text: &[u8], at: usize) -> bool
-    requires { ⌜ at ≤ length (now text) ⌝ }
-    ensures { λ r. ⌜ r ≡ lineRow (drop at (now (text .entry))) 1 ⌝ }
-{
-    if text.len() <= at {
-        return false;
-    }
-    if is_line(text, at, Frame::Header) {
-        return false;
-    }
-    !is_line(text, at, Frame::Task)
 }
 
 fn header_at(text: &[u8]) -> Header
@@ -90,16 +76,13 @@ fn task_at(text: &[u8], at: usize) -> Task
     }
 }
 
-// Whether a task of the set has this id.
-fn holds_id(set: TaskSet, id: u8) -> bool
-    requires { ⌜ set .count ≤ mostTasks ⌝ }
-    ensures { λ r. ⌜ r ≡ some (λ u. eqb (u .id) id) (members set) ⌝ }
+// Whether the id is one of these.
+fn holds_id(ids: &[u8], id: u8) -> bool
+    ensures { λ r. ⌜ r ≡ some (λ i. eqb i id) (now (ids .entry)) ⌝ }
 {
-    let count = set.count;
     let mut i = 0;
-    while i < count {
-        let task = set.tasks[i];
-        if task.id == id {
+    while i < ids.len() {
+        if ids[i] == id {
             return true;
         }
         i += 1;
@@ -111,35 +94,53 @@ fn holds_id(set: TaskSet, id: u8) -> bool
 pub fn header_line(text: &[u8]) -> HeaderLine
     ensures { λ r. ⌜ r ≡ headerOr (lineOutcome (now (text .entry)) 1) (headerAt (now (text .entry))) ⌝ }
 {
-    if breaks_line(text, 0) {
-        return HeaderLine::Refused(Refusal::Line(1));
-    }
-    if !is_line(text, 0, Frame::Header) {
+    if text.len() == 0 {
         return HeaderLine::Refused(Refusal::Order(1));
     }
-    HeaderLine::Header(header_at(text))
+    let found = kind_at(text, 0);
+    let Found::Frame(frame) = found else {
+        return HeaderLine::Refused(Refusal::Line(1));
+    };
+    match frame {
+        Frame::Header => HeaderLine::Header(header_at(text)),
+        Frame::Task => HeaderLine::Refused(Refusal::Order(1)),
+        _ => HeaderLine::Refused(Refusal::Line(1)),
+    }
 }
 
-// The line at `at`, after the header and the tasks of the set.
-pub fn task_line(text: &[u8], at: usize, set: TaskSet) -> TaskLine
-    requires { ⌜ Taken (now text) (set .count) set ⌝ }
-    requires { ⌜ (at ≡ placeAfter (set .count)) × (at < length (now text)) ⌝ }
-    ensures { λ r. ⌜ r ≡ taskOr (lineOutcome (now (text .entry)) (set .count + 2)) (taskAt (drop at (now (text .entry)))) ⌝ }
+// An 02 line, behind so many lines whose tasks have these ids.
+fn listed_line(text: &[u8], at: usize, lines: usize, ids: &[u8]) -> TaskLine
+    requires { ⌜ Taken (now text) lines at ⌝ }
+    requires { ⌜ now ids ≡ idsOf (tasksAmong (now text) lines) ⌝ }
+    requires { ⌜ formed Frame.Task (drop at (now text)) ≡ true ⌝ }
+    ensures { λ r. ⌜ r ≡ taskOr (lineOutcome (now (text .entry)) (lines + 1)) (taskAt (drop at (now (text .entry)))) ⌝ }
 {
-    let count = set.count;
-    let line = (count + 2) as u8;
-    if breaks_line(text, at) {
-        return TaskLine::Refused(Refusal::Line(line));
-    }
-    if is_line(text, at, Frame::Header) {
-        return TaskLine::Refused(Refusal::Order(line));
-    }
-    if count == TaskSet::MOST_TASKS {
-        return TaskLine::Refused(Refusal::Count(line));
+    let place = (lines + 1) as u8;
+    if ids.len() == TaskSet::MOST_TASKS {
+        return TaskLine::Refused(Refusal::Count(place));
     }
     let task = task_at(text, at);
-    if holds_id(set, task.id) {
-        return TaskLine::Refused(Refusal::Twice(line));
+    if holds_id(ids, task.id) {
+        return TaskLine::Refused(Refusal::Twice(place));
     }
     TaskLine::Task(task)
+}
+
+// The line at `at`, behind so many lines whose tasks have these ids.
+pub fn task_line(text: &[u8], at: usize, lines: usize, ids: &[u8]) -> TaskLine
+    requires { ⌜ Taken (now text) lines at ⌝ }
+    requires { ⌜ at < length (now text) ⌝ }
+    requires { ⌜ now ids ≡ idsOf (tasksAmong (now text) lines) ⌝ }
+    ensures { λ r. ⌜ r ≡ taskOr (lineOutcome (now (text .entry)) (lines + 1)) (taskAt (drop at (now (text .entry)))) ⌝ }
+{
+    let line = (lines + 1) as u8;
+    let found = kind_at(text, at);
+    let Found::Frame(frame) = found else {
+        return TaskLine::Refused(Refusal::Line(line));
+    };
+    match frame {
+        Frame::Header => TaskLine::Refused(Refusal::Order(line)),
+        Frame::Task => listed_line(text, at, lines, ids),
+        _ => TaskLine::Refused(Refusal::Line(line)),
+    }
 }

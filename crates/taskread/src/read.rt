@@ -11,11 +11,8 @@ use frames::table::length;
 use refusals::Outcome;
 use refusals::Refusal;
 use tasks::rows::figures;
-use tasks::set::Task;
 use tasks::set::TaskSet;
 ghost use mathlib.Core.Path.{_≡_};
-ghost use Prim.Native.Nat.{_<_};
-ghost use Rattle.tasks.specs.Set.{mostTasks, withTask};
 ghost use Rattle.taskread.specs.Read.{answer, readOf};
 
 pub struct ReadAnswer {
@@ -39,18 +36,7 @@ fn answered(outcome: Outcome, set: TaskSet) -> ReadAnswer
     }
 }
 
-// The set with one task more.
-fn with_task(set: TaskSet, task: Task) -> TaskSet
-    requires { ⌜ set .count < mostTasks ⌝ }
-    ensures { λ r. ⌜ r ≡ withTask set task ⌝ }
-{
-    let mut more = set;
-    let count = more.count;
-    more.tasks[count] = task;
-    more.count = count + 1;
-    more
-}
-
+// The cursor `at` stands behind the lines taken so far; `ids` has the ids of the set's tasks.
 pub fn read(text: &[u8]) -> ReadAnswer
     ensures { λ r. ⌜ r ≡ readOf (now (text .entry)) ⌝ }
 {
@@ -60,14 +46,20 @@ pub fn read(text: &[u8]) -> ReadAnswer
         return answered(header_outcome(first), set);
     };
     set.header = header;
+    let mut ids = [0u8; TaskSet::MOST_TASKS];
     let mut at = length(Frame::Header) + 1;
+    let mut lines = 1;
     while at < text.len() {
-        let line = task_line(text, at, set);
+        let count = set.count;
+        let line = task_line(text, at, lines, &ids[..count]);
         let TaskLine::Task(task) = line else {
             return answered(task_outcome(line), set);
         };
-        set = with_task(set, task);
+        set.tasks[count] = task;
+        set.count = count + 1;
+        ids[count] = task.id;
         at += length(Frame::Task) + 1;
+        lines += 1;
     }
     if set.count == 0 {
         return answered(Outcome::Refused(Refusal::Count(2)), set);

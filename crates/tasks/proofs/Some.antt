@@ -12,7 +12,7 @@ use lib.Seq.{drop-cons, getD-take, length-take-le}
 use borrow.Author.Tests.{ne-eqb, eqb-false}
 use Rattle.laws.proofs.Tests.{or-left, or-neither, or-right}
 use Rattle.tasks.specs.declared.set.Task.{Task}
-use Rattle.tasks.specs.Rows.{some, twiceRow}
+use Rattle.tasks.specs.Rows.{some, hasId, twiceRow}
 
 pub some-nil : (p : Task → Bool) → some p [] ≡ false
 unfolding some
@@ -22,15 +22,11 @@ pub some-cons : (p : Task → Bool) (t : Task) (ts : List Task) → some p (t �
 unfolding some
 some-cons p t ts = refl
 
--- a task with the id of another
-abbrev pub sameId : Task → Task → Bool
-sameId t u = eqb (u .id) (t .id)
-
 pub twice-nil : twiceRow [] ≡ false
 unfolding twiceRow
 twice-nil = refl
 
-pub twice-cons : (t : Task) (ts : List Task) → twiceRow (t ∷ ts) ≡ (some (sameId t) ts || twiceRow ts)
+pub twice-cons : (t : Task) (ts : List Task) → twiceRow (t ∷ ts) ≡ (some (hasId (t .id)) ts || twiceRow ts)
 unfolding twiceRow
 twice-cons t ts = refl
 
@@ -55,7 +51,7 @@ pub some-end : (p : Task → Bool) (ts : List Task) (n i : ℕ) → n ≤ length
 some-end p ts n i fits past = ap (some p) (left-none ts n i fits past) ∙ some-nil p
 
 -- the same of an id that repeats
-pub twice-left : (ts : List Task) (n i : ℕ) (none : Task) (b : Bool) → n ≤ length ts → i < n → some (sameId (getD ts i none)) (drop (i + 1) (take n ts)) ≡ b → twiceRow (drop i (take n ts)) ≡ (b || twiceRow (drop (i + 1) (take n ts)))
+pub twice-left : (ts : List Task) (n i : ℕ) (none : Task) (b : Bool) → n ≤ length ts → i < n → some (hasId (getD ts i none .id)) (drop (i + 1) (take n ts)) ≡ b → twiceRow (drop i (take n ts)) ≡ (b || twiceRow (drop (i + 1) (take n ts)))
 twice-left ts n i none b fits inside e =
     ap twiceRow (left-cons ts n i none fits inside)
     ∙ twice-cons (getD ts i none) (drop (i + 1) (take n ts))
@@ -82,29 +78,25 @@ pub other-way : (a b : ℕ) → eqb a b ≡ false → eqb b a ≡ false
 other-way a b e = ne-eqb b a (λ (p : b ≡ a). eqb-false a b e (sym p))
 
 -- where no id repeats, no task before a place has the id of the one there
-pub twice-before : (ts : List Task) (i : ℕ) (none : Task) → twiceRow ts ≡ false → i < length ts → some (sameId (getD ts i none)) (take i ts) ≡ false
+pub twice-before : (ts : List Task) (i : ℕ) (none : Task) → twiceRow ts ≡ false → i < length ts → some (hasId (getD ts i none .id)) (take i ts) ≡ false
 twice-before [] i none e h = absurd (omega arith)
-twice-before (t ∷ ts) zero none e h = some-nil (sameId t)
+twice-before (t ∷ ts) zero none e h = some-nil (hasId (t .id))
 twice-before (t ∷ ts) (suc i) none e h =
-    let f : (some (sameId t) ts || twiceRow ts) ≡ false = sym (twice-cons t ts) ∙ e in
-    some-cons (sameId (getD ts i none)) t (take i ts)
-    ∙ or-neither (other-way (getD ts i none .id) (t .id) (some-at (sameId t) ts i none (or-left (some (sameId t) ts) (twiceRow ts) f) (omega arith)))
-    (twice-before ts i none (or-right (some (sameId t) ts) (twiceRow ts) f) (omega arith))
+    let f : (some (hasId (t .id)) ts || twiceRow ts) ≡ false = sym (twice-cons t ts) ∙ e in
+    some-cons (hasId (getD ts i none .id)) t (take i ts)
+    ∙ or-neither (other-way (getD ts i none .id) (t .id) (some-at (hasId (t .id)) ts i none (or-left (some (hasId (t .id)) ts) (twiceRow ts) f) (omega arith)))
+    (twice-before ts i none (or-right (some (hasId (t .id)) ts) (twiceRow ts) f) (omega arith))
 
 -- one task more behind them, whose id none of them has
-pub twice-more : (ts : List Task) (t : Task) → twiceRow ts ≡ false → some (sameId t) ts ≡ false → twiceRow (ts ++ (t ∷ [])) ≡ false
-twice-more [] t e f = twice-cons t [] ∙ or-neither (some-nil (sameId t)) twice-nil
+pub twice-more : (ts : List Task) (t : Task) → twiceRow ts ≡ false → some (hasId (t .id)) ts ≡ false → twiceRow (ts ++ (t ∷ [])) ≡ false
+twice-more [] t e f = twice-cons t [] ∙ or-neither (some-nil (hasId (t .id))) twice-nil
 twice-more (u ∷ ts) t e f =
-    let g : (some (sameId u) ts || twiceRow ts) ≡ false = sym (twice-cons u ts) ∙ e in
-    let h : (sameId t u || some (sameId t) ts) ≡ false = sym (some-cons (sameId t) u ts) ∙ f in
+    let g : (some (hasId (u .id)) ts || twiceRow ts) ≡ false = sym (twice-cons u ts) ∙ e in
+    let h : (hasId (t .id) u || some (hasId (t .id)) ts) ≡ false = sym (some-cons (hasId (t .id)) u ts) ∙ f in
     twice-cons u (ts ++ (t ∷ []))
     ∙ or-neither
-    (some-more (sameId u) ts t (or-left (some (sameId u) ts) (twiceRow ts) g) (other-way (u .id) (t .id) (or-left (sameId t u) (some (sameId t) ts) h)))
-    (twice-more ts t (or-right (some (sameId u) ts) (twiceRow ts) g) (or-right (sameId t u) (some (sameId t) ts) h))
-
--- whether a task has this id
-abbrev pub hasId : ℕ → Task → Bool
-hasId id u = eqb (u .id) id
+    (some-more (hasId (u .id)) ts t (or-left (some (hasId (u .id)) ts) (twiceRow ts) g) (other-way (u .id) (t .id) (or-left (hasId (t .id) u) (some (hasId (t .id)) ts) h)))
+    (twice-more ts t (or-right (some (hasId (u .id)) ts) (twiceRow ts) g) (or-right (hasId (t .id) u) (some (hasId (t .id)) ts) h))
 
 -- a test of tasks behind others
 pub some-append : (p : Task → Bool) (xs ys : List Task) → some p (xs ++ ys) ≡ (some p xs || some p ys)

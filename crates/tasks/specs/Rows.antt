@@ -15,16 +15,16 @@ use Rattle.tasks.specs.declared.set.TaskSet.{TaskSet}
 use Rattle.refusals.specs.First.{firstOf, when}
 use Rattle.tasks.specs.Set.{mostTasks, mostProcessors, longestPeriod, members}
 
--- whether a test holds of some task, and the place from 1 of the first for which it does (0: none)
-unfoldable pub some : (Task → Bool) → List Task → Bool
+-- whether a test holds of some of these, and the place from 1 of the first for which it does (0: none)
+unfoldable pub some : {A : Type 0} → (A → Bool) → List A → Bool
 some p [] = false
 some p (t ∷ ts) = p t || some p ts
 
-unfoldable pub firstFrom : (Task → Bool) → ℕ → List Task → ℕ
+unfoldable pub firstFrom : {A : Type 0} → (A → Bool) → ℕ → List A → ℕ
 firstFrom p k [] = 0
 firstFrom p k (t ∷ ts) = cond (p t) k (firstFrom p (suc k) ts)
 
-abbrev pub firstTask : (Task → Bool) → List Task → ℕ
+abbrev pub firstTask : {A : Type 0} → (A → Bool) → List A → ℕ
 firstTask p ts = firstFrom p 1 ts
 
 -- a refusal at the first task, where there is one
@@ -36,10 +36,14 @@ atTask r (suc k) = Refused (r (suc k))
 unfoldable pub countRow : TaskSet → Bool
 countRow set = eqb (set .count) 0 || ltb mostTasks (set .count)
 
+-- whether a task has this id
+abbrev pub hasId : ℕ → Task → Bool
+hasId id t = eqb (t .id) id
+
 -- 4 TWICE: an id repeats
 unfoldable pub twiceRow : List Task → Bool
 twiceRow [] = false
-twiceRow (t ∷ ts) = some (λ u. eqb (u .id) (t .id)) ts || twiceRow ts
+twiceRow (t ∷ ts) = some (hasId (t .id)) ts || twiceRow ts
 
 -- 5 BOARD: m outside 1..64, or S = 0
 unfoldable pub boardRow : Header → Bool

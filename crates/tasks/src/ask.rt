@@ -5,10 +5,9 @@ use crate::set::Task;
 use crate::set::TaskSet;
 ghost use mathlib.Core.Path.{_≡_};
 ghost use Prim.Native.Nat.{_+_, _<_, _≤_};
-ghost use lib.Dec.{eqb};
 ghost use lib.ListN.{drop, getD};
 ghost use Rattle.tasks.specs.Set.{members, mostTasks, zeroTask};
-ghost use Rattle.tasks.specs.Rows.{some, countRow, twiceRow, headerOverflows, taskOverflows, askRow};
+ghost use Rattle.tasks.specs.Rows.{some, hasId, countRow, twiceRow, headerOverflows, taskOverflows, askRow};
 
 // The largest figure of a field of six digits.
 const SIX_DIGITS: u32 = 0xFF_FFFF;
@@ -26,7 +25,7 @@ pub fn breaks_count(set: TaskSet) -> bool
 // Whether a task after place `i`, counted from 0, has the id of the one there.
 fn repeats_later(set: TaskSet, i: usize) -> bool
     requires { ⌜ (set .count ≤ mostTasks) × (i < set .count) ⌝ }
-    ensures { λ r. ⌜ r ≡ some (λ u. eqb (u .id) (getD (set .tasks) i zeroTask .id)) (drop (i + 1) (members set)) ⌝ }
+    ensures { λ r. ⌜ r ≡ some (hasId (getD (set .tasks) i zeroTask .id)) (drop (i + 1) (members set)) ⌝ }
 {
     let id = set.tasks[i].id;
     let count = set.count;

@@ -10,14 +10,14 @@ use Rattle.frames.specs.Table.{widthsOf, sum}
 use Rattle.refusals.specs.declared.Outcome.{Outcome}
 use Rattle.refusals.specs.declared.Outcome.the-variants.{Done}
 use Rattle.tasks.specs.declared.set.TaskSet.{TaskSet}
-use Rattle.tasks.specs.Set.{setOf, members}
-use Rattle.taskread.specs.File.{past, empty, tasksIn, tasksFrom, headerAt, lineOutcome}
+use Rattle.tasks.specs.Set.{mostTasks, setOf, members}
+use Rattle.taskread.specs.File.{past, empty, tasksAmong, fileTasks, headerAt, lineOutcome}
 use Rattle.taskread.specs.Read.{readOf, fileSet, answer}
-use Rattle.taskread.specs.Shape.{Shaped, placeAfter}
-use Rattle.tasks_claims.specs.Claims.{AllClear, Accepted, ReadAccepted}
+use Rattle.tasks_claims.specs.Claims.{Shaped, sizeOf, tasksIn, AllClear, AcceptedFile, ReadAccepted}
 use Rattle.refusals.proofs.FirstLaws.{done-refused}
-use Rattle.taskread.proofs.Past.{nothing-left, after-shorter, past-shaped, shaped-more}
-use Rattle.taskread.proofs.Lines.{clear-header, clear-task, clear-room, shaped-all, tasks-length}
+use Rattle.taskread.proofs.Past.{nothing-left, after-shorter}
+use Rattle.taskread.proofs.Lines.{clear-header, clear-task, clear-room}
+use Rattle.tasks_claims.proofs.ShapedLaws.{shaped-more, past-shaped, shaped-count, shaped-all}
 use Rattle.tasks.proofs.SetLaws.{members-set}
 use Rattle.taskread.proofs.Reading.{no-task}
 use Rattle.tasks_claims.proofs.Exactly.{read-done, read-outcome, all-clear}
@@ -25,28 +25,28 @@ use Rattle.tasks_claims.proofs.Exactly.{read-done, read-outcome, all-cl
 -- a text of clear lines, all of which are taken
 record Whole (text : List ℕ) (n : ℕ) : Type 0 where
   shaped : Shaped text n
-  most : n ≤ 64
+  most : n ≤ mostTasks
   ended : past (suc n) text ≡ []
 
 module _ (text : List ℕ) (clear : AllClear text) where
   -- the next line is a task, or there is none
-  next : (n : ℕ) → Shaped text n → n ≤ 64 → empty (past (suc n) text) ≡ false → Shaped text (suc n) × (suc n ≤ 64)
+  next : (n : ℕ) → Shaped text n → n ≤ mostTasks → empty (past (suc n) text) ≡ false → Shaped text (suc n) × (suc n ≤ mostTasks)
   next n s most there =
       let line : lineOutcome text (suc (suc n)) ≡ Done = clear (suc (suc n)) (omega arith) in
-      let more : Shaped text (suc n) = shaped-more text n s (clear-task text n there line) in
-      let room : n ≡ 64 → ⊥ = clear-room text n more line in
-      (more, omega (arith, most, room))
+      let task = clear-task text (suc n) (omega arith) there line in
+      let room : length (tasksAmong text (suc n)) ≡ mostTasks → ⊥ = clear-room text (suc n) (omega arith) task line in
+      (shaped-more text n s task, omega (arith, most, room, shaped-count text n s))
 
   -- taking tasks comes to an end
-  taking : (fuel n : ℕ) → Shaped text n → n ≤ 64 → length (past (suc n) text) ≤ fuel → (m : ℕ) × Whole text m
+  taking : (fuel n : ℕ) → Shaped text n → n ≤ mostTasks → length (past (suc n) text) ≤ fuel → (m : ℕ) × Whole text m
   unfolding past
   taking zero n s most short = (n, record { shaped = s; most = most; ended = nothing-left (past (suc n) text) short })
   taking (suc fuel) n s most short = at (past (suc n) text) refl (taking fuel (suc n))
     where
-      at : (rest : List ℕ) → past (suc n) text ≡ rest → (Shaped text (suc n) → suc n ≤ 64 → length (after (past (suc n) text)) ≤ fuel → (m : ℕ) × Whole text m) → (m : ℕ) × Whole text m
+      at : (rest : List ℕ) → past (suc n) text ≡ rest → (Shaped text (suc n) → suc n ≤ mostTasks → length (after (past (suc n) text)) ≤ fuel → (m : ℕ) × Whole text m) → (m : ℕ) × Whole text m
       at [] e go = (n, record { shaped = s; most = most; ended = e })
       at (b ∷ bs) e go =
-          let more : Shaped text (suc n) × (suc n ≤ 64) = next n s most (ap empty e) in
+          let more : Shaped text (suc n) × (suc n ≤ mostTasks) = next n s most (ap empty e) in
           go (more .0) (more .1) (omega (arith, short, ap length e, ap (λ (l : List ℕ). length (after l)) e, after-shorter b bs))
 
   whole : (m : ℕ) × Whole text m
@@ -62,24 +62,24 @@ some-task : (text : List ℕ) (m : ℕ) → AllClear text → Whole text m → m
 some-task text m clear w none =
     done-refused
     (sym (clear 2 (omega arith))
-    ∙ no-task text (subst (λ (k : ℕ). Shaped text k) none (w .shaped)) (subst (λ (k : ℕ). past (suc k) text ≡ []) none (w .ended)))
+    ∙ no-task text (subst (λ (k : ℕ). past (suc k) text ≡ []) none (w .ended)) (shaped-all text m (w .shaped) (w .ended) ∙ none))
 
-accepted : (text : List ℕ) (m : ℕ) → AllClear text → Whole text m → readOf text .set ≡ fileSet text → Accepted text
+accepted : (text : List ℕ) (m : ℕ) → AllClear text → Whole text m → readOf text .set ≡ fileSet text → AcceptedFile text
 unfolding fileSet setOf widthsOf sum
 accepted text m clear w holds =
     let all : tasksIn text ≡ m = shaped-all text m (w .shaped) (w .ended) in
     let some : m ≡ 0 → ⊥ = some-task text m clear w in
-    let place : placeAfter m ≤ length text = past-shaped text m (w .shaped) .1 in
-    let over : length (drop (placeAfter m) text) ≡ 0 = ap length (sym (past-shaped text m (w .shaped) .0) ∙ w .ended) in
+    let place : sizeOf m ≤ length text = past-shaped text m (w .shaped) .1 in
+    let over : length (drop (sizeOf m) text) ≡ 0 = ap length (sym (past-shaped text m (w .shaped) .0) ∙ w .ended) in
     record {
       any = omega (arith, some, all);
       most = omega (arith, w .most, all);
       shaped = subst (λ (k : ℕ). Shaped text k) (sym all) (w .shaped);
-      bytes = omega (arith, all, place, over, length-drop (placeAfter m) text);
+      bytes = omega (arith, all, place, over, length-drop (sizeOf m) text);
       ended = subst (λ (k : ℕ). past (suc k) text ≡ []) (sym all) (w .ended);
       header = ap (λ (s : TaskSet). s .header) holds;
-      count = ap (λ (s : TaskSet). s .count) holds ∙ tasks-length text (tasksIn text);
-      tasks = ap members holds ∙ members-set (headerAt text) (tasksFrom text (tasksIn text));
+      count = ap (λ (s : TaskSet). s .count) holds;
+      tasks = ap members holds ∙ members-set (headerAt text) (fileTasks text);
     }
 
 pub read-accepted : ReadAccepted

@@ -18,14 +18,14 @@ use Rattle.tasks.specs.declared.set.Task.{Task}
 use Rattle.tasks.specs.declared.set.TaskSet.{TaskSet}
 use Rattle.taskread.specs.declared.read.ReadAnswer.{ReadAnswer}
 use Rattle.tasks.specs.Set.{members, setOf, zeroTask}
-use Rattle.refusals.specs.First.{firstOf, when}
+use Rattle.refusals.specs.First.{firstOf, when, till}
 use Rattle.tasks.specs.Rows.{atTask, firstTask, boardRow, rangeRow, figuresOutcome}
-use Rattle.taskread.specs.File.{past, tasksIn, tasksFrom, taskAt, headerAt, lineRow, orderRow, countLineRow, twiceLineRow, lineOutcome, linesOutcome}
+use Rattle.taskread.specs.File.{headerAt, lineRow, orderRow, countLineRow, twiceLineRow, lineOutcome, fileTasks}
 use Rattle.taskread.specs.Read.{readOf, readOutcome, fileSet, answer}
-use Rattle.tasks_claims.specs.Claims.{LineRow, LINE, ORDER, COUNT, TWICE, refusalAt, holdsAt, Clear, AllClear, FirstAt, FirstRange, NoRow, ReadExactlyLine, ReadExactlyBoard, ReadExactlyRange, ReadExactlyDone, ReadRefuses, ReadDetermined}
-use Rattle.refusals.proofs.FirstLaws.{done-refused, first-done}
+use Rattle.tasks_claims.specs.Claims.{tasksIn, taskOf, LineRow, LINE, ORDER, COUNT, TWICE, refusalAt, holdsAt, Clear, AllClear, FirstAt, FirstRange, NoRow, ReadExactlyLine, ReadExactlyBoard, ReadExactlyRange, ReadExactlyDone, ReadRefuses, ReadDetermined}
+use Rattle.refusals.proofs.FirstLaws.{done-refused, first-done, till-done, done-till, found}
 use Rattle.taskread.proofs.Past.{absent-past}
-use Rattle.taskread.proofs.Lines.{clear-line, clear-lines, reads-refused, reads-clear, absent-done, tasks-length, tasks-suc}
+use Rattle.taskread.proofs.Lines.{reads-refused, reads-clear, absent-done}
 use Rattle.tasks.proofs.SetLaws.{members-set}
 use Rattle.tasks.proofs.Firsts.{figures-board, figures-tasks, at-none}
 use Rattle.tasks.proofs.FirstLaws.{Stops, first-stops, stops-first, first-none, none-first}
@@ -105,39 +105,29 @@ lowest-line ORDER text k l = rw (l .lower LINE (omega arith), l .holds)
 lowest-line COUNT text k l = rw (l .lower LINE (omega arith), l .lower ORDER (omega arith), l .holds)
 lowest-line TWICE text k l = rw (l .lower LINE (omega arith), l .lower ORDER (omega arith), l .lower COUNT (omega arith), l .holds)
 
--- a refusal of lines is that of the first refused
-first-line : (text : List ℕ) (n : ℕ) (r : Refusal) → linesOutcome text n ≡ Refused r → (j : ℕ) × (linesOutcome text j ≡ Done) × (lineOutcome text (suc j) ≡ Refused r)
-unfolding linesOutcome
-first-line text zero r e = done-refused e
-first-line text (suc n) r e = at (linesOutcome text n) refl e (first-line text n)
-  where
-    at : (o : Outcome) → linesOutcome text n ≡ o → firstOf o (lineOutcome text (suc n)) ≡ Refused r → ((s : Refusal) → linesOutcome text n ≡ Refused s → (j : ℕ) × (linesOutcome text j ≡ Done) × (lineOutcome text (suc j) ≡ Refused s)) → (j : ℕ) × (linesOutcome text j ≡ Done) × (lineOutcome text (suc j) ≡ Refused r)
-    at Done clear e before = (n, clear, e)
-    at (Refused s) refused e before = before r (refused ∙ e)
-
 -- the outcome of reading, where the lines are clear and where they are not
 outcome-of : (text : List ℕ) (o : Outcome) → readOf text .outcome ≡ o → readOutcome text ≡ o
 outcome-of text o e = sym (read-outcome text) ∙ e
 
-pub read-done : (text : List ℕ) → readOf text .outcome ≡ Done → (linesOutcome text (length text + 2) ≡ Done) × (figuresOutcome (fileSet text) ≡ Done)
+pub read-done : (text : List ℕ) → readOf text .outcome ≡ Done → (till (lineOutcome text) (length text + 2) ≡ Done) × (figuresOutcome (fileSet text) ≡ Done)
 unfolding readOutcome
-read-done text e = first-done (linesOutcome text (length text + 2)) (figuresOutcome (fileSet text)) (outcome-of text Done e)
+read-done text e = first-done (till (lineOutcome text) (length text + 2)) (figuresOutcome (fileSet text)) (outcome-of text Done e)
 
 -- a refusal is that of a line, at which it is the lowest row's, or lines are clear and it is rows 5 and 6's
 data Came (text : List ℕ) (r : Refusal) : Type 0 where
-  at-line : (row : LineRow) (j : ℕ) → r ≡ refusalAt row (suc j) → linesOutcome text j ≡ Done → Lowest (λ row. holdsAt row text (suc j)) row (suc j) → Came text r
-  at-figures : linesOutcome text (length text + 2) ≡ Done → figuresOutcome (fileSet text) ≡ Refused r → Came text r
+  at-line : (row : LineRow) (j : ℕ) → r ≡ refusalAt row (suc j) → till (lineOutcome text) j ≡ Done → Lowest (λ row. holdsAt row text (suc j)) row (suc j) → Came text r
+  at-figures : till (lineOutcome text) (length text + 2) ≡ Done → figuresOutcome (fileSet text) ≡ Refused r → Came text r
 
 came : (text : List ℕ) (r : Refusal) → readOf text .outcome ≡ Refused r → Came text r
 unfolding readOutcome
-came text r e = at (linesOutcome text (length text + 2)) refl (outcome-of text (Refused r) e)
+came text r e = at (till (lineOutcome text) (length text + 2)) refl (outcome-of text (Refused r) e)
   where
-    at : (o : Outcome) → linesOutcome text (length text + 2) ≡ o → firstOf o (figuresOutcome (fileSet text)) ≡ Refused r → Came text r
+    at : (o : Outcome) → till (lineOutcome text) (length text + 2) ≡ o → firstOf o (figuresOutcome (fileSet text)) ≡ Refused r → Came text r
     at Done clear e = at-figures clear e
     at (Refused q) refused e =
-        let found : (j : ℕ) × (linesOutcome text j ≡ Done) × (lineOutcome text (suc j) ≡ Refused r) = first-line text (length text + 2) r (refused ∙ e) in
-        let low : (row : LineRow) × (r ≡ refusalAt row (suc (found .0))) × Lowest (λ row. holdsAt row text (suc (found .0))) row (suc (found .0)) = line-lowest text (suc (found .0)) r (found .2) in
-        at-line (low .0) (found .0) (low .1) (found .1) (low .2)
+        let first = found (lineOutcome text) (length text + 2) r (refused ∙ e) in
+        let low : (row : LineRow) × (r ≡ refusalAt row (suc (first .before))) × Lowest (λ row. holdsAt row text (suc (first .before))) row (suc (first .before)) = line-lowest text (suc (first .before)) r (first .refuses) in
+        at-line (low .0) (first .before) (low .1) (first .clear) (low .2)
 
 -- rows 5 and 6 give 5 and 6
 figures-number : (set : TaskSet) (r : Refusal) → figuresOutcome set ≡ Refused r → (5 ≤ numberOf r) × (numberOf r ≤ 6)
@@ -150,11 +140,11 @@ figures-number set r e = at (boardRow (set .header)) (firstTask rangeRow (member
     at false (suc k) e = let six : Range (suc k) ≡ r = cc in subst (λ (r : Refusal). (5 ≤ numberOf r) × (numberOf r ≤ 6)) six (omega arith)
 
 -- lines that are clear up to the end are clear for ever
-pub all-clear : (text : List ℕ) → linesOutcome text (length text + 2) ≡ Done → AllClear text
+pub all-clear : (text : List ℕ) → till (lineOutcome text) (length text + 2) ≡ Done → AllClear text
 all-clear text clear zero one = absurd (omega arith)
 all-clear text clear (suc j) one =
     elim (decLt j (length text + 2)) [
-      | yes lt ↦ clear-line text (length text + 2) j clear lt
+      | yes lt ↦ till-done (lineOutcome text) (length text + 2) clear j lt
       | no over ↦ past-end j (omega (arith, over))
     ]
   where
@@ -163,23 +153,23 @@ all-clear text clear (suc j) one =
     past-end (suc zero) le = absurd (omega arith)
     past-end (suc (suc n)) le = absent-done text n (absent-past (suc (suc n)) text (omega arith))
 
-pub clear-all : (text : List ℕ) → AllClear text → linesOutcome text (length text + 2) ≡ Done
-clear-all text f = clear-lines text (length text + 2) (λ j lt. f (suc j) (omega arith))
+pub clear-all : (text : List ℕ) → AllClear text → till (lineOutcome text) (length text + 2) ≡ Done
+clear-all text f = done-till (lineOutcome text) (length text + 2) (λ j lt. f (suc j) (omega arith))
 
 -- the lowest row of the first line that is not clear
-first-at : (row : LineRow) (text : List ℕ) (j : ℕ) → linesOutcome text j ≡ Done → Lowest (λ row. holdsAt row text (suc j)) row (suc j) → FirstAt row text (suc j)
+first-at : (row : LineRow) (text : List ℕ) (j : ℕ) → till (lineOutcome text) j ≡ Done → Lowest (λ row. holdsAt row text (suc j)) row (suc j) → FirstAt row text (suc j)
 first-at row text j clear low = record { counted = omega arith; clear = before; lower = low .lower; holds = low .holds }
   where
     before : Clear text (suc j)
     before zero one lt = absurd (omega arith)
-    before (suc i) one lt = clear-line text j i clear (omega arith)
+    before (suc i) one lt = till-done (lineOutcome text) j clear i (omega arith)
 
 at-first : (row : LineRow) (text : List ℕ) (k : ℕ) → FirstAt row text k → readOf text .outcome ≡ Refused (refusalAt row k)
 at-first row text zero f = absurd (omega (arith, f .counted))
 at-first row text (suc j) f =
     ap (λ (a : ReadAnswer). a .outcome)
     (reads-refused text j (refusalAt row (suc j))
-    (clear-lines text j (λ i lt. f .clear (suc i) (omega arith) (omega arith)))
+    (done-till (lineOutcome text) j (λ i lt. f .clear (suc i) (omega arith) (omega arith)))
     (lowest-line row text (suc j) (record { lower = f .lower; holds = f .holds })))
 
 -- rows 1 to 4, each with its place
@@ -193,18 +183,6 @@ read-exactly-line row text k = (λ e. said (came text (refusalAt row k) e), at-f
         subst₂ (λ (r : LineRow) (n : ℕ). FirstAt r text n) one (sym place) (first-at other text j clear low)
     said (at-figures clear e) =
         absurd (omega (arith, row-below row k, figures-number (fileSet text) (refusalAt row k) e .0))
-
-pub exactly-line : (text : List ℕ) (k : ℕ) → (readOf text .outcome ≡ Refused (Line k)) ↔ FirstAt LINE text k
-exactly-line = read-exactly-line LINE
-
-pub exactly-order : (text : List ℕ) (k : ℕ) → (readOf text .outcome ≡ Refused (Order k)) ↔ FirstAt ORDER text k
-exactly-order = read-exactly-line ORDER
-
-pub exactly-count : (text : List ℕ) (k : ℕ) → (readOf text .outcome ≡ Refused (Count k)) ↔ FirstAt COUNT text k
-exactly-count = read-exactly-line COUNT
-
-pub exactly-twice : (text : List ℕ) (k : ℕ) → (readOf text .outcome ≡ Refused (Twice k)) ↔ FirstAt TWICE text k
-exactly-twice = read-exactly-line TWICE
 
 -- what rows 5 and 6 answer, and the outcome of a read whose lines are clear
 figures-said : (set : TaskSet) (o : Outcome) → figuresOutcome set ≡ o → firstOf (when (boardRow (set .header)) Board) (atTask Range (firstTask rangeRow (members set))) ≡ o
@@ -241,19 +219,9 @@ file-header : (text : List ℕ) → fileSet text .header ≡ headerAt text
 unfolding fileSet setOf
 file-header text = refl
 
-file-members : (text : List ℕ) → members (fileSet text) ≡ tasksFrom text (tasksIn text)
+file-members : (text : List ℕ) → members (fileSet text) ≡ fileTasks text
 unfolding fileSet
-file-members text = members-set (headerAt text) (tasksFrom text (tasksIn text))
-
-pub task-place : (text : List ℕ) (n j : ℕ) (z : Task) → j < n → getD (tasksFrom text n) j z ≡ taskAt (past (suc j) text)
-task-place text zero j z lt = absurd (omega arith)
-task-place text (suc n) j z lt =
-    elim (ℕ-discrete j n) [
-      | yes same ↦ rw (tasks-suc text n, same) (getD-at (tasksFrom text n) (taskAt (past (suc n) text)) [] z n (tasks-length text n))
-      | no other ↦
-          rw (tasks-suc text n, List·getD-append (tasksFrom text n) (taskAt (past (suc n) text) ∷ []) z j (omega (arith, other, tasks-length text n)))
-          (task-place text n j z (omega (arith, other)))
-    ]
+file-members text = members-set (headerAt text) (fileTasks text)
 
 -- row 5
 pub read-exactly-board : ReadExactlyBoard
@@ -267,45 +235,39 @@ read-exactly-board text = (said, answered)
     answered : AllClear text × (boardRow (headerAt text) ≡ true) → readOf text .outcome ≡ Refused Board
     answered h = clear-outcome text (h .0) ∙ figures-board (fileSet text) (ap boardRow (file-header text) ∙ h .1)
 
--- the range of a task, by its line
-range-at : (text : List ℕ) (j : ℕ) → j < tasksIn text → rangeRow (getD (tasksFrom text (tasksIn text)) j zeroTask) ≡ rangeRow (taskAt (past (suc j) text))
-range-at text j lt = ap rangeRow (task-place text (tasksIn text) j zeroTask lt)
-
-stops-range : (text : List ℕ) (d : ℕ) → Stops rangeRow zeroTask (tasksFrom text (tasksIn text)) d → AllClear text → boardRow (headerAt text) ≡ false → FirstRange text (suc d)
+-- the first task out of range, as the claim and as the search say it
+stops-range : (text : List ℕ) (d : ℕ) → Stops rangeRow zeroTask (fileTasks text) d → AllClear text → boardRow (headerAt text) ≡ false → FirstRange text (suc d)
 stops-range text d s clear board =
     record {
       clear = clear;
       board = board;
       counted = omega arith;
-      within = within;
-      holds = sym (range-at text d within) ∙ s .holds;
+      within = omega (arith, s .within);
+      holds = s .holds;
       earlier = before;
     }
   where
-    within : d < tasksIn text
-    within = omega (arith, s .within, tasks-length text (tasksIn text))
-
-    before : (j : ℕ) → 1 ≤ j → j < suc d → rangeRow (taskAt (past j text)) ≡ false
+    before : (j : ℕ) → 1 ≤ j → j < suc d → rangeRow (taskOf text j) ≡ false
     before zero one lt = absurd (omega arith)
-    before (suc j) one lt = sym (range-at text j (omega (arith, within))) ∙ s .earlier j (omega arith)
+    before (suc j) one lt = s .earlier j (omega arith)
 
-range-stops : (text : List ℕ) (d : ℕ) → FirstRange text (suc d) → Stops rangeRow zeroTask (tasksFrom text (tasksIn text)) d
+range-stops : (text : List ℕ) (d : ℕ) → FirstRange text (suc d) → Stops rangeRow zeroTask (fileTasks text) d
 range-stops text d f =
     record {
-      within = omega (arith, f .within, tasks-length text (tasksIn text));
-      holds = range-at text d (f .within) ∙ f .holds;
-      earlier = λ j lt. range-at text j (omega (arith, f .within)) ∙ f .earlier (suc j) (omega arith) (omega arith);
+      within = omega (arith, f .within);
+      holds = f .holds;
+      earlier = λ j lt. f .earlier (suc j) (omega arith) (omega arith);
     }
 
 -- row 6, with its task
 pub read-exactly-range : ReadExactlyRange
 read-exactly-range text k = (said, answered k)
   where
-    found : (k : ℕ) → AllClear text → boardRow (headerAt text) ≡ false → firstTask rangeRow (members (fileSet text)) ≡ k → 1 ≤ k → FirstRange text k
-    found zero clear board e one = absurd (omega arith)
-    found (suc m) clear board e one =
-        let stop : (d : ℕ) × (m ≡ 0 + d) × Stops rangeRow zeroTask (tasksFrom text (tasksIn text)) d =
-        first-stops rangeRow zeroTask 0 m (tasksFrom text (tasksIn text)) (ap (firstTask rangeRow) (sym (file-members text)) ∙ e) in
+    named : (k : ℕ) → AllClear text → boardRow (headerAt text) ≡ false → firstTask rangeRow (members (fileSet text)) ≡ k → 1 ≤ k → FirstRange text k
+    named zero clear board e one = absurd (omega arith)
+    named (suc m) clear board e one =
+        let stop : (d : ℕ) × (m ≡ 0 + d) × Stops rangeRow zeroTask (fileTasks text) d =
+        first-stops rangeRow zeroTask 0 m (fileTasks text) (ap (firstTask rangeRow) (sym (file-members text)) ∙ e) in
         let same : stop .0 ≡ m = omega (arith, stop .1) in
         subst (λ (d : ℕ). FirstRange text (suc d)) same (stops-range text (stop .0) (stop .2) clear board)
 
@@ -314,13 +276,13 @@ read-exactly-range text k = (said, answered k)
         let all : AllClear text × (figuresOutcome (fileSet text) ≡ Refused (Range k)) = after-lines text (Range k) (omega arith) (came text (Range k) e) in
         let row : (boardRow (fileSet text .header) ≡ false) × (firstTask rangeRow (members (fileSet text)) ≡ k) × (1 ≤ k) =
         range-said (boardRow (fileSet text .header)) (firstTask rangeRow (members (fileSet text))) k (figures-said (fileSet text) (Refused (Range k)) (all .1)) in
-        found k (all .0) (ap boardRow (sym (file-header text)) ∙ row .0) (row .1) (row .2)
+        named k (all .0) (ap boardRow (sym (file-header text)) ∙ row .0) (row .1) (row .2)
 
     answered : (k : ℕ) → FirstRange text k → readOf text .outcome ≡ Refused (Range k)
     answered zero f = absurd (omega (arith, f .counted))
     answered (suc d) f =
         let first : firstTask rangeRow (members (fileSet text)) ≡ 1 + d =
-        ap (firstTask rangeRow) (file-members text) ∙ stops-first rangeRow zeroTask 1 d (tasksFrom text (tasksIn text)) (range-stops text d f) in
+        ap (firstTask rangeRow) (file-members text) ∙ stops-first rangeRow zeroTask 1 d (fileTasks text) (range-stops text d f) in
         let place : firstTask rangeRow (members (fileSet text)) ≡ suc d = omega (arith, first) in
         clear-outcome text (f .clear)
         ∙ (figures-tasks (fileSet text) (ap boardRow (file-header text) ∙ f .board) ∙ ap (atTask Range) place)
@@ -329,15 +291,13 @@ read-exactly-range text k = (said, answered k)
 pub read-exactly-done : ReadExactlyDone
 read-exactly-done text = (said, answered)
   where
-    within : firstTask rangeRow (members (fileSet text)) ≡ 0 → (j : ℕ) → 1 ≤ j → j ≤ tasksIn text → rangeRow (taskAt (past j text)) ≡ false
+    within : firstTask rangeRow (members (fileSet text)) ≡ 0 → (j : ℕ) → 1 ≤ j → j ≤ tasksIn text → rangeRow (taskOf text j) ≡ false
     within e zero one le = absurd (omega arith)
-    within e (suc j) one le =
-        sym (range-at text j le)
-        ∙ first-none rangeRow zeroTask 0 (tasksFrom text (tasksIn text)) (ap (firstTask rangeRow) (sym (file-members text)) ∙ e) j (omega (arith, tasks-length text (tasksIn text)))
+    within e (suc j) one le = first-none rangeRow zeroTask 0 (fileTasks text) (ap (firstTask rangeRow) (sym (file-members text)) ∙ e) j (omega arith)
 
     said : readOf text .outcome ≡ Done → NoRow text
     said e =
-        let both-done : (linesOutcome text (length text + 2) ≡ Done) × (figuresOutcome (fileSet text) ≡ Done) = read-done text e in
+        let both-done : (till (lineOutcome text) (length text + 2) ≡ Done) × (figuresOutcome (fileSet text) ≡ Done) = read-done text e in
         let row : (boardRow (fileSet text .header) ≡ false) × (firstTask rangeRow (members (fileSet text)) ≡ 0) =
         done-said (boardRow (fileSet text .header)) (firstTask rangeRow (members (fileSet text))) (figures-said (fileSet text) Done (both-done .1)) in
         record {
@@ -346,16 +306,14 @@ read-exactly-done text = (said, answered)
           range = within (row .1);
         }
 
-    inside : NoRow text → (j : ℕ) → j < length (tasksFrom text (tasksIn text)) → rangeRow (getD (tasksFrom text (tasksIn text)) j zeroTask) ≡ false
-    inside f j lt =
-        let le : j < tasksIn text = omega (arith, tasks-length text (tasksIn text)) in
-        range-at text j le ∙ f .range (suc j) (omega arith) (omega (arith, le))
+    inside : NoRow text → (j : ℕ) → j < length (fileTasks text) → rangeRow (getD (fileTasks text) j zeroTask) ≡ false
+    inside f j lt = f .range (suc j) (omega arith) (omega arith)
 
     answered : NoRow text → readOf text .outcome ≡ Done
     answered f =
         clear-outcome text (f .clear)
         ∙ (figures-tasks (fileSet text) (ap boardRow (file-header text) ∙ f .board)
-        ∙ at-none Range (firstTask rangeRow (members (fileSet text))) (ap (firstTask rangeRow) (file-members text) ∙ none-first rangeRow zeroTask 1 (tasksFrom text (tasksIn text)) (inside f)))
+        ∙ at-none Range (firstTask rangeRow (members (fileSet text))) (ap (firstTask rangeRow) (file-members text) ∙ none-first rangeRow zeroTask 1 (fileTasks text) (inside f)))
 
 -- the reader's numbers, and the all-zero set
 pub read-refuses : ReadRefuses

@@ -13,8 +13,9 @@ use Rattle.refusals.specs.declared.Refusal.the-variants.{Line, Order, Count, Tw
 use Rattle.refusals.specs.declared.Outcome.{Outcome}
 use Rattle.refusals.specs.declared.Outcome.the-variants.{Done, Refused}
 use Rattle.tasks.specs.Set.{setOf}
-use Rattle.tasks.specs.Rows.{firstFrom, boardRow, rangeRow, figuresOutcome}
-use Rattle.taskread.specs.File.{past, tasksUpTo, seenUpTo, lineRow, orderRow, countLineRow, twiceLineRow, lineOutcome, linesOutcome, headerAt, taskAt, tasksFrom}
+use Rattle.refusals.specs.First.{till}
+use Rattle.tasks.specs.Rows.{some, firstFrom, boardRow, rangeRow, figuresOutcome}
+use Rattle.taskread.specs.File.{past, tasksAmong, lineRow, orderRow, countLineRow, twiceLineRow, lineOutcome, headerAt, taskAt}
 use Rattle.taskread.specs.Read.{fileSet, readOutcome, readOf}
 
 -- the bytes of a text of plain characters
@@ -51,5 +52,5 @@ examples =
     ∷ []
 
 pub examples-read : map (λ e. answers (e .file)) examples ≡ map (λ e. e .answer) examples
-unfolding legal valueOf allLegal numberFrom kindOf widthsOf sum line after closed same formed fieldOf setOf firstFrom boardRow rangeRow figuresOutcome past tasksUpTo seenUpTo lineRow orderRow countLineRow twiceLineRow lineOutcome linesOutcome headerAt taskAt tasksFrom fileSet readOutcome readOf
+unfolding legal valueOf allLegal numberFrom kindOf widthsOf sum line after closed same formed fieldOf setOf firstFrom boardRow rangeRow figuresOutcome some till past tasksAmong lineRow orderRow countLineRow twiceLineRow lineOutcome headerAt taskAt fileSet readOutcome readOf
 examples-read = refl

@@ -1,3 +1,4 @@
+pub mod ShapedLaws
 pub mod Exactly
 pub mod Accepted
 pub mod Prefix

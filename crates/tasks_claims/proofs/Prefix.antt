@@ -18,15 +18,16 @@ use Rattle.refusals.specs.declared.Outcome.the-variants.{Done, Refused}
 use Rattle.frames.proofs.Formed.{formed-line}
 use Rattle.frames_claims.proofs.LineLaws.{formed-prefix}
 use Rattle.tasks.specs.declared.set.Task.{Task}
-use Rattle.refusals.specs.First.{firstOf, when}
-use Rattle.tasks.specs.Rows.{some}
-use Rattle.taskread.specs.File.{past, empty, lineRow, lineOutcome, linesOutcome, taskAt, tasksFrom}
+use Rattle.refusals.specs.First.{firstOf, when, till}
+use Rattle.tasks.specs.Set.{mostTasks}
+use Rattle.tasks.specs.Rows.{some, hasId}
+use Rattle.taskread.specs.File.{past, empty, lineOutcome, taskAt, tasksAmong}
 use Rattle.taskread.specs.Read.{readOf}
-use Rattle.taskread.specs.Shape.{Shaped, placeAfter}
-use Rattle.tasks_claims.specs.Claims.{furthest, ReadLooksAt}
-use Rattle.taskread.proofs.Past.{past-shaped, shaped-more, shaped-less}
-use Rattle.tasks.proofs.Some.{hasId}
-use Rattle.taskread.proofs.Lines.{lines-suc, reads-refused, line-refused, first-order, first-header, later-header, task-line, row-from, row-other, clear-task, clear-room, clear-header}
+use Rattle.tasks_claims.specs.Claims.{Shaped, sizeOf, furthest, ReadLooksAt}
+use Rattle.taskread.proofs.AmongLaws.{among-task}
+use Rattle.taskread.proofs.Lines.{reads-refused, line-other, first-header, first-task, first-other, later-header, later-task, clear-task, clear-room, clear-header}
+use Rattle.refusals.proofs.FirstLaws.{till-suc}
+use Rattle.tasks_claims.proofs.ShapedLaws.{past-shaped, shaped-more, shaped-less, shaped-count, among-header}
 use Rattle.taskread.proofs.Standing.{byte-there}
 
 -- a part of the front of a text is the front of a part
@@ -53,25 +54,21 @@ there-take zero rest one e = absurd (omega arith)
 there-take (suc n) [] one e = e
 there-take (suc n) (b ∷ bs) one e = refl
 
--- an outcome by the kind of the line, where one is there
-row-is : (text : List ℕ) (n : ℕ) → empty (past n text) ≡ false → formed Frame.Header (past n text) ≡ false → lineRow text (suc n) ≡ not (formed Frame.Task (past n text))
-row-is text n there header = row-from text n ∙ row-other (past n text) there header
-
 module _ (N : ℕ) (text : List ℕ) (far : furthest ≤ N) (long : N < length text) where
   abbrev cut : List ℕ
   cut = take N text
 
   -- the front's first lines are those of the text
-  rest-cut : (m : ℕ) → placeAfter m ≤ N → Shaped text m → Shaped cut m → past (suc m) cut ≡ take (N - placeAfter m) (past (suc m) text)
+  rest-cut : (m : ℕ) → sizeOf m ≤ N → Shaped text m → Shaped cut m → past (suc m) cut ≡ take (N - sizeOf m) (past (suc m) text)
   unfolding widthsOf sum
   rest-cut m fits s c =
-      let split : placeAfter m + (N - placeAfter m) ≡ N = omega arith in
+      let split : sizeOf m + (N - sizeOf m) ≡ N = omega arith in
       past-shaped cut m c .0
-      ∙ (ap (λ (n : ℕ). drop (placeAfter m) (take n text)) (sym split)
-      ∙ (drop-take (placeAfter m) (N - placeAfter m) text (omega arith)
-      ∙ ap (take (N - placeAfter m)) (sym (past-shaped text m s .0))))
+      ∙ (ap (λ (n : ℕ). drop (sizeOf m) (take n text)) (sym split)
+      ∙ (drop-take (sizeOf m) (N - sizeOf m) text (omega arith)
+      ∙ ap (take (N - sizeOf m)) (sym (past-shaped text m s .0))))
 
-  shaped-cut : (m : ℕ) → placeAfter m ≤ N → Shaped text m → Shaped cut m
+  shaped-cut : (m : ℕ) → sizeOf m ≤ N → Shaped text m → Shaped cut m
   unfolding widthsOf sum
   shaped-cut zero fits s =
       record { header = formed-prefix Frame.Header N text (omega arith) ∙ s .header; tasks = λ j lt. absurd (omega arith) }
@@ -80,40 +77,42 @@ module _ (N : ℕ) (text : List ℕ) (far : furthest ≤ N) (long : N < length t
       let c : Shaped cut m = shaped-cut m (omega arith) fewer in
       shaped-more cut m c
       (ap (formed Frame.Task) (rest-cut m (omega arith) fewer c)
-      ∙ (formed-prefix Frame.Task (N - placeAfter m) (past (suc m) text) (omega arith) ∙ s .tasks m (omega arith)))
+      ∙ (formed-prefix Frame.Task (N - sizeOf m) (past (suc m) text) (omega arith) ∙ s .tasks m (omega arith)))
 
-  tasks-cut : (m : ℕ) → placeAfter m ≤ N → Shaped text m → tasksFrom cut m ≡ tasksFrom text m
-  unfolding widthsOf sum tasksFrom
-  tasks-cut zero fits s = refl
+  tasks-cut : (m : ℕ) → sizeOf m ≤ N → Shaped text m → tasksAmong cut (suc m) ≡ tasksAmong text (suc m)
+  unfolding widthsOf sum
+  tasks-cut zero fits s = among-header cut (shaped-cut zero fits s .header) ∙ sym (among-header text (s .header))
   tasks-cut (suc m) fits s =
       let fewer : Shaped text m = shaped-less text m (suc m) (omega arith) s in
       let c : Shaped cut m = shaped-cut m (omega arith) fewer in
-      ap₂ (λ (ts : List Task) (t : Task). ts ++ (t ∷ [])) (tasks-cut m (omega arith) fewer)
+      among-task cut (suc m) (shaped-cut (suc m) fits s .tasks m (omega arith))
+      ∙ ap₂ (λ (ts : List Task) (t : Task). ts ++ (t ∷ [])) (tasks-cut m (omega arith) fewer)
       (task-same (past (suc m) cut) (past (suc m) text)
       (ap line (rest-cut m (omega arith) fewer c)
-      ∙ line-prefix Frame.Task (N - placeAfter m) (past (suc m) text) (omega arith) (s .tasks m (omega arith))))
+      ∙ line-prefix Frame.Task (N - sizeOf m) (past (suc m) text) (omega arith) (s .tasks m (omega arith))))
+      ∙ sym (among-task text (suc m) (s .tasks m (omega arith)))
 
   -- a line after at most 64 tasks is there, and is of the same kind in the front
-  there : (m : ℕ) → m ≤ 64 → Shaped text m → empty (past (suc m) text) ≡ false
+  there : (m : ℕ) → m ≤ mostTasks → Shaped text m → empty (past (suc m) text) ≡ false
   unfolding widthsOf sum
-  there m most s = ap empty (past-shaped text m s .0) ∙ byte-there (placeAfter m) text (omega arith)
+  there m most s = ap empty (past-shaped text m s .0) ∙ byte-there (sizeOf m) text (omega arith)
 
-  module _ (m : ℕ) (most : m ≤ 64) (s : Shaped text m) where
-    fits : placeAfter m + 31 ≤ N
+  module _ (m : ℕ) (most : m ≤ mostTasks) (s : Shaped text m) where
+    fits : sizeOf m + 31 ≤ N
     unfolding widthsOf sum
     fits = omega arith
 
     shaped : Shaped cut m
     shaped = shaped-cut m (omega (arith, fits)) s
 
-    same-rest : past (suc m) cut ≡ take (N - placeAfter m) (past (suc m) text)
+    same-rest : past (suc m) cut ≡ take (N - sizeOf m) (past (suc m) text)
     same-rest = rest-cut m (omega (arith, fits)) s shaped
 
     there-cut : empty (past (suc m) cut) ≡ false
-    there-cut = ap empty same-rest ∙ there-take (N - placeAfter m) (past (suc m) text) (omega (arith, fits)) (there m most s)
+    there-cut = ap empty same-rest ∙ there-take (N - sizeOf m) (past (suc m) text) (omega (arith, fits)) (there m most s)
 
     kind-cut : (frame : Frame) → lengthOf frame + 1 ≤ 31 → formed frame (past (suc m) cut) ≡ formed frame (past (suc m) text)
-    kind-cut frame short = ap (formed frame) same-rest ∙ formed-prefix frame (N - placeAfter m) (past (suc m) text) (omega (arith, fits, short))
+    kind-cut frame short = ap (formed frame) same-rest ∙ formed-prefix frame (N - sizeOf m) (past (suc m) text) (omega (arith, fits, short))
 
     header-cut : formed Frame.Header (past (suc m) cut) ≡ formed Frame.Header (past (suc m) text)
     unfolding widthsOf sum
@@ -123,43 +122,46 @@ module _ (N : ℕ) (text : List ℕ) (far : furthest ≤ N) (long : N < length t
     unfolding widthsOf sum
     task-cut = kind-cut Frame.Task (omega arith)
 
-    id-cut : formed Frame.Task (past (suc m) text) ≡ true → fieldOf Frame.Task 0 (past (suc m) cut) ≡ fieldOf Frame.Task 0 (past (suc m) text)
+    figures-cut : formed Frame.Task (past (suc m) text) ≡ true → taskAt (past (suc m) cut) ≡ taskAt (past (suc m) text)
     unfolding widthsOf sum
-    id-cut task =
-        field-line Frame.Task 0 (past (suc m) cut) (past (suc m) text)
-        (ap line same-rest ∙ line-prefix Frame.Task (N - placeAfter m) (past (suc m) text) (omega (arith, fits)) task)
+    figures-cut task =
+        task-same (past (suc m) cut) (past (suc m) text)
+        (ap line same-rest ∙ line-prefix Frame.Task (N - sizeOf m) (past (suc m) text) (omega (arith, fits)) task)
 
     -- the line is answered the same
     same-line : lineOutcome cut (suc (suc m)) ≡ lineOutcome text (suc (suc m))
     same-line = kinds (formed Frame.Header (past (suc m) text)) (formed Frame.Task (past (suc m) text)) refl refl
       where
         kinds : (h t : Bool) → formed Frame.Header (past (suc m) text) ≡ h → formed Frame.Task (past (suc m) text) ≡ t → lineOutcome cut (suc (suc m)) ≡ lineOutcome text (suc (suc m))
-        kinds true t eh et = later-header cut m (header-cut ∙ eh) ∙ sym (later-header text m eh)
+        kinds true t eh et =
+            later-header cut (suc m) (omega arith) (header-cut ∙ eh) ∙ sym (later-header text (suc m) (omega arith) eh)
         kinds false true eh et =
-            task-line cut m shaped (header-cut ∙ eh) (task-cut ∙ et)
-            ∙ (ap₂ (λ (id : ℕ) (ts : List Task). firstOf (when (eqb m 64) (Count (suc (suc m)))) (when (some (hasId id) ts) (Twice (suc (suc m))))) (id-cut et) (tasks-cut m (omega (arith, fits)) s)
-            ∙ sym (task-line text m s eh et))
+            later-task cut (suc m) (omega arith) (task-cut ∙ et)
+            ∙ (ap₂ (λ (u : Task) (ts : List Task). firstOf (when (eqb (length ts) mostTasks) (Count (suc (suc m)))) (when (some (hasId (u .id)) ts) (Twice (suc (suc m))))) (figures-cut et) (tasks-cut m (omega (arith, fits)) s)
+            ∙ sym (later-task text (suc m) (omega arith) et))
         kinds false false eh et =
-            line-refused cut (suc (suc m)) (row-is cut (suc m) there-cut (header-cut ∙ eh) ∙ ap not (task-cut ∙ et))
-            ∙ sym (line-refused text (suc (suc m)) (row-is text (suc m) (there m most s) eh ∙ ap not et))
+            line-other cut (suc m) there-cut (header-cut ∙ eh) (task-cut ∙ et)
+            ∙ sym (line-other text (suc m) (there m most s) eh et)
 
   -- both are refused alike
-  both-refused : (n : ℕ) (r : Refusal) → linesOutcome cut n ≡ Done → linesOutcome text n ≡ Done → lineOutcome cut (suc n) ≡ Refused r → lineOutcome text (suc n) ≡ Refused r → readOf cut ≡ readOf text
+  both-refused : (n : ℕ) (r : Refusal) → till (lineOutcome cut) n ≡ Done → till (lineOutcome text) n ≡ Done → lineOutcome cut (suc n) ≡ Refused r → lineOutcome text (suc n) ≡ Refused r → readOf cut ≡ readOf text
   both-refused n r c t ec et = reads-refused cut n r c ec ∙ sym (reads-refused text n r t et)
 
   -- a line is refused in both alike, or taken in both
-  step : (m : ℕ) → m ≤ 64 → Shaped text m → linesOutcome cut (suc m) ≡ Done → linesOutcome text (suc m) ≡ Done → (Shaped text (suc m) → suc m ≤ 64 → linesOutcome cut (suc (suc m)) ≡ Done → linesOutcome text (suc (suc m)) ≡ Done → readOf cut ≡ readOf text) → readOf cut ≡ readOf text
+  step : (m : ℕ) → m ≤ mostTasks → Shaped text m → till (lineOutcome cut) (suc m) ≡ Done → till (lineOutcome text) (suc m) ≡ Done → (Shaped text (suc m) → suc m ≤ mostTasks → till (lineOutcome cut) (suc (suc m)) ≡ Done → till (lineOutcome text) (suc (suc m)) ≡ Done → readOf cut ≡ readOf text) → readOf cut ≡ readOf text
   step m most s c t taken = at (lineOutcome text (suc (suc m))) refl
     where
       at : (o : Outcome) → lineOutcome text (suc (suc m)) ≡ o → readOf cut ≡ readOf text
       at (Refused r) e = both-refused (suc m) r c t (same-line m most s ∙ e) e
       at Done e =
-          let more : Shaped text (suc m) = shaped-more text m s (clear-task text m (there m most s) e) in
-          let room : m ≡ 64 → ⊥ = clear-room text m more e in
-          taken more (omega (arith, most, room)) (rw (lines-suc cut (suc m), c, same-line m most s, e)) (rw (lines-suc text (suc m), t, e))
+          let task = clear-task text (suc m) (omega arith) (there m most s) e in
+          let room : length (tasksAmong text (suc m)) ≡ mostTasks → ⊥ = clear-room text (suc m) (omega arith) task e in
+          taken (shaped-more text m s task) (omega (arith, most, room, shaped-count text m s))
+          (till-suc (lineOutcome cut) (suc m) ∙ rw (c, same-line m most s, e))
+          (till-suc (lineOutcome text) (suc m) ∙ rw (t, e))
 
   -- in a text as long as that a line is refused, and the front's answer is the text's
-  going : (fuel m : ℕ) → 64 ≤ m + fuel → m ≤ 64 → Shaped text m → linesOutcome cut (suc m) ≡ Done → linesOutcome text (suc m) ≡ Done → readOf cut ≡ readOf text
+  going : (fuel m : ℕ) → mostTasks ≤ m + fuel → m ≤ mostTasks → Shaped text m → till (lineOutcome cut) (suc m) ≡ Done → till (lineOutcome text) (suc m) ≡ Done → readOf cut ≡ readOf text
   going zero m enough most s c t = step m most s c t (λ more le c′ t′. absurd (omega arith))
   going (suc fuel) m enough most s c t = step m most s c t (λ more le c′ t′. going fuel (suc m) (omega arith) le more c′ t′)
 
@@ -177,27 +179,23 @@ module _ (N : ℕ) (text : List ℕ) (far : furthest ≤ N) (long : N < length t
       kind : (frame : Frame) → lengthOf frame + 1 ≤ 31 → formed frame cut ≡ formed frame text
       kind frame short = formed-prefix frame N text (omega (arith, short))
 
-      row : formed Frame.Header text ≡ false → lineRow cut 1 ≡ lineRow text 1
-      row e =
-          row-other cut there-front (kind Frame.Header (omega arith) ∙ e)
-          ∙ (ap not (kind Frame.Task (omega arith)) ∙ sym (row-other text there-text e))
-
-      rows : (b : Bool) → formed Frame.Header text ≡ false → lineRow text 1 ≡ b → lineOutcome cut 1 ≡ lineOutcome text 1
-      rows true eh e = line-refused cut 1 (row eh ∙ e) ∙ sym (line-refused text 1 e)
-      rows false eh e = first-order cut (row eh ∙ e) (kind Frame.Header (omega arith) ∙ eh) ∙ sym (first-order text e eh)
+      task : (t : Bool) → formed Frame.Header text ≡ false → formed Frame.Task text ≡ t → lineOutcome cut 1 ≡ lineOutcome text 1
+      task true eh e = first-task cut (kind Frame.Task (omega arith) ∙ e) ∙ sym (first-task text e)
+      task false eh e =
+          first-other cut there-front (kind Frame.Header (omega arith) ∙ eh) (kind Frame.Task (omega arith) ∙ e) ∙ sym (first-other text there-text eh e)
 
       header : (h : Bool) → formed Frame.Header text ≡ h → lineOutcome cut 1 ≡ lineOutcome text 1
       header true e = first-header cut (kind Frame.Header (omega arith) ∙ e) ∙ sym (first-header text e)
-      header false e = rows (lineRow text 1) e refl
+      header false e = task (formed Frame.Task text) e refl
 
   pub long-prefix : readOf cut ≡ readOf text
-  unfolding linesOutcome
+  unfolding till
   long-prefix = at (lineOutcome text 1) refl
     where
       at : (o : Outcome) → lineOutcome text 1 ≡ o → readOf cut ≡ readOf text
       at (Refused r) e = both-refused 0 r refl refl (same-first ∙ e) e
       at Done e =
-          going 64 0 (omega arith) (omega arith)
+          going mostTasks 0 (omega arith) (omega arith)
           (record { header = clear-header text e; tasks = λ j lt. absurd (omega arith) })
           (same-first ∙ e) e
 

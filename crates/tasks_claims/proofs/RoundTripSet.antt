@@ -24,20 +24,21 @@ use Rattle.tasks.specs.declared.set.Header.{Header}
 use Rattle.tasks.specs.declared.set.Task.{Task}
 use Rattle.tasks.specs.declared.set.TaskSet.{TaskSet}
 use Rattle.tasks.specs.Set.{mostTasks, zeroTask, members, setOf}
-use Rattle.refusals.specs.First.{firstOf, when}
-use Rattle.tasks.specs.Rows.{some, atTask, firstTask, rangeRow, headerOverflows, taskOverflows, figuresOutcome}
-use Rattle.taskread.specs.File.{past, lineOutcome, linesOutcome, headerAt, taskAt, tasksFrom}
+use Rattle.refusals.specs.First.{firstOf, when, till}
+use Rattle.tasks.specs.Rows.{some, hasId, atTask, firstTask, rangeRow, headerOverflows, taskOverflows, figuresOutcome}
+use Rattle.taskread.specs.File.{past, lineOutcome, headerAt, taskAt, tasksAmong}
 use Rattle.taskread.specs.Read.{fileSet, answer}
-use Rattle.taskread.specs.Shape.{Shaped}
 use Rattle.tasks.specs.Values.{headerValues, taskValues}
 use Rattle.taskwrite.specs.Write.{taskLines, textOf, writerAsks}
-use Rattle.tasks_claims.specs.Claims.{Whole, ReadWritten, ReadWrittenSame}
+use Rattle.tasks_claims.specs.Claims.{Shaped, Whole, ReadWritten, ReadWrittenSame}
 use Rattle.tasks.proofs.Carried.{count-within, ask-count, ask-twice, ask-header, ask-tasks}
 use Rattle.tasks.proofs.SetLaws.{members-length, members-set}
 use Rattle.tasks.proofs.Firsts.{at-none, figures-tasks}
-use Rattle.taskread.proofs.Past.{shaped-less}
-use Rattle.tasks.proofs.Some.{hasId, some-at, twice-before}
-use Rattle.taskread.proofs.Lines.{clear-lines, clear-past, first-header, task-line, shaped-all, reads-clear}
+use Rattle.tasks.proofs.Some.{some-at, twice-before}
+use Rattle.taskread.proofs.AmongLaws.{among-task, among-all}
+use Rattle.taskread.proofs.Lines.{clear-past, first-header, later-task, reads-clear}
+use Rattle.refusals.proofs.FirstLaws.{done-till}
+use Rattle.tasks_claims.proofs.ShapedLaws.{shaped-less, shaped-count, among-header}
 use Rattle.taskwrite.proofs.WriteAsks.{first-some, writer-ask, writer-board, writer-range}
 use Rattle.taskwrite.proofs.WriteText.{lines-nil, lines-cons, text-size}
 
@@ -85,11 +86,6 @@ task-back t rest o =
     back : (k : ℕ) → getD (taskValues t) k 0 < 16 ^ getD (widthsOf Frame.Task) k 0 → fieldOf Frame.Task k (lineOf Frame.Task (taskValues t) ++ rest) ≡ getD (taskValues t) k 0
     back k b = field-line Frame.Task (taskValues t) rest k b
 
--- an id read alone
-id-back : (t : Task) (rest : List ℕ) → taskOverflows t ≡ false → fieldOf Frame.Task 0 (lineOf Frame.Task (taskValues t) ++ rest) ≡ t .id
-unfolding taskAt
-id-back t rest o = ap (λ (u : Task). u .id) (task-back t rest o)
-
 -- past k tasks stand the lines of those left
 after-lines : (ts : List Task) → after (taskLines ts) ≡ taskLines (drop 1 ts)
 after-lines [] = ap after lines-nil ∙ unfold after in sym lines-nil
@@ -119,11 +115,11 @@ ended : (set : TaskSet) → past (suc (length (members set))) (textOf set) ≡ [
 ended set = past-text set (length (members set)) ∙ ap taskLines (drop-length (members set)) ∙ lines-nil
 
 -- the tasks that the text holds are the set's
-tasks-back : (set : TaskSet) → some taskOverflows (members set) ≡ false → (i : ℕ) → i ≤ length (members set) → tasksFrom (textOf set) i ≡ take i (members set)
-unfolding tasksFrom
-tasks-back set o zero h = refl
+tasks-back : (set : TaskSet) → some taskOverflows (members set) ≡ false → (i : ℕ) → i ≤ length (members set) → tasksAmong (textOf set) (suc i) ≡ take i (members set)
+tasks-back set o zero h = among-header (textOf set) (shaped set .header)
 tasks-back set o (suc i) h =
-    ap₂ (λ (ts : List Task) (t : Task). ts ++ (t ∷ [])) (tasks-back set o i (omega arith))
+    among-task (textOf set) (suc i) (shaped set .tasks i (omega arith))
+    ∙ ap₂ (λ (ts : List Task) (t : Task). ts ++ (t ∷ [])) (tasks-back set o i (omega arith))
     (ap taskAt (past-at set i (omega arith)) ∙ task-back (getD (members set) i zeroTask) (taskLines (drop (suc i) (members set))) (some-at taskOverflows (members set) i zeroTask o (omega arith)))
     ∙ sym (take-suc (members set) i zeroTask (omega arith))
 
@@ -134,27 +130,25 @@ line-clear set ok most i h =
     let ask = writer-ask set ok in
     let t = getD (members set) i zeroTask in
     let whole = shaped set in
-    let formed = whole .tasks i h in
-    let less : Shaped text i = shaped-less text i (length (members set)) (omega arith) whole in
     let fits : taskOverflows t ≡ false = some-at taskOverflows (members set) i zeroTask (ask-tasks set ask) h in
-    let id : fieldOf Frame.Task 0 (past (suc i) text) ≡ t .id = ap (fieldOf Frame.Task 0) (past-at set i h) ∙ id-back t (taskLines (drop (suc i) (members set))) fits in
-    let seen : some (hasId (fieldOf Frame.Task 0 (past (suc i) text))) (tasksFrom text i) ≡ false =
-    ap₂ (λ (n : ℕ) (ts : List Task). some (hasId n) ts) id (tasks-back set (ask-tasks set ask) i (omega arith)) ∙ twice-before (members set) i zeroTask (ask-twice set ask) h in
-    let room : eqb i 64 ≡ false = ne-eqb i 64 (λ (e : i ≡ 64). omega arith) in
-    task-line text i less (not-formed Frame.Task Frame.Header refl (past (suc i) text) formed) formed
+    let figures : taskAt (past (suc i) text) ≡ t = ap taskAt (past-at set i h) ∙ task-back t (taskLines (drop (suc i) (members set))) fits in
+    let seen : some (hasId (taskAt (past (suc i) text) .id)) (tasksAmong text (suc i)) ≡ false =
+    ap₂ (λ (u : Task) (ts : List Task). some (hasId (u .id)) ts) figures (tasks-back set (ask-tasks set ask) i (omega arith)) ∙ twice-before (members set) i zeroTask (ask-twice set ask) h in
+    let count : length (tasksAmong text (suc i)) ≡ i = shaped-count text i (shaped-less text i (length (members set)) (omega arith) whole) in
+    let room : eqb (length (tasksAmong text (suc i))) mostTasks ≡ false = ne-eqb (length (tasksAmong text (suc i))) mostTasks (λ (e : length (tasksAmong text (suc i)) ≡ mostTasks). omega (arith, count)) in
+    later-task text (suc i) (omega arith) (whole .tasks i h)
     ∙ ap₂ (λ (a b : Bool). firstOf (when a (Count (suc (suc i)))) (when b (Twice (suc (suc i))))) room seen
 
 lines-clear : (set : TaskSet) → writerAsks set ≡ false → length (members set) ≤ mostTasks → (j : ℕ) → j < suc (length (members set)) → lineOutcome (textOf set) (suc j) ≡ Done
 lines-clear set ok most zero h = first-header (textOf set) (shaped set .header)
 lines-clear set ok most (suc i) h = line-clear set ok most i (omega arith)
 
-all-clear : (set : TaskSet) (n : ℕ) → writerAsks set ≡ false → length (members set) ≡ suc n → suc n ≤ mostTasks → linesOutcome (textOf set) (length (textOf set) + 2) ≡ Done
+all-clear : (set : TaskSet) (n : ℕ) → writerAsks set ≡ false → length (members set) ≡ suc n → suc n ≤ mostTasks → till (lineOutcome (textOf set)) (length (textOf set) + 2) ≡ Done
 all-clear set n ok e most =
     let text = textOf set in
     let end : past (suc (suc n)) text ≡ [] = ap (λ (k : ℕ). past (suc k) text) (sym e) ∙ ended set in
-    let clear : linesOutcome text (suc (suc n)) ≡ Done = clear-lines text (suc (suc n)) (λ j h. lines-clear set ok (omega arith) j (omega arith)) in
-    let k : suc (suc n) + (length text + 2 - suc (suc n)) ≡ length text + 2 = omega (arith, text-size set) in
-    ap (linesOutcome text) (sym k) ∙ clear-past text n (length text + 2 - suc (suc n)) end clear
+    let clear : till (lineOutcome text) (suc (suc n)) ≡ Done = done-till (lineOutcome text) (suc (suc n)) (λ j h. lines-clear set ok (omega arith) j (omega arith)) in
+    clear-past text n (length text + 2) end clear
 
 -- the set that the text holds
 header-text : (set : TaskSet) → headerOverflows (set .header) ≡ false → headerAt (textOf set) ≡ set .header
@@ -167,7 +161,7 @@ file-back set ok =
     let ask = writer-ask set ok in
     let ms = members set in
     ap₂ setOf (header-text set (ask-header set ask))
-    (ap (tasksFrom (textOf set)) (shaped-all (textOf set) (length ms) (shaped set) (ended set)) ∙ tasks-back set (ask-tasks set ask) (length ms) (omega arith) ∙ take-length ms)
+    (sym (among-all (textOf set) (suc (length ms)) (ended set)) ∙ tasks-back set (ask-tasks set ask) (length ms) (omega arith) ∙ take-length ms)
 
 -- rows 5 and 6 let it pass
 figures-pass : (set : TaskSet) → writerAsks set ≡ false → figuresOutcome (setOf (set .header) (members set)) ≡ Done

@@ -1,12 +1,13 @@
 -- What is claimed of task files: each refusal of reading exactly when its row says, what an accepted file is,
 -- what a write answers and leaves, and that reading and writing undo each other.
 -- Document 01, "Refusal numbers and their order" and "How tight each promise is".
-use Prim.Native.Nat.{ℕ, suc, _+_, _<_, _≤_}
+use Prim.Native.Nat.{ℕ, suc, pred, _+_, _*_, _<_, _≤_}
 use mathlib.Core.List.{List, []}
 use mathlib.Core.Bool.{Bool, true, false}
 use mathlib.Core.Path.{_≡_}
 use mathlib.Core.Logic.{_↔_, _⊎_}
-use lib.ListN.{length, take, drop}
+use lib.ListN.{length, take, drop, getD}
+use Rattle.frames.specs.Line.{formed}
 use Rattle.frames.specs.Table.{lengthOf}
 use Rattle.refusals.specs.Refused.{numberOf}
 use Rattle.frames.specs.declared.table.Frame.{Frame}
@@ -14,14 +15,21 @@ use Rattle.refusals.specs.declared.Refusal.{Refusal}
 use Rattle.refusals.specs.declared.Refusal.the-variants.{Line, Order, Count, Twice, Board, Range, Ask, Room}
 use Rattle.refusals.specs.declared.Outcome.the-variants.{Done, Refused}
 use Rattle.taskread.specs.declared.read.ReadAnswer.{ReadAnswer}
-use Rattle.tasks.specs.Set.{mostTasks, zeroSet, members, setOf}
+use Rattle.tasks.specs.Set.{mostTasks, zeroTask, zeroSet, members, setOf}
 use Rattle.tasks.specs.Rows.{boardRow, rangeRow}
-use Rattle.taskread.specs.File.{past, tasksIn, lineRow, orderRow, countLineRow, twiceLineRow, lineOutcome, headerAt, taskAt, tasksFrom}
+use Rattle.taskread.specs.File.{past, lineRow, orderRow, countLineRow, twiceLineRow, lineOutcome, headerAt, fileTasks}
 use Rattle.taskread.specs.Read.{readOf, answer}
-use Rattle.taskread.specs.Shape.{Shaped, placeAfter}
 use Rattle.refusals.specs.declared.Written.{Written}
+use Rattle.tasks.specs.declared.set.Task.{Task}
 use Rattle.tasks.specs.declared.set.TaskSet.{TaskSet}
 use Rattle.taskwrite.specs.Write.{textOf, writerAsks, writeOf, Wrote}
+
+-- the tasks of a file, and the k-th of them, from 1
+abbrev pub tasksIn : List ℕ → ℕ
+tasksIn text = length (fileTasks text)
+
+abbrev pub taskOf : List ℕ → ℕ → Task
+taskOf text k = getD (fileTasks text) (pred k) zeroTask
 
 -- rows 1 to 4, which are tested at a line
 pub data LineRow : Type 0 where
@@ -67,8 +75,8 @@ pub record FirstRange (text : List ℕ) (k : ℕ) : Type 0 where
   pub board : boardRow (headerAt text) ≡ false
   pub counted : 1 ≤ k
   pub within : k ≤ tasksIn text
-  pub holds : rangeRow (taskAt (past k text)) ≡ true
-  pub earlier : (j : ℕ) → 1 ≤ j → j < k → rangeRow (taskAt (past j text)) ≡ false
+  pub holds : rangeRow (taskOf text k) ≡ true
+  pub earlier : (j : ℕ) → 1 ≤ j → j < k → rangeRow (taskOf text j) ≡ false
 
 abbrev pub ReadExactlyRange : Type 0
 ReadExactlyRange = (text : List ℕ) (k : ℕ) → (readOf text .outcome ≡ Refused (Range k)) ↔ FirstRange text k
@@ -77,7 +85,7 @@ ReadExactlyRange = (text : List ℕ) (k : ℕ) → (readOf text .outcome ≡ Ref
 pub record NoRow (text : List ℕ) : Type 0 where
   pub clear : AllClear text
   pub board : boardRow (headerAt text) ≡ false
-  pub range : (j : ℕ) → 1 ≤ j → j ≤ tasksIn text → rangeRow (taskAt (past j text)) ≡ false
+  pub range : (j : ℕ) → 1 ≤ j → j ≤ tasksIn text → rangeRow (taskOf text j) ≡ false
 
 abbrev pub ReadExactlyDone : Type 0
 ReadExactlyDone = (text : List ℕ) → (readOf text .outcome ≡ Done) ↔ NoRow text
@@ -90,26 +98,35 @@ ReadRefuses = (text : List ℕ) (r : Refusal) → readOf text .outcome ≡ Refus
 abbrev pub ReadDetermined : Type 0
 ReadDetermined = (text : List ℕ) (a b : ReadAnswer) → a ≡ readOf text → b ≡ readOf text → a ≡ b
 
+-- line 1 is an 01 line, and the n lines after it are 02 lines
+pub record Shaped (text : List ℕ) (n : ℕ) : Type 0 where
+  pub header : formed Frame.Header text ≡ true
+  pub tasks : (j : ℕ) → j < n → formed Frame.Task (past (suc j) text) ≡ true
+
+-- the bytes of an 01 line and n 02 lines
+abbrev pub sizeOf : ℕ → ℕ
+sizeOf n = (lengthOf Frame.Header + 1) + (lengthOf Frame.Task + 1) * n
+
 -- reading looks no further than a header, 64 tasks and the longest line after them
 abbrev pub furthest : ℕ
-furthest = placeAfter mostTasks + (lengthOf Frame.Header + 1)
+furthest = sizeOf mostTasks + (lengthOf Frame.Header + 1)
 
 abbrev pub ReadLooksAt : Type 0
 ReadLooksAt = (n : ℕ) (text : List ℕ) → furthest ≤ n → readOf (take n text) ≡ readOf text
 
 -- an accepted file is a header and 1 to 64 tasks, nothing after them, and the answer holds those
-pub record Accepted (text : List ℕ) : Type 0 where
+pub record AcceptedFile (text : List ℕ) : Type 0 where
   pub any : 1 ≤ tasksIn text
   pub most : tasksIn text ≤ mostTasks
   pub shaped : Shaped text (tasksIn text)
-  pub bytes : length text ≡ placeAfter (tasksIn text)
+  pub bytes : length text ≡ sizeOf (tasksIn text)
   pub ended : past (suc (tasksIn text)) text ≡ []
   pub header : readOf text .set .header ≡ headerAt text
   pub count : readOf text .set .count ≡ tasksIn text
-  pub tasks : members (readOf text .set) ≡ tasksFrom text (tasksIn text)
+  pub tasks : members (readOf text .set) ≡ fileTasks text
 
 abbrev pub ReadAccepted : Type 0
-ReadAccepted = (text : List ℕ) → readOf text .outcome ≡ Done → Accepted text
+ReadAccepted = (text : List ℕ) → readOf text .outcome ≡ Done → AcceptedFile text
 
 -- ASK exactly where row 11 holds of the set. ROOM exactly where it does not and the buffer is shorter than the text.
 -- A number of bytes exactly where neither holds, and it is the text's length. No other refusal is given.

@@ -1,33 +1,37 @@
 -- `read::read` meets its contract.
--- The loop's invariant: the header and the set's tasks are taken, and the place is the next line's.
-use Prim.Native.Nat.{ℕ, suc, _+_, _-_}
+-- The loop's invariant: the lines so far are taken, the set and the ids are what they hold, and the cursor stands behind them.
+use Prim.Native.Nat.{ℕ, suc, _+_, _-_, _<_}
 use native.Mathlib.Omega.{arith}
-use native.Mathlib.Numerals.{add-two}
+use native.Mathlib.Numerals.{add-one}
 use mathlib.Core.List.{List}
 use mathlib.Core.Path.{_≡_, refl, sym, ap, _∙_, subst}
 use borrow.Author.Needs.{needs}
 use denote.Ref.{now}
 use lib.ListN.{length, drop}
-use Rattle.frames.specs.Table.{widthsOf, sum}
+use lib.Seq.{length-take-le}
+use Rattle.frames.specs.Table.{lengthOf}
+use Rattle.frames.specs.declared.table.Frame.{Frame}
+use Rattle.frames.proofs.Tables.{length-most}
 use Rattle.refusals.specs.declared.Outcome.{Outcome}
 use Rattle.refusals.specs.declared.Outcome.the-variants.{Done}
+use Rattle.refusals.specs.First.{till}
 use Rattle.tasks.specs.declared.set.Task.{Task}
 use Rattle.tasks.specs.declared.set.TaskSet.{TaskSet}
 use Rattle.taskread.specs.declared.line.HeaderLine.{HeaderLine}
 use Rattle.taskread.specs.declared.line.TaskLine.{TaskLine}
-use Rattle.tasks.specs.Set.{zeroSet, withTask}
-use Rattle.taskread.specs.File.{lineOutcome, linesOutcome, headerAt, taskAt}
-use Rattle.taskread.specs.Shape.{Taken, placeAfter, headerOr, taskOr, ofHeader, ofTask}
+use Rattle.tasks.specs.Set.{mostTasks}
+use Rattle.taskread.specs.File.{lineOutcome, headerAt, taskAt}
+use Rattle.taskread.specs.Shape.{Taken, headerOr, taskOr, ofHeader, ofTask}
 use Rattle.taskread.specs.Read.{answer}
-use Rattle.taskread.proofs.Reading.{of-header, of-task, header-refused, task-refused, reads-line, taken-header, taken-task, task-room, taken-all, taken-none, text-ended}
+use Rattle.taskread.proofs.Reading.{Held, held-few, of-header, of-task, header-refused, task-refused, reads-line, held-header, held-task, task-room, ended-all, ended-none}
 use Rattle.taskread.proofs.read.read.Statement.{statement}
 use Rattle.taskread.proofs.read.read.Tie as tie
 
 abbrev Inv-loop : tie.InvT-loop
-Inv-loop text set₀ at₀ set at = Taken text (set .count) set × (at ≡ placeAfter (set .count))
+Inv-loop text set₀ ids₀ at₀ lines₀ set ids at lines = Held text lines at set ids
 
 abbrev μ-loop : tie.MeasureT-loop
-μ-loop text set₀ at₀ set at = length text - at
+μ-loop text set₀ ids₀ at₀ lines₀ set ids at lines = length text - at
 
 zero-requires : tie.Need-zero-requires Inv-loop μ-loop
 zero-requires c κs = search needs
@@ -48,7 +52,7 @@ answered-requires : tie.Need-answered-requires Inv-loop μ-loop
 answered-requires c κs = search needs
 
 returns : tie.Need-returns Inv-loop μ-loop
-unfolding linesOutcome
+unfolding till
 returns c =
     let text : List ℕ = now (c .before .before .before .before .before .before .before .args .text) in
     let line = c .before .before .before .before .header-line in
@@ -64,20 +68,23 @@ length-requires : tie.Need-length-requires Inv-loop μ-loop
 length-requires c κs = search needs
 
 add-at : tie.Need-add-at Inv-loop μ-loop
-unfolding widthsOf sum
-add-at c = omega (arith, c .length .ensures)
+add-at c = omega (arith, c .length .ensures, length-most Frame.Header)
 
 loop-holds : tie.Need-loop-holds Inv-loop μ-loop
-unfolding widthsOf sum
 loop-holds c =
     let text : List ℕ = now (c .before .before .before .before .before .before .before .args .text) in
-    let zeroed : c .before .before .before .before .before .zero .result ≡ zeroSet = c .before .before .before .before .before .zero .ensures in (
-      taken-header text (c .before .before .first .given .0 .0) (c .before .before .before .before .before .zero .result) zeroed (sym (c .before .before .before .before .header-line .ensures) ∙ c .before .before .first .given .1),
-      omega (arith, c .length .ensures, ap (λ (s : TaskSet). s .count) zeroed),
-    )
+    let zeroed = c .before .before .before .before .before .zero .ensures in
+    rw (c .length .ensures)
+    (held-header text (c .before .before .first .given .0 .0) (c .before .before .before .before .before .zero .result) _ zeroed refl (sym (c .before .before .before .before .header-line .ensures) ∙ c .before .before .first .given .1))
+
+array-share-prefix-ids : tie.Need-array-share-prefix-ids Inv-loop μ-loop
+array-share-prefix-ids c = omega (arith, held-few (c .before .loop .inv), c .before .loop .inv .room)
+
+slice-aggregate-task-line : tie.Need-slice-aggregate-task-line Inv-loop μ-loop
+slice-aggregate-task-line c = sym (length-take-le _ _ (omega (arith, held-few (c .before .before .loop .inv), c .before .before .loop .inv .room)))
 
 task-line-requires : tie.Need-task-line-requires Inv-loop μ-loop
-task-line-requires c κs = search needs
+task-line-requires c κs = (c .before .before .loop .inv .taken, (c .before .loop-test .taken, c .before .before .loop .inv .listed))
 
 enum-known-line : tie.Need-enum-known-line Inv-loop μ-loop
 enum-known-line c = search needs
@@ -93,84 +100,87 @@ answered-requires-2 c κs = search needs
 
 returns-2 : tie.Need-returns-2 Inv-loop μ-loop
 returns-2 c =
-    let at = c .before .before .before .before .before .before in
+    let at = c .before .before .before .before .before .before .before in
     let text : List ℕ = now (at .before .before .before .before .before .before .before .before .args .text) in
     let set : TaskSet = at .loop .set in
+    let lines : ℕ = at .loop .lines in
     let task : Task = taskAt (drop (at .loop .at) text) in
     let line = c .before .before .before .before .task-line in
-    let refused : taskOr (lineOutcome text (set .count + 2)) task ≡ TaskLine.Refused (c .before .before .enum-told2 .given .0 .0) = sym (line .ensures) ∙ c .before .before .enum-told2 .given .1 in
-    let outcome : c .before .task-outcome .result ≡ lineOutcome text (suc (suc (set .count))) =
+    let refused : taskOr (lineOutcome text (lines + 1)) task ≡ TaskLine.Refused (c .before .before .enum-told2 .given .0 .0) = sym (line .ensures) ∙ c .before .before .enum-told2 .given .1 in
+    let outcome : c .before .task-outcome .result ≡ lineOutcome text (suc lines) =
     c .before .task-outcome .ensures
-    ∙ (ap ofTask (line .ensures) ∙ (of-task (lineOutcome text (set .count + 2)) task ∙ ap (lineOutcome text) (add-two (set .count)))) in
+    ∙ (ap ofTask (line .ensures) ∙ (of-task (lineOutcome text (lines + 1)) task ∙ ap (lineOutcome text) (add-one lines))) in
     c .answered2 .ensures
     ∙ (ap (λ (o : Outcome). answer o set) outcome
-    ∙ reads-line text (suc (set .count)) set (at .loop .inv .0 .clear)
-    (λ (done : lineOutcome text (suc (suc (set .count))) ≡ Done). task-refused (lineOutcome text (set .count + 2)) task (c .before .before .enum-told2 .given .0 .0) refused (ap (lineOutcome text) (add-two (set .count)) ∙ done)))
+    ∙ reads-line text lines set (at .loop .inv .taken .clear)
+    (λ (done : lineOutcome text (suc lines) ≡ Done). task-refused (lineOutcome text (lines + 1)) task (c .before .before .enum-told2 .given .0 .0) refused (ap (lineOutcome text) (add-one lines) ∙ done)))
 
 -- what the line gives where it is a task
-gives : (c : tie.After-known-told2 Inv-loop μ-loop) → taskOr (lineOutcome (now (c .before .before .before .before .before .before .before .before .before .before .before .before .before .args .text)) (c .before .before .before .before .before .loop .set .count + 2)) (taskAt (drop (c .before .before .before .before .before .loop .at) (now (c .before .before .before .before .before .before .before .before .before .before .before .before .before .args .text)))) ≡ TaskLine.Task (c .before .line .given .0 .0)
+gives : (c : tie.After-known-told2 Inv-loop μ-loop) → taskOr (lineOutcome (now (c .before .before .before .before .before .before .before .before .before .before .before .before .before .before .args .text)) (c .before .before .before .before .before .before .loop .lines + 1)) (taskAt (drop (c .before .before .before .before .before .before .loop .at) (now (c .before .before .before .before .before .before .before .before .before .before .before .before .before .before .args .text)))) ≡ TaskLine.Task (c .before .line .given .0 .0)
 gives c = sym (c .before .before .before .task-line .ensures) ∙ c .before .line .given .1
 
-with-task-requires : tie.Need-with-task-requires Inv-loop μ-loop
-with-task-requires c κs =
-    let at = c .before .before .before .before .before in
-    task-room (now (at .before .before .before .before .before .before .before .before .args .text)) (at .loop .at) (at .loop .set .count) (at .loop .set) (c .before .line .given .0 .0) (at .loop .inv .0) (at .loop .inv .1) (c .before .before .before .before .loop-test .taken) (gives c)
+-- there is room for the task
+room : (c : tie.After-known-told2 Inv-loop μ-loop) → c .before .before .before .before .before .before .loop .set .count < mostTasks
+room c =
+    let at = c .before .before .before .before .before .before in
+    task-room (c .before .line .given .0 .0) (at .loop .inv) (c .before .before .before .before .before .loop-test .taken) (gives c)
+
+mul-task : tie.Need-mul-task Inv-loop μ-loop
+mul-task c = omega (arith, room c)
+
+element-set-from-task : tie.Need-element-set-from-task Inv-loop μ-loop
+element-set-from-task c = omega (arith, room c)
+
+add-set : tie.Need-add-set Inv-loop μ-loop
+add-set c = omega (arith, room c)
+
+array-write-ids : tie.Need-array-write-ids Inv-loop μ-loop
+array-write-ids c = omega (arith, room c)
 
 length-requires-2 : tie.Need-length-requires-2 Inv-loop μ-loop
 length-requires-2 c κs = search needs
 
 add-at-2 : tie.Need-add-at-2 Inv-loop μ-loop
-unfolding widthsOf sum
-add-at-2 c = omega (arith, c .length2 .ensures)
+add-at-2 c = omega (arith, c .length2 .ensures, length-most Frame.Task)
 
 add-at-3 : tie.Need-add-at-3 Inv-loop μ-loop
-unfolding widthsOf sum
-add-at-3 c = omega (arith, c .length2 .ensures, c .before .before .before .before .before .before .before .loop .inv .0 .room, c .before .before .before .before .before .before .before .loop .inv .1)
+add-at-3 c =
+    let at = c .before .before .before .before .before .before .before in
+    omega (arith, c .length2 .ensures, at .loop .inv .taken .within, length-most Frame.Task)
+
+add-lines : tie.Need-add-lines Inv-loop μ-loop
+add-lines c =
+    let at = c .before .before .before .before .before .before .before in
+    omega (arith, at .loop .inv .taken .lines, at .loop .inv .taken .few)
 
 loop-less : tie.Need-loop-less Inv-loop μ-loop
-unfolding widthsOf sum
 loop-less c = omega (arith, c .length2 .ensures, c .before .before .before .before .before .before .loop-test .taken)
 
 loop-again : tie.Need-loop-again Inv-loop μ-loop
-unfolding widthsOf sum
 loop-again c =
     let at = c .before .before .before .before .before .before .before in
-    let text : List ℕ = now (at .before .before .before .before .before .before .before .before .args .text) in
-    let set : TaskSet = at .loop .set in
-    let task : Task = c .before .before .before .line .given .0 .0 in
-    let next : Taken text (set .count + 1) (withTask set task) =
-    taken-task text (at .loop .at) (set .count) set task (at .loop .inv .0) (at .loop .inv .1) (c .before .before .before .before .before .before .loop-test .taken) (gives (c .before .before)) in
-    let place : at .loop .at + (c .length2 .result + 1) ≡ placeAfter (set .count + 1) = omega (arith, c .length2 .ensures, at .loop .inv .1) in
-    subst (λ (s : TaskSet). Taken text (s .count) s × (at .loop .at + (c .length2 .result + 1) ≡ placeAfter (s .count))) (sym (c .before .with-task .ensures)) (next, place)
+    let task : Task = c .before .before .line .given .0 .0 in
+    rw (c .length2 .ensures)
+    (held-task task (at .loop .inv) (c .before .before .before .before .before .before .loop-test .taken) (gives (c .before)))
 
 answered-requires-3 : tie.Need-answered-requires-3 Inv-loop μ-loop
 answered-requires-3 c κs = search needs
 
 returns-3 : tie.Need-returns-3 Inv-loop μ-loop
-returns-3 c =
-    let at = c .before .before .before .before in
-    let text : List ℕ = now (at .before .before .before .before .before .before .before .before .args .text) in
-    let set : TaskSet = at .loop .set in
-    c .answered3 .ensures
-    ∙ taken-none text (set .count) set (at .loop .inv .0) (c .before .if1 .taken)
-    (text-ended text (at .loop .at) (set .count) set (at .loop .inv .0) (at .loop .inv .1) (c .before .before .before .loop-test .left))
+returns-3 c = c .answered3 .ensures ∙ ended-none (c .before .before .before .loop .inv) (c .before .before .loop-test .left) (c .before .if1 .taken)
 
 figures-requires : tie.Need-figures-requires Inv-loop μ-loop
-figures-requires c κs = search needs
+figures-requires c κs = held-few (c .before .before .loop .inv)
 
 answered-requires-4 : tie.Need-answered-requires-4 Inv-loop μ-loop
 answered-requires-4 c κs = search needs
 
 returns-4 : tie.Need-returns-4 Inv-loop μ-loop
 returns-4 c =
-    let at = c .before .before .before .before .before in
-    let text : List ℕ = now (at .before .before .before .before .before .before .before .before .args .text) in
-    let set : TaskSet = at .loop .set in
+    let at = c .before .before .before .before in
     c .answered4 .ensures
-    ∙ (ap (λ (o : Outcome). answer o set) (c .before .figures .ensures)
-    ∙ taken-all text (set .count) set (at .loop .inv .0)
-    (text-ended text (at .loop .at) (set .count) set (at .loop .inv .0) (at .loop .inv .1) (c .before .before .before .before .loop-test .left))
-    (c .before .before .if1 .left))
+    ∙ (ap (λ (o : Outcome). answer o (at .loop .set)) (c .before .figures .ensures)
+    ∙ ended-all (at .loop .inv) (c .before .before .before .loop-test .left) (c .before .before .if1 .left))
 
 pub read-spec : {M : Type 1} → statement M
 read-spec =
@@ -188,16 +198,22 @@ read-spec =
     length-requires
     add-at
     loop-holds
+    array-share-prefix-ids
+    slice-aggregate-task-line
     task-line-requires
     enum-known-line
     enum-told-2
     task-outcome-requires
     answered-requires-2
     returns-2
-    with-task-requires
+    mul-task
+    element-set-from-task
+    add-set
+    array-write-ids
     length-requires-2
     add-at-2
     add-at-3
+    add-lines
     loop-less
     loop-again
     answered-requires-3

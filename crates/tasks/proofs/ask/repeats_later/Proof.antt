@@ -7,15 +7,15 @@ use native.Mathlib.Omega.{arith}
 use borrow.Author.Tests.{eq-eqb, ne-eqb}
 use lib.ListN.{length, length-map, drop, getD}
 use Rattle.tasks.specs.Set.{members, zeroTask}
-use Rattle.tasks.specs.Rows.{some}
-use Rattle.tasks.proofs.Some.{sameId, some-left, some-end}
+use Rattle.tasks.specs.Rows.{some, hasId}
+use Rattle.tasks.proofs.Some.{some-left, some-end}
 use Rattle.tasks.proofs.ask.repeats_later.Statement.{statement}
 use Rattle.tasks.proofs.ask.repeats_later.Tie as tie
 
 abbrev Inv-loop : tie.InvT-loop
 Inv-loop i set id count j₀ j =
     (j ≤ count)
-    × (some (sameId (getD (set .tasks) i zeroTask)) (drop (i + 1) (members set)) ≡ some (sameId (getD (set .tasks) i zeroTask)) (drop j (members set)))
+    × (some (hasId (getD (set .tasks) i zeroTask .id)) (drop (i + 1) (members set)) ≡ some (hasId (getD (set .tasks) i zeroTask .id)) (drop j (members set)))
 
 abbrev μ-loop : tie.MeasureT-loop
 μ-loop i set id count j₀ j = count - j
@@ -49,7 +49,7 @@ returns c =
     let at = c .before .before in
     let set = at .before .args .t1 in
     let t = getD (set .tasks) (at .before .args .i) zeroTask in
-    sym (at .loop .inv .1 ∙ some-left (sameId t) (set .tasks) (set .count) (at .loop .j) zeroTask true (fits (at .before)) (c .before .loop-test .taken) (eq-eqb _ _ (c .if1 .taken)))
+    sym (at .loop .inv .1 ∙ some-left (hasId (t .id)) (set .tasks) (set .count) (at .loop .j) zeroTask true (fits (at .before)) (c .before .loop-test .taken) (eq-eqb _ _ (c .if1 .taken)))
 
 add-j-2 : tie.Need-add-j-2 Inv-loop μ-loop
 add-j-2 c = omega arith
@@ -63,14 +63,14 @@ loop-again c =
     let set = at .before .args .t1 in
     let t = getD (set .tasks) (at .before .args .i) zeroTask in (
       omega arith,
-      at .loop .inv .1 ∙ some-left (sameId t) (set .tasks) (set .count) (at .loop .j) zeroTask false (fits (at .before)) (c .before .loop-test .taken) (ne-eqb _ _ (c .if1 .left)),
+      at .loop .inv .1 ∙ some-left (hasId (t .id)) (set .tasks) (set .count) (at .loop .j) zeroTask false (fits (at .before)) (c .before .loop-test .taken) (ne-eqb _ _ (c .if1 .left)),
     )
 
 returns-2 : tie.Need-returns-2 Inv-loop μ-loop
 returns-2 c =
     let set = c .before .before .args .t1 in
     let t = getD (set .tasks) (c .before .before .args .i) zeroTask in
-    sym (c .before .loop .inv .1 ∙ some-end (sameId t) (set .tasks) (set .count) (c .before .loop .j) (fits (c .before .before)) (c .loop-test .left))
+    sym (c .before .loop .inv .1 ∙ some-end (hasId (t .id)) (set .tasks) (set .count) (c .before .loop .j) (fits (c .before .before)) (c .loop-test .left))
 
 pub repeats-later-spec : {M : Type 1} → statement M
 repeats-later-spec =
