@@ -1,8 +1,11 @@
 // The one table of frame kinds and field widths. The reader and every writer go by it.
 // A frame with fewer than the most fields is filled up with fields of no digits.
+use digits::too_large;
 ghost use mathlib.Core.Path.{_≡_};
 ghost use Prim.Native.Nat.{_<_, _≤_};
+ghost use lib.ListN.{length as count};
 ghost use Rattle.frames.specs.Table.{rowOf, widthOf, fieldsIn, fieldStart, lengthOf, indexOf, mostFields};
+ghost use Rattle.frames.specs.Line.{lineOverflows};
 
 pub enum Frame {
     Header,
@@ -74,11 +77,6 @@ pub const TABLE: [Row; KINDS] = [
     },
 ];
 
-// The ring start of a server on a whole processor, and the number that it stands for.
-pub const WHOLE: [u8; 8] = *b"FFFFFFFF";
-
-pub const MARK: u64 = 0xFFFF_FFFF;
-
 // The index of a frame in the table.
 fn index(frame: Frame) -> usize
     ensures { λ r. ⌜ r ≡ indexOf frame ⌝ }
@@ -138,4 +136,20 @@ pub fn length(frame: Frame) -> usize
     ensures { λ r. ⌜ r ≡ lengthOf frame ⌝ }
 {
     field_start(frame, MOST_FIELDS)
+}
+
+// Whether one of a line's values is too large for its field.
+pub fn overflows(frame: Frame, values: &[u64]) -> bool
+    requires { ⌜ fieldsIn frame ≤ count (now values) ⌝ }
+    ensures { λ r. ⌜ r ≡ lineOverflows frame (now (values .entry)) ⌝ }
+{
+    let n = fields_in(frame);
+    let mut field = 0;
+    while field < n {
+        if too_large(width(frame, field), values[field]) {
+            return true;
+        }
+        field += 1;
+    }
+    false
 }

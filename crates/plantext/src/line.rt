@@ -2,8 +2,8 @@
 // What each line holds stands in specs/Text.antt.
 use frames::table::Frame;
 use frames::table::field_start;
-use frames::write::put_line;
-use frames::write::put_mark;
+use framewrite::put_line;
+use framewrite::put_mark;
 use plan::plan::Plan;
 use refusals::Refusal;
 use tasks::set::TaskSet;

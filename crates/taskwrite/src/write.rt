@@ -2,7 +2,7 @@
 // Row 11 comes before row 12, and a refused write stores nothing.
 use frames::table::Frame;
 use frames::table::length;
-use frames::write::put_line;
+use framewrite::put_line;
 use refusals::Refusal;
 use refusals::Written;
 use tasks::ask::asks;
