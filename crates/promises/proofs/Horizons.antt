@@ -10,7 +10,7 @@ use Rattle.refusals.specs.declared.Outcome.{Outcome}
 use Rattle.refusals.specs.declared.Outcome.the-variants.{Done, Refused}
 use Rattle.tasks.specs.declared.set.TaskSet.{TaskSet}
 use Rattle.taskread.specs.declared.read.ReadAnswer.{ReadAnswer}
-use Rattle.refusals.specs.First.{when}
+use Rattle.refusals.specs.First.{when, till}
 use Rattle.tasks_claims.proofs.Examples.{bytesOf}
 use Rattle.plan.specs.declared.planner.PlanAnswer.{PlanAnswer}
 use Rattle.plan.specs.Planner.{planOf, planOutcome, fullRow, needed}
@@ -21,7 +21,6 @@ use Rattle.frames.specs.Table.{kindOf, widthsOf, sum}
 use Rattle.frames.specs.Line.{line, after, closed, same, formed, fieldOf, fields, lineOf}
 use Rattle.tasks.specs.Set.{setOf}
 use Rattle.tasks.specs.Rows.{some, firstFrom, countRow, twiceRow, boardRow, rangeRow, figuresOutcome, headerOverflows, taskOverflows, askRow}
-use Rattle.refusals.specs.First.{till}
 use Rattle.taskread.specs.File.{past, tasksAmong, lineRow, orderRow, countLineRow, twiceLineRow, lineOutcome, headerAt, taskAt}
 use Rattle.taskread.specs.Read.{fileSet, readOutcome, readOf}
 use Rattle.wholes.specs.Measure.{measureIn, commonMeasure}

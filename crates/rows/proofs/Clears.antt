@@ -31,7 +31,7 @@ use Rattle.servers.proofs.PartLaws.{slot-divides}
 use Rattle.tasks.specs.declared.set.Header.{Header}
 use Rattle.tasks.specs.declared.set.Task.{Task}
 use Rattle.tasks.specs.declared.set.TaskSet.{TaskSet}
-use Rattle.tasks.specs.Set.{mostTasks, mostProcessors, longestPeriod, members, zeroTask}
+use Rattle.tasks.specs.Set.{mostTasks, mostProcessors, longestPeriod, members, zeroTask, longestHorizon}
 use Rattle.refusals.specs.First.{firstOf, when}
 use Rattle.tasks.specs.Rows.{firstTask, atTask, some, boardRow, rangeRow, twiceRow, headerOverflows, overflows, taskOverflows, askRow, countRow, figuresOutcome}
 use Rattle.tasks.proofs.FirstLaws.{first-none}
@@ -40,7 +40,7 @@ use Rattle.tasks.proofs.Firsts.{at-some}
 use Rattle.rows.specs.Charge.{loadOf, loadsOfSet, lossOf}
 use Rattle.rows.specs.declared.rows.Rows.{Rows}
 use Rattle.rows.specs.declared.rows.Rows.the-variants.{Clear}
-use Rattle.rows.specs.Rows.{slotRow, tightRow, horizonOf, horizonRow, longestHorizon, chargedOutcome, cleared, rowsOf, Chargeable, RowsClear}
+use Rattle.rows.specs.Rows.{slotRow, tightRow, horizonOf, horizonRow, chargedOutcome, cleared, rowsOf, Chargeable, RowsClear}
 use Rattle.rows.proofs.Charges.{tight-meets}
 
 -- ---- a header and a task

@@ -12,7 +12,7 @@ use Rattle.wholes.specs.Multiple.{leastMultipleOf}
 use Rattle.tasks.specs.declared.set.Header.{Header}
 use Rattle.tasks.specs.declared.set.Task.{Task}
 use Rattle.tasks.specs.declared.set.TaskSet.{TaskSet}
-use Rattle.tasks.specs.Set.{mostTasks, members}
+use Rattle.tasks.specs.Set.{mostTasks, members, longestHorizon}
 use Rattle.refusals.specs.First.{firstOf, when}
 use Rattle.tasks.specs.Rows.{firstTask, atTask, boardRow, rangeRow, figuresOutcome}
 use Rattle.rows.specs.declared.rows.Rows.{Rows}
@@ -30,10 +30,6 @@ tightRow h t = leb (t .deadline) (h .relj) || ltb (loadOf h t .deadline) (loadOf
 -- the horizon H: the least common multiple of S and every T of the file
 unfoldable pub horizonOf : TaskSet → ℕ
 horizonOf set = leastMultipleOf (set .header .slot) (map (λ (t : Task). t .period) (members set))
-
--- H is at most 10,000,000
-abbrev pub longestHorizon : ℕ
-longestHorizon = 10000000
 
 -- 9 HORIZON: H > 10,000,000
 unfoldable pub horizonRow : TaskSet → Bool

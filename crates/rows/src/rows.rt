@@ -11,9 +11,9 @@ ghost use mathlib.Core.Path.{_≡_};
 ghost use mathlib.Core.Bool.{false};
 ghost use Prim.Native.Nat.{_≤_};
 ghost use Rattle.wholes.specs.Multiple.{within};
-ghost use Rattle.tasks.specs.Set.{members, mostTasks};
+ghost use Rattle.tasks.specs.Set.{members, mostTasks, longestHorizon};
 ghost use Rattle.tasks.specs.Rows.{firstTask};
-ghost use Rattle.rows.specs.Rows.{slotRow, tightRow, horizonOf, horizonRow, longestHorizon, rowsOf, Chargeable};
+ghost use Rattle.rows.specs.Rows.{slotRow, tightRow, horizonOf, horizonRow, rowsOf, Chargeable};
 
 // 7 SLOT.
 fn breaks_slot(header: Header, task: Task) -> bool

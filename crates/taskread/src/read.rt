@@ -7,13 +7,33 @@ use crate::line::header_outcome;
 use crate::line::task_line;
 use crate::line::task_outcome;
 use frames::table::Frame;
+use frames::table::TABLE;
 use frames::table::length;
 use refusals::Outcome;
 use refusals::Refusal;
 use tasks::rows::figures;
 use tasks::set::TaskSet;
 ghost use mathlib.Core.Path.{_≡_};
-ghost use Rattle.taskread.specs.Read.{answer, readOf};
+ghost use Rattle.taskread.specs.Read.{answer, readOf, furthest};
+
+// The bytes of an 01 and of an 02 line with its LF, by the table's widths.
+const HEADER_BYTES: usize = 3
+    + TABLE[0].widths[0] as usize
+    + TABLE[0].widths[1] as usize
+    + TABLE[0].widths[2] as usize
+    + TABLE[0].widths[3] as usize
+    + TABLE[0].widths[4] as usize
+    + TABLE[0].widths[5] as usize
+    + TABLE[0].widths[6] as usize;
+
+const TASK_BYTES: usize = 3
+    + TABLE[1].widths[0] as usize
+    + TABLE[1].widths[1] as usize
+    + TABLE[1].widths[2] as usize
+    + TABLE[1].widths[3] as usize;
+
+// The bytes that reading looks at: a buffer of so many holds all that decides an answer.
+pub const FURTHEST: usize = HEADER_BYTES + TASK_BYTES * TaskSet::MOST_TASKS + HEADER_BYTES;
 
 pub struct ReadAnswer {
     pub outcome: Outcome,
@@ -34,6 +54,12 @@ fn answered(outcome: Outcome, set: TaskSet) -> ReadAnswer
             set: TaskSet::zero(),
         },
     }
+}
+
+pub fn looks_at() -> usize
+    ensures { λ r. ⌜ r ≡ furthest ⌝ }
+{
+    FURTHEST
 }
 
 // The cursor `at` stands behind the lines taken so far; `ids` has the ids of the set's tasks.

@@ -24,7 +24,7 @@ unfolding setOf
 members-set header ts = take-append-seam ts _
 
 -- a set with one task more is the set of one task more
-pub set-more : (header : Header) (ts : List Task) (t : Task) → length ts < 64 → withTask (setOf header ts) t ≡ setOf header (ts ++ (t ∷ []))
+pub set-more : (header : Header) (ts : List Task) (t : Task) → length ts < mostTasks → withTask (setOf header ts) t ≡ setOf header (ts ++ (t ∷ []))
 unfolding setOf
 set-more header ts t lt =
     let count : length ts + 1 ≡ length (ts ++ (t ∷ [])) = sym (length-append ts (t ∷ [])) in

@@ -17,6 +17,9 @@ mostProcessors = 64
 abbrev pub longestPeriod : ℕ
 longestPeriod = 1000000
 
+abbrev pub longestHorizon : ℕ
+longestHorizon = 10000000
+
 abbrev pub zeroHeader : Header
 zeroHeader = record { processors = 0; slot = 0; relj = 0; relo = 0; ctswo = 0; resd = 0; cpmdo = 0 }
 
@@ -24,7 +27,7 @@ abbrev pub zeroTask : Task
 zeroTask = record { id = 0; cost = 0; deadline = 0; period = 0 }
 
 abbrev pub zeroSet : TaskSet
-zeroSet = record { header = zeroHeader; count = 0; tasks = replicate 64 zeroTask }
+zeroSet = record { header = zeroHeader; count = 0; tasks = replicate mostTasks zeroTask }
 
 -- the tasks that count, in file order
 abbrev pub members : TaskSet → List Task

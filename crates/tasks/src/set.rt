@@ -23,7 +23,7 @@ pub struct Task {
 pub struct TaskSet {
     pub header: Header,
     pub count: usize,
-    pub tasks: [Task; 64],
+    pub tasks: [Task; TaskSet::MOST_TASKS],
 }
 
 impl TaskSet {
@@ -55,7 +55,7 @@ impl TaskSet {
                 cost: 0,
                 deadline: 0,
                 period: 0,
-            }; 64],
+            }; TaskSet::MOST_TASKS],
         }
     }
 }

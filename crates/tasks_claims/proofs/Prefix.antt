@@ -22,8 +22,8 @@ use Rattle.refusals.specs.First.{firstOf, when, till}
 use Rattle.tasks.specs.Set.{mostTasks}
 use Rattle.tasks.specs.Rows.{some, hasId}
 use Rattle.taskread.specs.File.{past, empty, lineOutcome, taskAt, tasksAmong}
-use Rattle.taskread.specs.Read.{readOf}
-use Rattle.tasks_claims.specs.Claims.{Shaped, sizeOf, furthest, ReadLooksAt}
+use Rattle.taskread.specs.Read.{readOf, furthest}
+use Rattle.tasks_claims.specs.Claims.{Shaped, sizeOf, ReadLooksAt}
 use Rattle.taskread.proofs.AmongLaws.{among-task}
 use Rattle.taskread.proofs.Lines.{reads-refused, line-other, first-header, first-task, first-other, later-header, later-task, clear-task, clear-room, clear-header}
 use Rattle.refusals.proofs.FirstLaws.{till-suc}

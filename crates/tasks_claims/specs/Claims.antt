@@ -18,7 +18,7 @@ use Rattle.taskread.specs.declared.read.ReadAnswer.{ReadAnswer}
 use Rattle.tasks.specs.Set.{mostTasks, zeroTask, zeroSet, members, setOf}
 use Rattle.tasks.specs.Rows.{boardRow, rangeRow}
 use Rattle.taskread.specs.File.{past, lineRow, orderRow, countLineRow, twiceLineRow, lineOutcome, headerAt, fileTasks}
-use Rattle.taskread.specs.Read.{readOf, answer}
+use Rattle.taskread.specs.Read.{readOf, answer, furthest}
 use Rattle.refusals.specs.declared.Written.{Written}
 use Rattle.tasks.specs.declared.set.Task.{Task}
 use Rattle.tasks.specs.declared.set.TaskSet.{TaskSet}
@@ -107,10 +107,7 @@ pub record Shaped (text : List ℕ) (n : ℕ) : Type 0 where
 abbrev pub sizeOf : ℕ → ℕ
 sizeOf n = (lengthOf Frame.Header + 1) + (lengthOf Frame.Task + 1) * n
 
--- reading looks no further than a header, 64 tasks and the longest line after them
-abbrev pub furthest : ℕ
-furthest = sizeOf mostTasks + (lengthOf Frame.Header + 1)
-
+-- reading looks no further than that
 abbrev pub ReadLooksAt : Type 0
 ReadLooksAt = (n : ℕ) (text : List ℕ) → furthest ≤ n → readOf (take n text) ≡ readOf text
 

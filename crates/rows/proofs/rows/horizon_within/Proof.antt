@@ -6,9 +6,8 @@ use Prim.Native.Nat.{_≤_}
 use native.Mathlib.Omega.{arith}
 use lib.ListN.{length, length-map}
 use Rattle.wholes.specs.Multiple.{within}
-use Rattle.tasks.specs.Set.{mostTasks}
+use Rattle.tasks.specs.Set.{mostTasks, longestHorizon}
 use Rattle.rows.specs.Charge.{loadsOfSet}
-use Rattle.rows.specs.Rows.{longestHorizon}
 use Rattle.rows.proofs.Clears.{board-slot, loads-sound, loads-length, members-positive, horizon-taken}
 use Rattle.rows.proofs.rows.horizon_within.Statement.{statement}
 use Rattle.rows.proofs.rows.horizon_within.Tie as tie

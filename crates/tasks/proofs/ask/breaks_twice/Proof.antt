@@ -5,7 +5,7 @@ use mathlib.Core.Path.{_≡_, refl, sym, _∙_}
 use mathlib.Core.Bool.{true, false}
 use native.Mathlib.Omega.{arith}
 use lib.ListN.{length, length-map, drop}
-use Rattle.tasks.specs.Set.{members, zeroTask}
+use Rattle.tasks.specs.Set.{mostTasks, members, zeroTask}
 use Rattle.tasks.specs.Rows.{twiceRow}
 use Rattle.tasks.proofs.Some.{twice-left, twice-end}
 use Rattle.tasks.proofs.ask.breaks_twice.Statement.{statement}
@@ -17,7 +17,7 @@ Inv-loop set count i₀ i = (i ≤ count) × (twiceRow (members set) ≡ twiceRo
 abbrev μ-loop : tie.MeasureT-loop
 μ-loop set count i₀ i = count - i
 
-full : (c : tie.Start Inv-loop μ-loop) → length (c .args .set .tasks) ≡ 64
+full : (c : tie.Start Inv-loop μ-loop) → length (c .args .set .tasks) ≡ mostTasks
 full c = sym (length-map (c .args .set .tasks) _) ∙ c .good .0 .1 .1 .1 .1 .0 .1 .0 .1
 
 fits : (c : tie.Start Inv-loop μ-loop) → c .args .set .count ≤ length (c .args .set .tasks)

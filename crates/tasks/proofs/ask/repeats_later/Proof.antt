@@ -6,7 +6,7 @@ use mathlib.Core.Bool.{true, false}
 use native.Mathlib.Omega.{arith}
 use borrow.Author.Tests.{eq-eqb, ne-eqb}
 use lib.ListN.{length, length-map, drop, getD}
-use Rattle.tasks.specs.Set.{members, zeroTask}
+use Rattle.tasks.specs.Set.{mostTasks, members, zeroTask}
 use Rattle.tasks.specs.Rows.{some, hasId}
 use Rattle.tasks.proofs.Some.{some-left, some-end}
 use Rattle.tasks.proofs.ask.repeats_later.Statement.{statement}
@@ -20,7 +20,7 @@ Inv-loop i set id count j₀ j =
 abbrev μ-loop : tie.MeasureT-loop
 μ-loop i set id count j₀ j = count - j
 
-full : (c : tie.Start Inv-loop μ-loop) → length (c .args .t1 .tasks) ≡ 64
+full : (c : tie.Start Inv-loop μ-loop) → length (c .args .t1 .tasks) ≡ mostTasks
 full c = sym (length-map (c .args .t1 .tasks) _) ∙ c .good .0 .1 .1 .1 .1 .0 .1 .0 .1
 
 fits : (c : tie.Start Inv-loop μ-loop) → c .args .t1 .count ≤ length (c .args .t1 .tasks)

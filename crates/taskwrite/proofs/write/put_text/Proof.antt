@@ -9,7 +9,7 @@ use Rattle.frames.specs.Line.{lineOf}
 use Rattle.digits.specs.Stored.{stored}
 use Rattle.frames.specs.declared.table.Frame.{Frame}
 use Rattle.digits.proofs.Stored.{stored-nil}
-use Rattle.tasks.specs.Set.{members, zeroTask}
+use Rattle.tasks.specs.Set.{mostTasks, members, zeroTask}
 use Rattle.tasks.specs.Values.{taskValues}
 use Rattle.taskwrite.specs.Write.{taskLines}
 use Rattle.taskwrite.proofs.WriteText.{header-size, task-size, lines-at, lines-nil, lines-stored, text-bytes, text-stored}
@@ -23,7 +23,7 @@ Inv-loop out₀ set count i₀ out i =
 abbrev μ-loop : tie.MeasureT-loop
 μ-loop out₀ set count i₀ out i = count - i
 
-full : (s : tie.Start Inv-loop μ-loop) → length (s .args .t2 .tasks) ≡ 64
+full : (s : tie.Start Inv-loop μ-loop) → length (s .args .t2 .tasks) ≡ mostTasks
 full s = sym (length-map (s .args .t2 .tasks) _) ∙ s .good .1 .0 .1 .1 .1 .1 .0 .1 .0 .1
 
 -- the buffer has the room of all lines

@@ -39,7 +39,7 @@ size : (d : tie.After-text-length) → d .text-length .result ≡ length (textOf
 size d =
     let s = d .before .before .before .before in
     let set = s .args .set in
-    let full : length (set .tasks) ≡ 64 = sym (length-map (set .tasks) _) ∙ s .good .0 .1 .1 .1 .1 .0 .1 .0 .1 in
+    let full : length (set .tasks) ≡ mostTasks = sym (length-map (set .tasks) _) ∙ s .good .0 .1 .1 .1 .1 .0 .1 .0 .1 in
     let fits : set .count ≤ length (set .tasks) = omega (arith, full, within (d .before)) in
     lines-at (d .text-length .result) (set .count) (d .text-length .ensures) ∙ sym (text-bytes set fits)
 
