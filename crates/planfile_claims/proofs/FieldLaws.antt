@@ -16,8 +16,8 @@ use borrow.Author.Tests.{leb-false, le-ltb}
 use Rattle.laws.proofs.Tests.{or-left, or-right}
 use Rattle.tasks.specs.declared.set.Header.{Header}
 use Rattle.tasks.specs.declared.set.TaskSet.{TaskSet}
-use Rattle.tasks.specs.Rows.{headerOverflows}
-use Rattle.tasks.proofs.Carried.{ask-header}
+use Rattle.frames.specs.Table.{widthsOf}
+use Rattle.tasks.proofs.Carried.{ask-header, header-fits}
 use Rattle.servers.specs.Padded.{padded, upTo}
 use Rattle.servers.specs.Placement.{loadsIn}
 use Rattle.servers.proofs.LoadLaws.{in-few}
@@ -78,8 +78,8 @@ module _ (set : TaskSet) (plan : Plan) (full : length (set .tasks) ≡ 64) (m : 
   same = agree-same plan (planMade set) (set .count) (makes-agrees set plan m)
 
   slot-six : S < 16 ^ 6
-  unfolding S headerOverflows
-  slot-six = leb-false (16 ^ 6) (set .header .slot) (or-left _ _ (or-right (leb (16 ^ 2) (set .header .processors)) _ (ask-header set (of .clear .carried))))
+  unfolding S widthsOf
+  slot-six = header-fits (set .header) (ask-header set (of .clear .carried)) 1 (omega arith)
 
   some-slot : 1 ≤ S
   unfolding S

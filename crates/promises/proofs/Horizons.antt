@@ -18,7 +18,7 @@ use Rattle.plan.proofs.Made.{plan-outcome, plan-charged}
 use Rattle.digits.specs.Digit.{legal, valueOf, digitOf, allLegal}
 use Rattle.digits.specs.Number.{numberFrom, hex}
 use Rattle.frames.specs.Table.{kindOf, widthsOf, sum}
-use Rattle.frames.specs.Line.{line, after, closed, same, formed, fieldOf, fields, lineOf}
+use Rattle.frames.specs.Line.{line, after, closed, same, formed, fieldOf, fields, lineOf, lineOverflows, someTooLarge}
 use Rattle.tasks.specs.Set.{setOf}
 use Rattle.tasks.specs.Rows.{some, firstFrom, countRow, twiceRow, boardRow, rangeRow, figuresOutcome, headerOverflows, taskOverflows, askRow}
 use Rattle.taskread.specs.File.{past, tasksAmong, lineRow, orderRow, countLineRow, twiceLineRow, lineOutcome, headerAt, taskAt}
@@ -44,15 +44,15 @@ setOfFile : String → TaskSet
 setOfFile file = readOf (bytesOf file) .set
 
 K-read : readOf (bytesOf fileK) .outcome ≡ Done
-unfolding legal valueOf allLegal numberFrom kindOf widthsOf sum line after closed same formed fieldOf setOf some firstFrom countRow twiceRow boardRow rangeRow figuresOutcome headerOverflows taskOverflows askRow past tasksAmong lineRow orderRow countLineRow twiceLineRow lineOutcome till headerAt taskAt fileSet readOutcome readOf
+unfolding legal valueOf allLegal numberFrom kindOf widthsOf sum line after closed same formed fieldOf setOf some firstFrom countRow twiceRow boardRow rangeRow figuresOutcome headerOverflows taskOverflows lineOverflows someTooLarge askRow past tasksAmong lineRow orderRow countLineRow twiceLineRow lineOutcome till headerAt taskAt fileSet readOutcome readOf
 K-read = refl
 
 K-carried : askRow (setOfFile fileK) ≡ false
-unfolding setOfFile legal valueOf allLegal numberFrom kindOf widthsOf sum line after closed same formed fieldOf setOf some firstFrom countRow twiceRow boardRow rangeRow figuresOutcome headerOverflows taskOverflows askRow past tasksAmong lineRow orderRow countLineRow twiceLineRow lineOutcome till headerAt taskAt fileSet readOutcome readOf
+unfolding setOfFile legal valueOf allLegal numberFrom kindOf widthsOf sum line after closed same formed fieldOf setOf some firstFrom countRow twiceRow boardRow rangeRow figuresOutcome headerOverflows taskOverflows lineOverflows someTooLarge askRow past tasksAmong lineRow orderRow countLineRow twiceLineRow lineOutcome till headerAt taskAt fileSet readOutcome readOf
 K-carried = refl
 
 K-horizon : chargedOutcome (setOfFile fileK) ≡ Refused Horizon
-unfolding setOfFile legal valueOf allLegal numberFrom kindOf widthsOf sum line after closed same formed fieldOf setOf some firstFrom countRow twiceRow boardRow rangeRow figuresOutcome headerOverflows taskOverflows askRow past tasksAmong lineRow orderRow countLineRow twiceLineRow lineOutcome till headerAt taskAt fileSet readOutcome readOf measureIn commonMeasure leastMultiple leastMultipleOf effectiveDeadline effectiveCost loadOf slotRow tightRow horizonOf horizonRow chargedOutcome
+unfolding setOfFile legal valueOf allLegal numberFrom kindOf widthsOf sum line after closed same formed fieldOf setOf some firstFrom countRow twiceRow boardRow rangeRow figuresOutcome headerOverflows taskOverflows lineOverflows someTooLarge askRow past tasksAmong lineRow orderRow countLineRow twiceLineRow lineOutcome till headerAt taskAt fileSet readOutcome readOf measureIn commonMeasure leastMultiple leastMultipleOf effectiveDeadline effectiveCost loadOf slotRow tightRow horizonOf horizonRow chargedOutcome
 K-horizon = refl
 
 K-line : refusalText Horizon ≡ bytesOf "1F0900\n"
@@ -68,19 +68,19 @@ K-refused = rw (K-read, refused, K-line)
     refused = sym (ap (λ (a : PlanAnswer). a .outcome) (plan-charged (setOfFile fileK) K-carried K-horizon))
 
 J-read : readOf (bytesOf fileJ) .outcome ≡ Done
-unfolding legal valueOf allLegal numberFrom kindOf widthsOf sum line after closed same formed fieldOf setOf some firstFrom countRow twiceRow boardRow rangeRow figuresOutcome headerOverflows taskOverflows askRow past tasksAmong lineRow orderRow countLineRow twiceLineRow lineOutcome till headerAt taskAt fileSet readOutcome readOf
+unfolding legal valueOf allLegal numberFrom kindOf widthsOf sum line after closed same formed fieldOf setOf some firstFrom countRow twiceRow boardRow rangeRow figuresOutcome headerOverflows taskOverflows lineOverflows someTooLarge askRow past tasksAmong lineRow orderRow countLineRow twiceLineRow lineOutcome till headerAt taskAt fileSet readOutcome readOf
 J-read = refl
 
 J-carried : askRow (setOfFile fileJ) ≡ false
-unfolding setOfFile legal valueOf allLegal numberFrom kindOf widthsOf sum line after closed same formed fieldOf setOf some firstFrom countRow twiceRow boardRow rangeRow figuresOutcome headerOverflows taskOverflows askRow past tasksAmong lineRow orderRow countLineRow twiceLineRow lineOutcome till headerAt taskAt fileSet readOutcome readOf
+unfolding setOfFile legal valueOf allLegal numberFrom kindOf widthsOf sum line after closed same formed fieldOf setOf some firstFrom countRow twiceRow boardRow rangeRow figuresOutcome headerOverflows taskOverflows lineOverflows someTooLarge askRow past tasksAmong lineRow orderRow countLineRow twiceLineRow lineOutcome till headerAt taskAt fileSet readOutcome readOf
 J-carried = refl
 
 J-charged : chargedOutcome (setOfFile fileJ) ≡ Done
-unfolding setOfFile legal valueOf allLegal numberFrom kindOf widthsOf sum line after closed same formed fieldOf setOf some firstFrom countRow twiceRow boardRow rangeRow figuresOutcome headerOverflows taskOverflows askRow past tasksAmong lineRow orderRow countLineRow twiceLineRow lineOutcome till headerAt taskAt fileSet readOutcome readOf measureIn commonMeasure leastMultiple leastMultipleOf effectiveDeadline effectiveCost loadOf slotRow tightRow horizonOf horizonRow chargedOutcome
+unfolding setOfFile legal valueOf allLegal numberFrom kindOf widthsOf sum line after closed same formed fieldOf setOf some firstFrom countRow twiceRow boardRow rangeRow figuresOutcome headerOverflows taskOverflows lineOverflows someTooLarge askRow past tasksAmong lineRow orderRow countLineRow twiceLineRow lineOutcome till headerAt taskAt fileSet readOutcome readOf measureIn commonMeasure leastMultiple leastMultipleOf effectiveDeadline effectiveCost loadOf slotRow tightRow horizonOf horizonRow chargedOutcome
 J-charged = refl
 
 J-longest : horizonOf (setOfFile fileJ) ≡ 10000000
-unfolding setOfFile legal valueOf allLegal numberFrom kindOf widthsOf sum line after closed same formed fieldOf setOf some firstFrom countRow twiceRow boardRow rangeRow figuresOutcome headerOverflows taskOverflows askRow past tasksAmong lineRow orderRow countLineRow twiceLineRow lineOutcome till headerAt taskAt fileSet readOutcome readOf measureIn commonMeasure leastMultiple leastMultipleOf effectiveDeadline effectiveCost loadOf slotRow tightRow horizonOf horizonRow chargedOutcome
+unfolding setOfFile legal valueOf allLegal numberFrom kindOf widthsOf sum line after closed same formed fieldOf setOf some firstFrom countRow twiceRow boardRow rangeRow figuresOutcome headerOverflows taskOverflows lineOverflows someTooLarge askRow past tasksAmong lineRow orderRow countLineRow twiceLineRow lineOutcome till headerAt taskAt fileSet readOutcome readOf measureIn commonMeasure leastMultiple leastMultipleOf effectiveDeadline effectiveCost loadOf slotRow tightRow horizonOf horizonRow chargedOutcome
 J-longest = refl
 
 -- what is left of the planner's outcome is row 10, which is no refusal 9

@@ -21,6 +21,8 @@ use Rattle.ring_claims.specs.Serves.{RingServer, WholeProcessor}
 use Rattle.tasks.specs.declared.set.Task.{Task}
 use Rattle.tasks.specs.declared.set.TaskSet.{TaskSet}
 use Rattle.tasks.specs.Set.{setOf}
+use Rattle.frames.specs.Table.{widthsOf}
+use Rattle.frames.specs.Line.{lineOverflows, someTooLarge}
 use Rattle.tasks.specs.Rows.{some, firstFrom, countRow, twiceRow, boardRow, rangeRow, figuresOutcome, headerOverflows, taskOverflows, askRow}
 use Rattle.rows.specs.Charge.{loadOf, loadsOfSet, lossOf}
 use Rattle.rows.specs.Rows.{slotRow, tightRow, horizonOf, horizonRow, chargedOutcome}
@@ -44,7 +46,7 @@ pub record WorkedD : Type 0 where
 
 -- each by computing
 accepted-D : Accepted setD
-unfolding setOf planOf planOutcome askRow countRow twiceRow some firstFrom boardRow rangeRow figuresOutcome headerOverflows taskOverflows chargedOutcome slotRow tightRow horizonRow horizonOf loadOf loadsOfSet lossOf setReserves needed fullRow reservesOf upTo placementOf placeFrom fit takes serversIn loadsIn smallestReserve enough passing verdictOf verdictAt firstFailing firstUpTo failing ownHorizon leastMultipleOf leastMultiple commonMeasure measureIn demand jobs supply supplyPast effectiveDeadline effectiveCost entryLoss ceilingOf ringTicks wholes
+unfolding setOf planOf planOutcome askRow countRow twiceRow some firstFrom boardRow rangeRow figuresOutcome headerOverflows taskOverflows lineOverflows someTooLarge widthsOf chargedOutcome slotRow tightRow horizonRow horizonOf loadOf loadsOfSet lossOf setReserves needed fullRow reservesOf upTo placementOf placeFrom fit takes serversIn loadsIn smallestReserve enough passing verdictOf verdictAt firstFailing firstUpTo failing ownHorizon leastMultipleOf leastMultiple commonMeasure measureIn demand jobs supply supplyPast effectiveDeadline effectiveCost entryLoss ceilingOf ringTicks wholes
 accepted-D = refl
 
 reserves-D : setReserves setD ≡ 10 ∷ 1 ∷ []

@@ -33,7 +33,11 @@ use Rattle.tasks.specs.declared.set.Task.{Task}
 use Rattle.tasks.specs.declared.set.TaskSet.{TaskSet}
 use Rattle.tasks.specs.Set.{mostTasks, mostProcessors, longestPeriod, members, zeroTask, longestHorizon}
 use Rattle.refusals.specs.First.{firstOf, when}
-use Rattle.tasks.specs.Rows.{firstTask, atTask, some, boardRow, rangeRow, twiceRow, headerOverflows, overflows, taskOverflows, askRow, countRow, figuresOutcome}
+use Rattle.frames.specs.Table.{widthsOf, widthOf, fieldsIn}
+use Rattle.frames.specs.declared.table.Frame.{Frame}
+use Rattle.tasks.specs.Values.{headerValues}
+use Rattle.tasks.proofs.Carried.{ask-header, header-fits}
+use Rattle.tasks.specs.Rows.{firstTask, atTask, some, boardRow, rangeRow, askRow, figuresOutcome}
 use Rattle.tasks.proofs.FirstLaws.{first-none}
 use Rattle.tasks.proofs.SetLaws.{members-length}
 use Rattle.tasks.proofs.Firsts.{at-some}
@@ -219,50 +223,21 @@ module _ (set : TaskSet) where
 
   -- ---- row 11: the entry loss and the slot of a set that lines can carry
 
-  header-carried : askRow set ≡ false → headerOverflows (set .header) ≡ false
-  unfolding askRow
-  header-carried e =
-      or-left (headerOverflows (set .header)) (some taskOverflows (members set))
-      (or-right (twiceRow (members set)) (headerOverflows (set .header) || some taskOverflows (members set))
-      (or-right (countRow set) (twiceRow (members set) || (headerOverflows (set .header) || some taskOverflows (members set))) e))
-
-  abbrev from-cpmdo : Bool
-  from-cpmdo = overflows 4 (set .header .cpmdo)
-
-  abbrev from-resd : Bool
-  from-resd = overflows 4 (set .header .resd) || from-cpmdo
-
-  abbrev from-ctswo : Bool
-  from-ctswo = overflows 4 (set .header .ctswo) || from-resd
-
-  abbrev from-relo : Bool
-  from-relo = overflows 4 (set .header .relo) || from-ctswo
-
-  abbrev from-relj : Bool
-  from-relj = overflows 4 (set .header .relj) || from-relo
-
-  abbrev from-slot : Bool
-  from-slot = overflows 6 (set .header .slot) || from-relj
-
-  slot-on : askRow set ≡ false → from-slot ≡ false
-  unfolding headerOverflows
-  slot-on e = or-right (overflows 2 (set .header .processors)) from-slot (header-carried e)
+  figure-small : askRow set ≡ false → (k : ℕ) → k < fieldsIn Frame.Header → getD (headerValues (set .header)) k 0 < 16 ^ widthOf Frame.Header k
+  figure-small e = header-fits (set .header) (ask-header set e)
 
   -- the slot has six digits at most
   pub slot-small : askRow set ≡ false → set .header .slot < 2 ^ 32
-  slot-small e = omega (arith, leb-false (16 ^ 6) (set .header .slot) (or-left (overflows 6 (set .header .slot)) from-relj (slot-on e)))
-
-  resd-on : askRow set ≡ false → from-resd ≡ false
-  resd-on e =
-      or-right (overflows 4 (set .header .ctswo)) from-resd
-      (or-right (overflows 4 (set .header .relo)) from-ctswo
-      (or-right (overflows 4 (set .header .relj)) from-relo (or-right (overflows 6 (set .header .slot)) from-relj (slot-on e))))
+  unfolding widthsOf
+  slot-small e = let slot : set .header .slot < 16 ^ 6 = figure-small e 1 (omega arith) in omega arith
 
   -- the entry loss is at most twice four digits
   pub loss-small : askRow set ≡ false → lossOf (set .header) ≤ 131070
-  unfolding lossOf entryLoss
+  unfolding lossOf entryLoss widthsOf
   loss-small e =
-      omega (arith, leb-false (16 ^ 4) (set .header .resd) (or-left (overflows 4 (set .header .resd)) from-cpmdo (resd-on e)), leb-false (16 ^ 4) (set .header .cpmdo) (or-right (overflows 4 (set .header .resd)) from-cpmdo (resd-on e)))
+      let resd : set .header .resd < 16 ^ 4 = figure-small e 5 (omega arith) in
+      let cpmdo : set .header .cpmdo < 16 ^ 4 = figure-small e 6 (omega arith) in
+      omega arith
 
 -- ---- the struct of sound loads
 

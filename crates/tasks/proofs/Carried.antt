@@ -1,29 +1,31 @@
 -- What a set's types already hold to their fields' digits, and what row 3 says of the count.
 -- Assumes nothing.
-use Prim.Native.Nat.{_≤_, _<_}
+use Prim.Native.Nat.{ℕ, _≤_, _<_, _^_}
 use mathlib.Core.Path.{_≡_, refl}
 use mathlib.Core.Bool.{Bool, false, _||_, or-false}
 use native.Mathlib.Omega.{arith}
 use lib.Dec.{leb, ltb, eqb}
 use borrow.Author.Tests.{lt-leb, ltb-false, eqb-false}
 use Rattle.laws.proofs.Tests.{or-left, or-right}
+use lib.ListN.{getD}
+use Rattle.frames.specs.Table.{fieldsIn, widthOf}
+use Rattle.frames.specs.declared.table.Frame.{Frame}
+use Rattle.frames.proofs.TooLarge.{values-fit}
+use Rattle.tasks.specs.Values.{headerValues, taskValues}
 use Rattle.tasks.specs.declared.set.Header.{Header}
 use Rattle.tasks.specs.declared.set.Task.{Task}
 use Rattle.tasks.specs.declared.set.TaskSet.{TaskSet}
 use Rattle.tasks.specs.Set.{mostTasks, members}
 use Rattle.tasks.specs.Rows.{some, countRow, twiceRow, headerOverflows, taskOverflows, askRow}
 
--- of a header only the slot can be too large
-pub header-overflow : (h : Header) → h .processors < 256 → h .relj < 65536 → h .relo < 65536 → h .ctswo < 65536 → h .resd < 65536 → h .cpmdo < 65536 → headerOverflows h ≡ ltb 16777215 (h .slot)
+-- the figures of a header, and of a task, that are not too large fit their fields
+pub header-fits : (h : Header) → headerOverflows h ≡ false → (k : ℕ) → k < fieldsIn Frame.Header → getD (headerValues h) k 0 < 16 ^ widthOf Frame.Header k
 unfolding headerOverflows
-header-overflow h m a b d e f =
-    rw (lt-leb 256 (h .processors) m, lt-leb 65536 (h .relj) a, lt-leb 65536 (h .relo) b, lt-leb 65536 (h .ctswo) d, lt-leb 65536 (h .resd) e, lt-leb 65536 (h .cpmdo) f)
-    (or-false (leb 16777216 (h .slot)))
+header-fits h e = values-fit Frame.Header (headerValues h) e
 
--- of a task only the times can
-pub task-overflow : (t : Task) → t .id < 256 → taskOverflows t ≡ (ltb 16777215 (t .cost) || (ltb 16777215 (t .deadline) || ltb 16777215 (t .period)))
+pub task-fits : (t : Task) → taskOverflows t ≡ false → (k : ℕ) → k < fieldsIn Frame.Task → getD (taskValues t) k 0 < 16 ^ widthOf Frame.Task k
 unfolding taskOverflows
-task-overflow t h = rw (lt-leb 256 (t .id) h)
+task-fits t e = values-fit Frame.Task (taskValues t) e
 
 -- a set that row 3 lets pass has 1 to 64 tasks
 pub count-within : (set : TaskSet) → countRow set ≡ false → (1 ≤ set .count) × (set .count ≤ mostTasks)

@@ -1,6 +1,6 @@
 -- The refusal rows that speak of a set's figures, each by its own test.
 -- Document 01, "Refusal numbers and their order", rows 3 to 6 and 11.
-use Prim.Native.Nat.{ℕ, zero, suc, _^_}
+use Prim.Native.Nat.{ℕ, zero, suc}
 use mathlib.Core.List.{List, [], _∷_}
 use mathlib.Core.Bool.{Bool, true, false, not, cond, _&&_, _||_}
 use lib.ListN.{length}
@@ -9,10 +9,13 @@ use Rattle.refusals.specs.declared.Refusal.{Refusal}
 use Rattle.refusals.specs.declared.Refusal.the-variants.{Board, Range}
 use Rattle.refusals.specs.declared.Outcome.{Outcome}
 use Rattle.refusals.specs.declared.Outcome.the-variants.{Done, Refused}
+use Rattle.frames.specs.Line.{lineOverflows}
+use Rattle.frames.specs.declared.table.Frame.{Frame}
 use Rattle.tasks.specs.declared.set.Header.{Header}
 use Rattle.tasks.specs.declared.set.Task.{Task}
 use Rattle.tasks.specs.declared.set.TaskSet.{TaskSet}
 use Rattle.refusals.specs.First.{firstOf, when}
+use Rattle.tasks.specs.Values.{headerValues, taskValues}
 use Rattle.tasks.specs.Set.{mostTasks, mostProcessors, longestPeriod, members}
 
 -- whether a test holds of some of these, and the place from 1 of the first for which it does (0: none)
@@ -61,22 +64,12 @@ rangeRow t =
 unfoldable pub figuresOutcome : TaskSet → Outcome
 figuresOutcome set = firstOf (when (boardRow (set .header)) Board) (atTask Range (firstTask rangeRow (members set)))
 
--- a figure that is too large for its field of so many digits
-abbrev pub overflows : (width : ℕ) → ℕ → Bool
-overflows width figure = leb (16 ^ width) figure
-
+-- a figure of a header or of a task is too large for its field
 unfoldable pub headerOverflows : Header → Bool
-headerOverflows h =
-    overflows 2 (h .processors) ||
-    (overflows 6 (h .slot) ||
-    (overflows 4 (h .relj) ||
-    (overflows 4 (h .relo) ||
-    (overflows 4 (h .ctswo) || (overflows 4 (h .resd) || overflows 4 (h .cpmdo))))))
+headerOverflows h = lineOverflows Frame.Header (headerValues h)
 
 unfoldable pub taskOverflows : Task → Bool
-taskOverflows t =
-    overflows 2 (t .id) ||
-    (overflows 6 (t .cost) || (overflows 6 (t .deadline) || overflows 6 (t .period)))
+taskOverflows t = lineOverflows Frame.Task (taskValues t)
 
 -- 11 ASK of a set: it breaks row 3 or 4, or holds what no file's lines can carry
 unfoldable pub askRow : TaskSet → Bool

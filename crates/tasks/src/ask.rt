@@ -3,14 +3,15 @@
 use crate::set::Header;
 use crate::set::Task;
 use crate::set::TaskSet;
+use crate::values::header_values;
+use crate::values::task_values;
+use frames::table::Frame;
+use frames::table::overflows;
 ghost use mathlib.Core.Path.{_≡_};
 ghost use Prim.Native.Nat.{_+_, _<_, _≤_};
 ghost use lib.ListN.{drop, getD};
 ghost use Rattle.tasks.specs.Set.{members, mostTasks, zeroTask};
 ghost use Rattle.tasks.specs.Rows.{some, hasId, countRow, twiceRow, headerOverflows, taskOverflows, askRow};
-
-// The largest figure of a field of six digits.
-const SIX_DIGITS: u32 = 0xFF_FFFF;
 
 // 3 COUNT.
 pub fn breaks_count(set: TaskSet) -> bool
@@ -55,24 +56,20 @@ pub fn breaks_twice(set: TaskSet) -> bool
     false
 }
 
-// A figure of the header is too large for its field: only the slot's type holds more than its digits.
+// A figure of the header is too large for its field.
 fn header_overflows(header: Header) -> bool
     ensures { λ r. ⌜ r ≡ headerOverflows header ⌝ }
 {
-    SIX_DIGITS < header.slot
+    let values = header_values(header);
+    overflows(Frame::Header, &values)
 }
 
 // A figure of the task is too large for its field.
 fn task_overflows(task: Task) -> bool
     ensures { λ r. ⌜ r ≡ taskOverflows task ⌝ }
 {
-    if SIX_DIGITS < task.cost {
-        return true;
-    }
-    if SIX_DIGITS < task.deadline {
-        return true;
-    }
-    SIX_DIGITS < task.period
+    let values = task_values(task);
+    overflows(Frame::Task, &values)
 }
 
 fn tasks_overflow(set: TaskSet) -> bool

@@ -2,3 +2,4 @@
 pub mod ask;
 pub mod rows;
 pub mod set;
+pub mod values;

@@ -12,7 +12,7 @@ use lib.ListN.{length, take, drop, getD, replicate, length-append, length-replic
 use lib.Seq.{take-suc, take-length, drop-length, drop-cons, drop-drop}
 use borrow.Author.Tests.{leb-false, ne-eqb, eqb-true, not-false}
 use Rattle.laws.proofs.Tests.{or-left, or-right}
-use Rattle.frames.specs.Table.{widthsOf}
+use Rattle.frames.specs.Table.{widthsOf, fieldsIn}
 use Rattle.frames.specs.Line.{after, formed, fieldOf, lineOf}
 use Rattle.frames.specs.declared.table.Frame.{Frame}
 use Rattle.refusals.specs.declared.Refusal.the-variants.{Count, Twice, Range}
@@ -31,7 +31,7 @@ use Rattle.taskread.specs.Read.{fileSet, answer}
 use Rattle.tasks.specs.Values.{headerValues, taskValues}
 use Rattle.taskwrite.specs.Write.{taskLines, textOf, writerAsks}
 use Rattle.tasks_claims.specs.Claims.{Shaped, Whole, ReadWritten, ReadWrittenSame}
-use Rattle.tasks.proofs.Carried.{count-within, ask-count, ask-twice, ask-header, ask-tasks}
+use Rattle.tasks.proofs.Carried.{count-within, ask-count, ask-twice, ask-header, ask-tasks, header-fits, task-fits}
 use Rattle.tasks.proofs.SetLaws.{members-length, members-set}
 use Rattle.tasks.proofs.Firsts.{at-none, figures-tasks}
 use Rattle.tasks.proofs.Some.{some-at, twice-before}
@@ -42,49 +42,36 @@ use Rattle.tasks_claims.proofs.ShapedLaws.{shaped-less, shaped-count, a
 use Rattle.taskwrite.proofs.WriteAsks.{first-some, writer-ask, writer-board, writer-range}
 use Rattle.taskwrite.proofs.WriteText.{lines-nil, lines-cons, text-size}
 
--- a figure that is not too large, and the tests behind it
-fits-first : (limit figure : ℕ) (rest : Bool) → (leb limit figure || rest) ≡ false → (figure < limit) × (rest ≡ false)
-fits-first limit figure rest e = (leb-false limit figure (or-left (leb limit figure) rest e), or-right (leb limit figure) rest e)
-
 -- a header's line gives its figures back
 header-back : (h : Header) (rest : List ℕ) → headerOverflows h ≡ false → headerAt (lineOf Frame.Header (headerValues h) ++ rest) ≡ h
-unfolding headerAt headerOverflows widthsOf
+unfolding headerAt widthsOf
 header-back h rest o =
-    let a = fits-first (16 ^ 2) (h .processors) _ o in
-    let b = fits-first (16 ^ 6) (h .slot) _ (a .1) in
-    let c = fits-first (16 ^ 4) (h .relj) _ (b .1) in
-    let d = fits-first (16 ^ 4) (h .relo) _ (c .1) in
-    let e = fits-first (16 ^ 4) (h .ctswo) _ (d .1) in
-    let f = fits-first (16 ^ 4) (h .resd) _ (e .1) in
     λ i. record {
-      processors = back 0 (a .0) i;
-      slot = back 1 (b .0) i;
-      relj = back 2 (c .0) i;
-      relo = back 3 (d .0) i;
-      ctswo = back 4 (e .0) i;
-      resd = back 5 (f .0) i;
-      cpmdo = back 6 (leb-false (16 ^ 4) (h .cpmdo) (f .1)) i;
+      processors = back 0 (omega arith) i;
+      slot = back 1 (omega arith) i;
+      relj = back 2 (omega arith) i;
+      relo = back 3 (omega arith) i;
+      ctswo = back 4 (omega arith) i;
+      resd = back 5 (omega arith) i;
+      cpmdo = back 6 (omega arith) i;
     }
   where
-    back : (k : ℕ) → getD (headerValues h) k 0 < 16 ^ getD (widthsOf Frame.Header) k 0 → fieldOf Frame.Header k (lineOf Frame.Header (headerValues h) ++ rest) ≡ getD (headerValues h) k 0
-    back k b = field-line Frame.Header (headerValues h) rest k b
+    back : (k : ℕ) → k < fieldsIn Frame.Header → fieldOf Frame.Header k (lineOf Frame.Header (headerValues h) ++ rest) ≡ getD (headerValues h) k 0
+    back k lt = field-line Frame.Header (headerValues h) rest k (header-fits h o k lt)
 
 -- and a task's
 task-back : (t : Task) (rest : List ℕ) → taskOverflows t ≡ false → taskAt (lineOf Frame.Task (taskValues t) ++ rest) ≡ t
-unfolding taskAt taskOverflows widthsOf
+unfolding taskAt widthsOf
 task-back t rest o =
-    let a = fits-first (16 ^ 2) (t .id) _ o in
-    let b = fits-first (16 ^ 6) (t .cost) _ (a .1) in
-    let c = fits-first (16 ^ 6) (t .deadline) _ (b .1) in
     λ i. record {
-      id = back 0 (a .0) i;
-      cost = back 1 (b .0) i;
-      deadline = back 2 (c .0) i;
-      period = back 3 (leb-false (16 ^ 6) (t .period) (c .1)) i;
+      id = back 0 (omega arith) i;
+      cost = back 1 (omega arith) i;
+      deadline = back 2 (omega arith) i;
+      period = back 3 (omega arith) i;
     }
   where
-    back : (k : ℕ) → getD (taskValues t) k 0 < 16 ^ getD (widthsOf Frame.Task) k 0 → fieldOf Frame.Task k (lineOf Frame.Task (taskValues t) ++ rest) ≡ getD (taskValues t) k 0
-    back k b = field-line Frame.Task (taskValues t) rest k b
+    back : (k : ℕ) → k < fieldsIn Frame.Task → fieldOf Frame.Task k (lineOf Frame.Task (taskValues t) ++ rest) ≡ getD (taskValues t) k 0
+    back k lt = field-line Frame.Task (taskValues t) rest k (task-fits t o k lt)
 
 -- past k tasks stand the lines of those left
 after-lines : (ts : List Task) → after (taskLines ts) ≡ taskLines (drop 1 ts)

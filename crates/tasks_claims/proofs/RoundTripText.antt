@@ -10,7 +10,7 @@ use lib.ListN.{length}
 use borrow.Author.Tests.{lt-leb, le-ltb, ne-eqb}
 use Rattle.laws.proofs.Tests.{or-neither}
 use Rattle.frames.specs.Table.{widthsOf}
-use Rattle.frames.specs.Line.{after, formed, fieldOf, lineOf}
+use Rattle.frames.specs.Line.{after, formed, fieldOf, lineOf, lineOverflows, someTooLarge}
 use Rattle.frames.specs.declared.table.Frame.{Frame}
 use Rattle.refusals.specs.declared.Refusal.{Refusal}
 use Rattle.refusals.specs.declared.Refusal.the-variants.{Count, Twice}
@@ -79,16 +79,16 @@ text-again text n s end =
 
 -- figures that were read fit their fields
 header-fits : (text : List ℕ) → formed Frame.Header text ≡ true → headerOverflows (headerAt text) ≡ false
-unfolding headerOverflows headerAt widthsOf
+unfolding headerOverflows lineOverflows someTooLarge headerAt widthsOf
 header-fits text f =
-    or-neither (fits 0) (or-neither (fits 1) (or-neither (fits 2) (or-neither (fits 3) (or-neither (fits 4) (or-neither (fits 5) (fits 6))))))
+    or-neither (fits 0) (or-neither (fits 1) (or-neither (fits 2) (or-neither (fits 3) (or-neither (fits 4) (or-neither (fits 5) (or-neither (fits 6) refl))))))
   where
     fits : (k : ℕ) → leb (16 ^ lib.ListN.getD (widthsOf Frame.Header) k 0) (fieldOf Frame.Header k text) ≡ false
     fits k = lt-leb _ _ (field-below Frame.Header text f k)
 
 task-fits : (rest : List ℕ) → formed Frame.Task rest ≡ true → taskOverflows (taskAt rest) ≡ false
-unfolding taskOverflows taskAt widthsOf
-task-fits rest f = or-neither (fits 0) (or-neither (fits 1) (or-neither (fits 2) (fits 3)))
+unfolding taskOverflows lineOverflows someTooLarge taskAt widthsOf
+task-fits rest f = or-neither (fits 0) (or-neither (fits 1) (or-neither (fits 2) (or-neither (fits 3) refl)))
   where
     fits : (k : ℕ) → leb (16 ^ lib.ListN.getD (widthsOf Frame.Task) k 0) (fieldOf Frame.Task k rest) ≡ false
     fits k = lt-leb _ _ (field-below Frame.Task rest f k)

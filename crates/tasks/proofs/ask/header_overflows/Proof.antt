@@ -1,16 +1,33 @@
--- Only the slot can be too large for its field: the other figures' types hold no more than their digits.
+-- `ask::header_overflows` meets its contract: the line's values are tested.
 -- Assumes nothing.
-use mathlib.Core.Path.{sym}
-use Rattle.tasks.proofs.Carried.{header-overflow}
+use Prim.Native.Nat.{ℕ, _≤_}
+use native.Mathlib.Omega.{arith}
+use mathlib.Core.List.{List}
+use mathlib.Core.Path.{_≡_, sym, _∙_, ap}
+use lib.ListN.{length}
+use borrow.Author.Needs.{needs}
+use Rattle.frames.specs.Line.{lineOverflows}
+use Rattle.frames.specs.Table.{widthsOf, fieldsIn}
+use Rattle.frames.specs.declared.table.Frame.{Frame}
+use Rattle.tasks.specs.Rows.{headerOverflows}
 use Rattle.tasks.proofs.ask.header_overflows.Statement.{statement}
 use Rattle.tasks.proofs.ask.header_overflows.Tie as tie
 
+header-values-requires : tie.Need-header-values-requires
+header-values-requires c κs = search needs
+
+slice-aggregate-overflows : tie.Need-slice-aggregate-overflows
+slice-aggregate-overflows c = search needs
+
+overflows-requires : tie.Need-overflows-requires
+unfolding widthsOf
+overflows-requires c κs = omega (arith, ap length (c .before .header-values .ensures))
+
 returns : tie.Need-returns
-returns c =
-    let g = c .struct-known .given in
-    sym
-    (header-overflow (c .before .args .header) (g .0 .fits) (g .1 .1 .0 .fits) (g .1 .1 .1 .0 .fits) (g .1 .1 .1 .1 .0 .fits)
-    (g .1 .1 .1 .1 .1 .0 .fits) (g .1 .1 .1 .1 .1 .1 .0 .fits))
+unfolding headerOverflows
+returns c = c .overflows .ensures ∙ ap (lineOverflows Frame.Header) (c .before .before .header-values .ensures)
 
 pub header-overflows-spec : {M : Type 1} → statement M
-header-overflows-spec = tie.close (tie.spec returns)
+header-overflows-spec =
+    tie.close
+    (tie.spec header-values-requires slice-aggregate-overflows overflows-requires returns)

@@ -1,27 +1,33 @@
--- Only a task's times can be too large for their fields: an id's type holds no more than its digits.
+-- `ask::task_overflows` meets its contract: the line's values are tested.
 -- Assumes nothing.
-use mathlib.Core.Path.{sym}
-use borrow.Author.Tests.{lt-ltb, le-ltb}
-use Rattle.tasks.proofs.Carried.{task-overflow}
+use Prim.Native.Nat.{ℕ, _≤_}
+use native.Mathlib.Omega.{arith}
+use mathlib.Core.List.{List}
+use mathlib.Core.Path.{_≡_, sym, _∙_, ap}
+use lib.ListN.{length}
+use borrow.Author.Needs.{needs}
+use Rattle.frames.specs.Line.{lineOverflows}
+use Rattle.frames.specs.Table.{widthsOf, fieldsIn}
+use Rattle.frames.specs.declared.table.Frame.{Frame}
+use Rattle.tasks.specs.Rows.{taskOverflows}
 use Rattle.tasks.proofs.ask.task_overflows.Statement.{statement}
 use Rattle.tasks.proofs.ask.task_overflows.Tie as tie
 
+task-values-requires : tie.Need-task-values-requires
+task-values-requires c κs = search needs
+
+slice-aggregate-overflows : tie.Need-slice-aggregate-overflows
+slice-aggregate-overflows c = search needs
+
+overflows-requires : tie.Need-overflows-requires
+unfolding widthsOf
+overflows-requires c κs = omega (arith, ap length (c .before .task-values .ensures))
+
 returns : tie.Need-returns
-returns c =
-    let t = c .before .before .args .task in
-    sym (rw (task-overflow t (c .before .struct-known .given .0 .fits), lt-ltb 16777215 (t .cost) (c .if1 .taken)))
-
-returns-2 : tie.Need-returns-2
-returns-2 c =
-    let t = c .before .before .before .before .args .task in
-    sym
-    (rw (task-overflow t (c .before .before .before .struct-known .given .0 .fits), le-ltb 16777215 (t .cost) (c .before .before .if1 .left), lt-ltb 16777215 (t .deadline) (c .if2 .taken)))
-
-returns-3 : tie.Need-returns-3
-returns-3 c =
-    let t = c .before .before .before .before .before .args .task in
-    sym
-    (rw (task-overflow t (c .struct-known3 .given .0 .fits), le-ltb 16777215 (t .cost) (c .before .before .before .if1 .left), le-ltb 16777215 (t .deadline) (c .before .if2 .left)))
+unfolding taskOverflows
+returns c = c .overflows .ensures ∙ ap (lineOverflows Frame.Task) (c .before .before .task-values .ensures)
 
 pub task-overflows-spec : {M : Type 1} → statement M
-task-overflows-spec = tie.close (tie.spec returns returns-2 returns-3)
+task-overflows-spec =
+    tie.close
+    (tie.spec task-values-requires slice-aggregate-overflows overflows-requires returns)
