@@ -32,11 +32,11 @@ use Rattle.questions.specs.declared.question.PassAnswer.{PassAnswer}
 use Rattle.rows.specs.Charge.{loadsOfSet, lossOf}
 use Rattle.plan.specs.Plan.{laidOut, setPlacement, setReserves, planMade}
 use Rattle.plan.specs.Planner.{needed, fullRow}
-use Rattle.questions.specs.Agrees.{makes}
+use Rattle.plancheck.specs.Agrees.{makes}
 use Rattle.questions.specs.Question.{allowed, isProcessor, isServer, whoAnswer, whoRuns, doesPass}
 use Rattle.plan_claims.specs.Claims.{at, PlacedOnce, Reserved, OnBoard, CheckedPlan, WhoTells, PassTells}
 use Rattle.plan.proofs.Made.{sound, slot-some, outcome-clear}
-use Rattle.questions.proofs.Checked.{OfSet, of-set, same-made, makes-done, placement-count}
+use Rattle.plancheck.proofs.Checked.{OfSet, of-set, same-made, makes-done, placement-count}
 
 module _ (set : TaskSet) (plan : Plan) (full : length (set .tasks) ≡ mostTasks) (e : makes set plan ≡ true) where
   known : OfSet set plan

@@ -15,10 +15,10 @@ use Rattle.plan.specs.declared.plan.Plan.{Plan}
 use Rattle.plan.specs.Plan.{planMade, zeroPlan}
 use Rattle.plan.specs.Planner.{planOutcome, answer, planOf}
 use Rattle.plan.proofs.Made.{plan-outcome, plan-is}
-use Rattle.questions.specs.Agrees.{makes}
+use Rattle.plancheck.specs.Agrees.{makes}
 use Rattle.questions.specs.Question.{allowed, isProcessor, isServer, whoRuns, doesPass}
-use Rattle.questions.proofs.AgreeLaws.{agree-same, agree-self}
-use Rattle.questions.proofs.Checked.{makes-done, makes-agrees}
+use Rattle.plancheck.proofs.AgreeLaws.{agree-same, agree-self}
+use Rattle.plancheck.proofs.Checked.{makes-done, makes-agrees}
 use Rattle.plan_claims.specs.Claims.{PlannerRow, turn, refusalOf, NotHeld, FirstHolds, PlanExactly, PlanDone, PlanOnly, PlanGiven, PlanDetermined, RoomIgnored, MakesOwn, PlanChecked, WhoAnswers, PassAnswers, AsksElse}
 use Rattle.plan_claims.proofs.ExactLaws.{outcomeOf, rowAt, rowOf, outs, holds-by, by-holds, not-by, by-not, refusal-named, row-back, at-turn, turn-below, turn-at, outcome-is}
 use Rattle.plan_claims.proofs.RoomLaws.{set-room, plan-room}

@@ -9,10 +9,10 @@ use Rattle.rows.specs.Charge.{loadsOfSet}
 use Rattle.rows.specs.Rows.{horizonOf, horizonRow, chargedOutcome}
 use Rattle.plan.specs.Plan.{setPlacement, setReserves, planMade}
 use Rattle.plan.specs.Planner.{needed, fullRow, planOutcome, planOf}
-use Rattle.questions.specs.Agrees.{isDone, makes, SamePlan}
+use Rattle.plancheck.specs.Agrees.{isDone, makes, SamePlan}
 use Rattle.questions.specs.Question.{isProcessor, isServer, whoRuns, doesPass}
 use Rattle.plan_claims.specs.Claims.{SameSet, SetRoomIgnored, PlanRoomIgnored}
-use Rattle.questions.proofs.AgreeLaws.{agree-alike}
+use Rattle.plancheck.proofs.AgreeLaws.{agree-alike}
 
 -- ---- two sets that differ in unused room alone
 

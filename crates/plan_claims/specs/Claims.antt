@@ -30,7 +30,7 @@ use Rattle.rows.specs.Charge.{loadsOfSet, lossOf}
 use Rattle.rows.specs.Rows.{slotRow, tightRow, horizonRow}
 use Rattle.plan.specs.Plan.{planMade, zeroPlan}
 use Rattle.plan.specs.Planner.{needed, fullRow, planOf}
-use Rattle.questions.specs.Agrees.{SamePlan, makes}
+use Rattle.plancheck.specs.Agrees.{SamePlan, makes}
 use Rattle.questions.specs.Question.{allowed, isProcessor, isServer, whoRuns, doesPass}
 
 -- ---- each refusal exactly when its row says

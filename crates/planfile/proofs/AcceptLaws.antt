@@ -24,10 +24,10 @@ use Rattle.plan.specs.declared.planner.PlanAnswer.{PlanAnswer}
 use Rattle.rows.specs.Charge.{loadOf, loadsOfSet, lossOf}
 use Rattle.rows.specs.Rows.{RowsClear}
 use Rattle.plan.specs.Plan.{planMade, laidOut, setReserves}
-use Rattle.questions.specs.Agrees.{makes}
+use Rattle.plancheck.specs.Agrees.{makes}
 use Rattle.plan.specs.Planner.{Clear, planOutcome, planOf, needed, fullRow}
-use Rattle.questions.proofs.AgreeLaws.{agree-same, agree-self}
-use Rattle.questions.proofs.Checked.{makes-done, makes-agrees}
+use Rattle.plancheck.proofs.AgreeLaws.{agree-same, agree-self}
+use Rattle.plancheck.proofs.Checked.{makes-done, makes-agrees}
 use Rattle.rows.proofs.Clears.{charged-clear}
 use Rattle.plan.proofs.Made.{plan-outcome, plan-is, outcome-clear, made-needs}
 use Rattle.plantext.specs.Fit.{Counted}

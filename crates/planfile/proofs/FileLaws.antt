@@ -13,7 +13,7 @@ use Rattle.taskread.specs.declared.read.ReadAnswer.{ReadAnswer}
 use Rattle.taskread.specs.Read.{readOf}
 use Rattle.plan.specs.declared.planner.PlanAnswer.{PlanAnswer}
 use Rattle.plan.specs.Planner.{planOf}
-use Rattle.questions.specs.Agrees.{makes}
+use Rattle.plancheck.specs.Agrees.{makes}
 use Rattle.planfile.specs.declared.file.FileAnswer.{FileAnswer}
 use Rattle.planfile.specs.File.{unless, refusedFile, plannedSet, filedOf}
 use Rattle.planfile.proofs.AcceptLaws.{answer-makes}

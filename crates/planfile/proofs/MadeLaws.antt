@@ -19,7 +19,7 @@ use Rattle.questions.specs.declared.question.WhoAnswer.{WhoAnswer}
 use Rattle.questions.specs.declared.question.PassAnswer.{PassAnswer}
 use Rattle.rows.specs.Charge.{loadsOfSet, lossOf}
 use Rattle.plan.specs.Plan.{setPlacement, setReserves}
-use Rattle.questions.specs.Agrees.{makes}
+use Rattle.plancheck.specs.Agrees.{makes}
 use Rattle.questions.specs.Question.{whoRuns, doesPass, isProcessor, isServer, allowed}
 use Rattle.planfile.specs.OfFile.{refusedWho, refusedPass}
 

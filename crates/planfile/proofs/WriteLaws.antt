@@ -10,7 +10,7 @@ use Rattle.refusals.specs.declared.Written.the-variants.{Refused}
 use Rattle.refusals.specs.Leaves.{leaves}
 use Rattle.tasks.specs.declared.set.TaskSet.{TaskSet}
 use Rattle.plan.specs.declared.plan.Plan.{Plan}
-use Rattle.questions.specs.Agrees.{makes}
+use Rattle.plancheck.specs.Agrees.{makes}
 use Rattle.plantext.specs.Text.{planText}
 use Rattle.plantext.specs.Fit.{Fits}
 use Rattle.planfile.specs.Write.{writePlan}

@@ -18,7 +18,7 @@ use verdict::answer::Reading;
 use verdict::answer::Verdict;
 ghost use mathlib.Core.Path.{_≡_};
 ghost use mathlib.Core.Bool.{true};
-ghost use Rattle.questions.specs.Agrees.{makes};
+ghost use Rattle.plancheck.specs.Agrees.{makes};
 ghost use Rattle.questions.specs.Question.{whoRuns, doesPass};
 ghost use Rattle.planfile.specs.OfFile.{refusedWho, refusedPass, whoIn, passIn};
 

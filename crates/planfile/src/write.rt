@@ -1,8 +1,8 @@
 // Writing a plan that is handed in with its set: row 11 unless the planner makes it, then row 12, else the exact text.
 // What is answered stands in specs/Write.antt.
 use plan::plan::Plan;
+use plancheck::makes_plan;
 use plantext::fit::fit_plan;
-use questions::check::makes_plan;
 use refusals::Refusal;
 use refusals::Written;
 use tasks::set::TaskSet;

@@ -23,7 +23,7 @@ use Rattle.taskread.specs.declared.read.ReadAnswer.{ReadAnswer}
 use Rattle.refusals.specs.Leaves.{leaves}
 use Rattle.tasks_claims.proofs.Prefix.{read-looks-at, furthest-bytes}
 use Rattle.plan.specs.declared.plan.Plan.{Plan}
-use Rattle.questions.specs.Agrees.{makes}
+use Rattle.plancheck.specs.Agrees.{makes}
 use Rattle.plantext.specs.Text.{planText}
 use Rattle.plantext.specs.Fit.{fitted, Fits, Counted}
 use Rattle.planfile.specs.File.{unless, refusedFile, plannedSet, filedOf}

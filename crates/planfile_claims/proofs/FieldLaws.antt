@@ -32,9 +32,9 @@ use Rattle.plan.specs.declared.plan.Plan.{Plan}
 use Rattle.rows.specs.Charge.{loadsOfSet}
 use Rattle.plan.specs.Plan.{planMade, laidOut, setPlacement, setReserves, ringStart}
 use Rattle.plan.specs.Planner.{Clear}
-use Rattle.questions.specs.Agrees.{makes, SamePlan}
-use Rattle.questions.proofs.AgreeLaws.{agree-same}
-use Rattle.questions.proofs.Checked.{OfSet, of-set, makes-agrees}
+use Rattle.plancheck.specs.Agrees.{makes, SamePlan}
+use Rattle.plancheck.proofs.AgreeLaws.{agree-same}
+use Rattle.plancheck.proofs.Checked.{OfSet, of-set, makes-agrees}
 use Rattle.plan.proofs.Made.{set-count, slot-some, few-loads}
 use Rattle.plan_claims.proofs.Claims.{plan-checked}
 use Rattle.servers.proofs.PaddedLaws.{up-length, up-at}

@@ -15,7 +15,7 @@ use Rattle.refusals.specs.Leaves.{leaves}
 use Rattle.plan.specs.declared.plan.Plan.{Plan}
 use Rattle.questions.specs.declared.question.WhoAnswer.{WhoAnswer}
 use Rattle.questions.specs.declared.question.PassAnswer.{PassAnswer}
-use Rattle.questions.specs.Agrees.{makes}
+use Rattle.plancheck.specs.Agrees.{makes}
 use Rattle.plantext.specs.Text.{planText}
 use Rattle.plantext.specs.Fit.{fitted, Fits}
 use Rattle.planfile.specs.Write.{writePlan}

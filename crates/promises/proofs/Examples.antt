@@ -39,7 +39,7 @@ use Rattle.rows.specs.Charge.{loadOf, loadsOfSet, lossOf}
 use Rattle.rows.specs.Rows.{slotRow, tightRow, horizonOf, horizonRow, chargedOutcome}
 use Rattle.servers.specs.Padded.{upTo}
 use Rattle.plan.specs.Plan.{laidOut, setPlacement, setReserves, planMade}
-use Rattle.questions.specs.Agrees.{sameFigures, sameServers, sameProcessors, agrees, makes}
+use Rattle.plancheck.specs.Agrees.{sameFigures, sameServers, sameProcessors, agrees, makes}
 use Rattle.plan.specs.Planner.{needed, fullRow, planOutcome, planOf}
 use Rattle.questions.specs.Question.{allowed, isProcessor, isServer, whoRuns, doesPass}
 use Rattle.plantext.specs.Text.{lines, planLine, serverLine, placedLine, processorLine, planText, refusalText}

@@ -17,9 +17,9 @@ use Rattle.ring_claims.specs.Serves.{RingServer}
 use Rattle.tasks.specs.declared.set.TaskSet.{TaskSet}
 use Rattle.plan.specs.declared.plan.Plan.{Plan}
 use Rattle.plan.specs.Plan.{ringStart, laidOut, setReserves, planMade}
-use Rattle.questions.specs.Agrees.{makes, SamePlan}
+use Rattle.plancheck.specs.Agrees.{makes, SamePlan}
 use Rattle.plan.proofs.Made.{plan-outcome}
-use Rattle.questions.proofs.Checked.{OfSet, of-set, same-made, makes-done}
+use Rattle.plancheck.proofs.Checked.{OfSet, of-set, same-made, makes-done}
 use Rattle.promises.specs.Accepted.{PrintsRota, slotOf}
 use Rattle.promises.specs.Promises.{PlanIsRota}
 

@@ -14,7 +14,7 @@ use Rattle.ring_claims.specs.Serves.{Serves, Usable, RingServer, WholeProcessor
 use Rattle.ring_claims.specs.Held.{held}
 use Rattle.plan.specs.declared.plan.Plan.{Plan}
 use Rattle.plan.specs.Plan.{setReserves}
-use Rattle.questions.specs.Agrees.{makes}
+use Rattle.plancheck.specs.Agrees.{makes}
 use Rattle.promises.specs.Accepted.{Accepted, IsServer, PrintsRota, slotOf, entryLossOf, serverLoads}
 use Rattle.promises.specs.Counted.{Counted, UsableWith, UsableOnce}
 

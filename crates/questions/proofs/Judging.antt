@@ -25,11 +25,11 @@ use Rattle.rows.specs.Charge.{loadsOfSet, lossOf}
 use Rattle.rows.specs.Rows.{horizonOf}
 use Rattle.plan.specs.Plan.{setPlacement}
 use Rattle.plan.specs.Planner.{Clear}
-use Rattle.questions.specs.Agrees.{makes}
+use Rattle.plancheck.specs.Agrees.{makes}
 use Rattle.questions.specs.Question.{allowed}
 use Rattle.rows.proofs.Clears.{loads-length, members-count, members-loads}
 use Rattle.plan.proofs.Made.{fits, few-loads, sound, set-sized}
-use Rattle.questions.proofs.Checked.{of-set}
+use Rattle.plancheck.proofs.Checked.{of-set}
 
 -- the test of a reserve says that it is allowed
 module _ (S L R : ℕ) where

@@ -1,5 +1,3 @@
-pub mod Fronts
-pub mod AgreeLaws
-pub mod Checked
+pub mod StandingLaws
 pub mod Judging
 pub mod MadeLaws

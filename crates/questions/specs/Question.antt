@@ -22,7 +22,7 @@ use Rattle.questions.specs.declared.question.WhoAnswer.{WhoAnswer}
 use Rattle.questions.specs.declared.question.PassAnswer.{PassAnswer}
 use Rattle.rows.specs.Charge.{loadsOfSet, lossOf}
 use Rattle.plan.specs.Plan.{setPlacement, setReserves}
-use Rattle.questions.specs.Agrees.{makes}
+use Rattle.plancheck.specs.Agrees.{makes}
 
 -- L + 1 ≤ R ≤ S − 1, or R = S
 unfoldable pub allowed : (S L R : ℕ) → Bool

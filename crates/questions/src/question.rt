@@ -1,7 +1,7 @@
 // The two questions about a set and its plan: who runs on a processor at a tick, and does a server pass with a reserve.
 // What they mean stands in specs/Question.antt. Before each stands the function for a plan that is checked already.
-use crate::check::makes_plan;
 use plan::plan::Plan;
+use plancheck::makes_plan;
 use refusals::Outcome;
 use refusals::Refusal;
 use ring::clock::Tick;
@@ -22,7 +22,7 @@ ghost use Rattle.servers.specs.Placement.{loadsIn};
 ghost use Rattle.verdict.specs.Verdict.{verdictOf};
 ghost use Rattle.rows.specs.Charge.{loadsOfSet, lossOf};
 ghost use Rattle.plan.specs.Plan.{setPlacement, setReserves};
-ghost use Rattle.questions.specs.Agrees.{makes};
+ghost use Rattle.plancheck.specs.Agrees.{makes};
 ghost use Prim.Native.Nat.{_+_, _≤_};
 ghost use Rattle.questions.specs.Question.{isProcessor, isServer, allowed, refusedWho, refusedPass, whoRuns, doesPass, Standing};
 

@@ -2,7 +2,7 @@
 -- Assumes nothing.
 use mathlib.Core.Path.{_≡_, sym, _∙_}
 use lib.ListN.{length, length-map}
-use Rattle.questions.proofs.Checked.{standing, who-same}
+use Rattle.questions.proofs.StandingLaws.{standing, who-same}
 use Rattle.planfile.proofs.AcceptLaws.{makes-counted}
 use Rattle.planfile.proofs.MadeLaws.{who-absent, who-there}
 use borrow.Author.Tests.{not-true, not-false}

@@ -17,7 +17,7 @@ use Rattle.plan.specs.Planner.{Clear}
 use Rattle.rows.specs.Charge.{loadsOfSet, lossOf}
 use Rattle.rows.proofs.Clears.{members-loaded, members-count}
 use Rattle.plan.proofs.Made.{rows-clear, may-charge, few-loads, sound}
-use Rattle.questions.proofs.Checked.{of-set}
+use Rattle.plancheck.proofs.Checked.{of-set}
 use Rattle.questions.proofs.Judging.{allowed-is, own-sized, own-loads}
 use Rattle.questions.proofs.question.pass_judged.Statement.{statement}
 use Rattle.questions.proofs.question.pass_judged.Tie as tie

@@ -2,7 +2,8 @@
 -- Assumes nothing.
 use mathlib.Core.Path.{_≡_, sym, _∙_}
 use lib.ListN.{length, length-map}
-use Rattle.questions.proofs.Checked.{of-set, standing, who-same}
+use Rattle.plancheck.proofs.Checked.{of-set}
+use Rattle.questions.proofs.StandingLaws.{standing, who-same}
 use native.Mathlib.Omega.{arith}
 use Rattle.tasks.specs.Set.{mostTasks}
 use Rattle.plan.proofs.Made.{needed-few}

@@ -3,9 +3,9 @@
 use borrow.Author.Needs.{needs}
 use borrow.Author.Tests.{not-true, not-false}
 use mathlib.Core.Path.{sym, _∙_}
-use Rattle.questions.specs.Agrees.{agrees}
-use Rattle.questions.proofs.check.agree.Statement.{statement}
-use Rattle.questions.proofs.check.agree.Tie as tie
+use Rattle.plancheck.specs.Agrees.{agrees}
+use Rattle.plancheck.proofs.agree.Statement.{statement}
+use Rattle.plancheck.proofs.agree.Tie as tie
 
 same-figures-requires : tie.Need-same-figures-requires
 same-figures-requires c κs = search needs

@@ -6,10 +6,10 @@ use mathlib.Core.Path.{_≡_, refl, sym}
 use native.Mathlib.Omega.{arith}
 use lib.ListN.{take, drop}
 use Rattle.frames.specs.Line.{same}
-use Rattle.questions.specs.Agrees.{sameFront}
-use Rattle.questions.proofs.Fronts.{front-apart, front-next, front-end}
-use Rattle.questions.proofs.check.same_front.Statement.{statement}
-use Rattle.questions.proofs.check.same_front.Tie as tie
+use Rattle.plancheck.specs.Agrees.{sameFront}
+use Rattle.plancheck.proofs.Fronts.{front-apart, front-next, front-end}
+use Rattle.plancheck.proofs.same_front.Statement.{statement}
+use Rattle.plancheck.proofs.same_front.Tie as tie
 
 abbrev Inv-loop : tie.InvT-loop
 Inv-loop a b n i₀ i = (i ≤ n) × (sameFront n a b ≡ same (drop i (take n a)) (drop i (take n b)))

@@ -11,9 +11,9 @@ use Rattle.plan.specs.declared.planner.PlanAnswer.{PlanAnswer}
 use Rattle.plan.specs.Plan.{planMade}
 use Rattle.plan.specs.Planner.{planOutcome}
 use Rattle.plan.proofs.Made.{count-most, made-servers, needed-few, made-sum, plan-outcome, plan-is, outcome-clear}
-use Rattle.questions.proofs.Checked.{makes-refused, makes-by}
-use Rattle.questions.proofs.check.makes_plan.Statement.{statement}
-use Rattle.questions.proofs.check.makes_plan.Tie as tie
+use Rattle.plancheck.proofs.Checked.{makes-refused, makes-by}
+use Rattle.plancheck.proofs.makes_plan.Statement.{statement}
+use Rattle.plancheck.proofs.makes_plan.Tie as tie
 
 -- a set's tasks have their places
 full : (c : tie.Start) → length (c .args .set .tasks) ≡ mostTasks

@@ -3,9 +3,9 @@
 use borrow.Author.Needs.{needs}
 use borrow.Author.Tests.{not-true, not-false}
 use mathlib.Core.Path.{sym, _∙_}
-use Rattle.questions.specs.Agrees.{sameProcessors}
-use Rattle.questions.proofs.check.same_processors.Statement.{statement}
-use Rattle.questions.proofs.check.same_processors.Tie as tie
+use Rattle.plancheck.specs.Agrees.{sameProcessors}
+use Rattle.plancheck.proofs.same_processors.Statement.{statement}
+use Rattle.plancheck.proofs.same_processors.Tie as tie
 
 add-n : tie.Need-add-n
 add-n c = search needs

@@ -11,7 +11,7 @@ use Rattle.laws.proofs.Tests.{and-left, and-right}
 use Rattle.frames.specs.Line.{same}
 use Rattle.frames.proofs.Cuts.{same-equal, equal-same}
 use Rattle.plan.specs.declared.plan.Plan.{Plan}
-use Rattle.questions.specs.Agrees.{sameFront, sameFigures, sameServers, sameProcessors, agrees, SamePlan}
+use Rattle.plancheck.specs.Agrees.{sameFront, sameFigures, sameServers, sameProcessors, agrees, SamePlan}
 
 module _ (a b : Plan) where
   abbrev from-slot : Bool

@@ -3,9 +3,9 @@
 use borrow.Author.Needs.{needs}
 use borrow.Author.Tests.{not-true, not-false}
 use mathlib.Core.Path.{sym, _∙_}
-use Rattle.questions.specs.Agrees.{sameServers}
-use Rattle.questions.proofs.check.same_servers.Statement.{statement}
-use Rattle.questions.proofs.check.same_servers.Tie as tie
+use Rattle.plancheck.specs.Agrees.{sameServers}
+use Rattle.plancheck.proofs.same_servers.Statement.{statement}
+use Rattle.plancheck.proofs.same_servers.Tie as tie
 
 same-front-requires : tie.Need-same-front-requires
 same-front-requires c κs = search needs

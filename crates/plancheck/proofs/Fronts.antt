@@ -10,7 +10,7 @@ use borrow.Author.Tests.{eq-eqb, ne-eqb}
 use lib.ListN.{length, take, drop, getD, drop-of-length-le}
 use lib.Seq.{drop-cons, getD-take, length-take-le}
 use Rattle.frames.specs.Line.{same}
-use Rattle.questions.specs.Agrees.{sameFront}
+use Rattle.plancheck.specs.Agrees.{sameFront}
 
 module _ (a b : List ℕ) (n : ℕ) (a-there : n ≤ length a) (b-there : n ≤ length b) (i : ℕ) where
   -- the places before i are the same: the rest decides

@@ -4,9 +4,6 @@ use Prim.Native.Nat.{ℕ, _+_}
 use mathlib.Core.Path.{_≡_, refl, sym, ap, subst, _∙_}
 use mathlib.Core.Bool.{Bool, true, false}
 use mathlib.Core.List.{List}
-use native.Mathlib.Omega.{arith}
-use borrow.Author.Tests.{leb-true}
-use lib.Dec.{leb}
 use lib.ListN.{length, take}
 use Rattle.tasks.specs.Set.{mostTasks}
 use Rattle.laws.proofs.Tests.{and-left, and-right, true-false}
@@ -18,16 +15,13 @@ use Rattle.servers.specs.Placement.{serversIn}
 use Rattle.servers.proofs.PaddedLaws.{padded-take}
 use Rattle.servers.proofs.PlacementLaws.{placement-length}
 use Rattle.ring.specs.Slotted.{SlottedFirst}
-use Rattle.ring.specs.declared.clock.Tick.{Tick}
-use Rattle.ring.specs.Who.{whoOf}
 use Rattle.tasks.specs.declared.set.TaskSet.{TaskSet}
 use Rattle.plan.specs.declared.plan.Plan.{Plan}
 use Rattle.rows.specs.Charge.{loadsOfSet, lossOf}
 use Rattle.plan.specs.Plan.{laidOut, setPlacement, setReserves, planMade}
-use Rattle.questions.specs.Agrees.{agrees, SamePlan, isDone, makes}
+use Rattle.plancheck.specs.Agrees.{agrees, SamePlan, isDone, makes}
 use Rattle.plan.specs.Planner.{Clear, needed, planOutcome, planOf}
-use Rattle.questions.specs.Question.{isProcessor, Standing}
-use Rattle.questions.proofs.AgreeLaws.{agree-same}
+use Rattle.plancheck.proofs.AgreeLaws.{agree-same}
 use Rattle.rows.proofs.Clears.{loads-length}
 use Rattle.plan.proofs.Served.{laid-by}
 use Rattle.plan.proofs.Made.{fits, few-loads, sound, slot-some, slot-below, set-count, made-needs, plan-outcome, outcome-clear}
@@ -107,22 +101,9 @@ module _ (set : TaskSet) (full : length (set .tasks) ≡ mostTasks) (plan : Plan
       placement = same-made .server ∙ ap (take (set .count)) made-server ∙ padded-take (setPlacement set) (set .count) (placement-count clear-set);
     }
 
-    -- its reserves are laid, and a processor that is there may be asked
-    laid-in : length (plan .reserve) ≡ mostTasks → SlottedFirst (set .header .slot) (plan .reserve) (plan .servers)
+    -- its reserves are laid
+    pub laid-in : length (plan .reserve) ≡ mostTasks → SlottedFirst (set .header .slot) (plan .reserve) (plan .servers)
     unfolding setPlacement setReserves
     laid-in room =
         laid-by (loadsOfSet set) (set .header .slot) (lossOf (set .header)) (few-loads set full clear-set) (sound set full clear-set)
         (slot-some set full clear-set) (slot-below set full clear-set) (plan .reserve) (plan .servers) room (of-set .servers) (of-set .reserves)
-
-    -- a processor that is there may be asked
-    pub standing : length (plan .reserve) ≡ mostTasks → (p : ℕ) → isProcessor plan p ≡ true → Standing plan p
-    unfolding isProcessor needed
-    standing room p t = record {
-      laid = subst (λ (S : ℕ). SlottedFirst S (plan .reserve) (plan .servers)) (sym (of-set .slot)) (laid-in room);
-      from-one = leb-true 1 p (and-left (leb 1 p) (leb p (plan .ring + plan .whole)) t);
-      there = rw (of-set .slot, of-set .reserves) (omega (arith, leb-true p (plan .ring + plan .whole) (and-right (leb 1 p) (leb p (plan .ring + plan .whole)) t), of-set .processors));
-    }
-
-    -- who runs by the plan's own reserves is who runs by the set's
-    pub who-same : (p : ℕ) (x : Tick) → whoOf (plan .slot) (take (plan .servers) (plan .reserve)) p x ≡ whoOf (set .header .slot) (setReserves set) p x
-    who-same p x = ap (λ (S : ℕ). whoOf S (take (plan .servers) (plan .reserve)) p x) (of-set .slot) ∙ ap (λ (rs : List ℕ). whoOf (set .header .slot) rs p x) (of-set .reserves)
