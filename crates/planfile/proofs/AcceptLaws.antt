@@ -30,7 +30,7 @@ use Rattle.plancheck.proofs.AgreeLaws.{agree-same, agree-self}
 use Rattle.plancheck.proofs.Checked.{makes-done, makes-agrees}
 use Rattle.rows.proofs.Clears.{charged-clear}
 use Rattle.plan.proofs.Made.{plan-outcome, plan-is, outcome-clear, made-needs}
-use Rattle.plantext.specs.Fit.{Counted}
+use Rattle.plantext.specs.Fit.{CountsFit}
 
 module _ (set : TaskSet) (done : planOutcome set ≡ Done) where
   clear : Clear set
@@ -45,15 +45,15 @@ module _ (set : TaskSet) (done : planOutcome set ≡ Done) where
       leb-true (set .header .processors) mostProcessors
       (and-right (leb 1 (set .header .processors)) _ (not-false _ (or-left _ _ (charged-clear set (clear .charged) .board))))
 
-  pub needed-few : needed set ≤ 64
+  pub needed-few : needed set ≤ mostProcessors
   unfolding fullRow
   needed-few = omega (arith, ltb-false (set .header .processors) (needed set) (outcome-clear set done .1), boards-few)
 
-  loads-few : length (loadsOfSet set) ≤ 64
+  loads-few : length (loadsOfSet set) ≤ mostTasks
   unfolding loadsOfSet
   loads-few = omega (arith, length-map (members set) (loadOf (set .header)), length-take (set .count) (set .tasks), min-le-left (set .count) (length (set .tasks)), tasks-few)
 
-  pub servers-few-made : planMade set .servers ≤ 64
+  pub servers-few-made : planMade set .servers ≤ mostTasks
   unfolding planMade laidOut setReserves
   servers-few-made =
       let S = set .header .slot in
@@ -61,13 +61,13 @@ module _ (set : TaskSet) (done : planOutcome set ≡ Done) where
       omega (arith, reserves-count (loadsOfSet set) S L, servers-few (loadsOfSet set) S L, loads-few)
 
   -- the plan that the planner makes has room for what it counts
-  pub made-counted : Counted set (planMade set)
+  pub made-counted : CountsFit set (planMade set)
   made-counted = record { servers = servers-few-made; tasks = tasks-few; processors = omega (arith, made-needs set, needed-few) }
 
 -- a plan that the planner makes of a set
 module _ (set : TaskSet) (plan : Plan) (m : makes set plan ≡ true) where
   -- it has room for what it counts, as the one that the planner makes has
-  pub makes-counted : Counted set plan
+  pub makes-counted : CountsFit set plan
   makes-counted =
       let made = made-counted set (makes-done set plan m) in
       let same = agree-same plan (planMade set) (set .count) (makes-agrees set plan m) in

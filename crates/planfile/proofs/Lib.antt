@@ -1,4 +1,3 @@
 pub mod WriteLaws
 pub mod AcceptLaws
 pub mod FileLaws
-pub mod MadeLaws

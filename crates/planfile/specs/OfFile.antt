@@ -2,23 +2,12 @@
 -- Document 01, "From tasks to servers to ring" and "a refused question zeros".
 use Prim.Native.Nat.{ℕ}
 use mathlib.Core.List.{List}
-use Rattle.refusals.specs.declared.Refusal.{Refusal}
-use Rattle.refusals.specs.declared.Outcome.the-variants.{Refused}
-use Rattle.verdict.specs.declared.answer.Reading.{Reading}
-use Rattle.verdict.specs.declared.answer.Verdict.the-variants.{Yes}
 use Rattle.ring.specs.declared.clock.Tick.{Tick}
 use Rattle.questions.specs.declared.question.WhoAnswer.{WhoAnswer}
 use Rattle.questions.specs.declared.question.PassAnswer.{PassAnswer}
-use Rattle.questions.specs.Question.{whoRuns, doesPass}
+use Rattle.questions.specs.Question.{whoRuns, doesPass, refusedWho, refusedPass}
 use Rattle.planfile.specs.declared.file.FileAnswer.{FileAnswer}
 use Rattle.planfile.specs.File.{unless, filedOf}
-
--- a refused question has zeros
-abbrev pub refusedWho : Refusal → WhoAnswer
-refusedWho r = record { outcome = Refused r; server = 0; left = 0 }
-
-abbrev pub refusedPass : Refusal → PassAnswer
-refusedPass r = record { outcome = Refused r; verdict = Yes (record { length = 0; demand = 0; supply = 0 }) }
 
 -- who runs on processor p at tick x, by the plan of a file
 abbrev pub whoOfFile : (p : ℕ) → Tick → FileAnswer → WhoAnswer

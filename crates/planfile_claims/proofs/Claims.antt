@@ -21,11 +21,13 @@ use Rattle.ring.specs.declared.clock.Tick.{Tick}
 use Rattle.tasks.specs.declared.set.TaskSet.{TaskSet}
 use Rattle.taskread.specs.declared.read.ReadAnswer.{ReadAnswer}
 use Rattle.refusals.specs.Leaves.{leaves}
-use Rattle.tasks_claims.proofs.Prefix.{read-looks-at, furthest-bytes}
+use Rattle.tasks_claims.proofs.Prefix.{read-looks-at}
 use Rattle.plan.specs.declared.plan.Plan.{Plan}
 use Rattle.plancheck.specs.Agrees.{makes}
-use Rattle.plantext.specs.Text.{planText}
-use Rattle.plantext.specs.Fit.{fitted, Fits, Counted}
+use Rattle.plantext.specs.Text.{planText, longestText}
+use Rattle.frames.specs.Table.{widthsOf, sum}
+use Rattle.taskread.specs.Read.{furthest}
+use Rattle.plantext.specs.Fit.{fitted, Fits, CountsFit}
 use Rattle.planfile.specs.File.{unless, refusedFile, plannedSet, filedOf}
 use Rattle.planfile.specs.Tool.{printed, answered}
 use Rattle.planfile.specs.OfFile.{whoOfFile, passOfFile, whoIn, passIn}
@@ -33,7 +35,7 @@ use Rattle.planfile_claims.specs.Claims.{Determined, TextExact, RefusedS
 use Rattle.planfile_claims.proofs.TellLaws.{same-count, told}
 use Rattle.planfile_claims.proofs.FieldLaws.{fit-fields}
 use Rattle.plantext.proofs.LineLaws.{refusal-bytes}
-use Rattle.plantext.proofs.TextLaws.{text-bytes}
+use Rattle.plantext.proofs.TextLaws.{text-short}
 use Rattle.plantext.proofs.FitLaws.{fitted-room, fitted-bytes}
 use Rattle.planfile.proofs.AcceptLaws.{makes-counted}
 use Rattle.planfile.proofs.FileLaws.{filed-makes}
@@ -69,9 +71,9 @@ refused-stores-nothing =
     }
 
 -- a file's first bytes are read as the file is, and so they have its set and its plan
-same-filed : (n : ℕ) (text : List ℕ) → 1534 ≤ n → filedOf (take n text) ≡ filedOf text
+same-filed : (n : ℕ) (text : List ℕ) → furthest ≤ n → filedOf (take n text) ≡ filedOf text
 unfolding filedOf
-same-filed n text h = ap (λ (a : ReadAnswer). unless refusedFile (a .outcome) (plannedSet (a .set))) (read-looks-at n text (omega (arith, furthest-bytes)))
+same-filed n text h = ap (λ (a : ReadAnswer). unless refusedFile (a .outcome) (plannedSet (a .set))) (read-looks-at n text h)
 
 pub prefix-enough : PrefixEnough
 unfolding answered whoIn passIn
@@ -82,11 +84,8 @@ prefix-enough =
       pass = λ n text h q R. ap (passOfFile q R) (same-filed n text h);
     }
 
--- a text that counts no more than 64 of each
-text-short : (set : TaskSet) (plan : Plan) → Counted set plan → length (planText set plan) ≤ 2647
-text-short set plan few = omega (arith, text-bytes set plan, few .servers, few .tasks, few .processors)
-
-printed-short : (o : Outcome) (set : TaskSet) (plan : Plan) → (o ≡ Done → makes set plan ≡ true) → length (printed (record { outcome = o; set = set; plan = plan })) ≤ 2647
+printed-short : (o : Outcome) (set : TaskSet) (plan : Plan) → (o ≡ Done → makes set plan ≡ true) → length (printed (record { outcome = o; set = set; plan = plan })) ≤ longestText
+unfolding sum widthsOf
 printed-short Done set plan made = text-short set plan (makes-counted set plan (made refl))
 printed-short (RefusedBy r) set plan made = omega (arith, refusal-bytes r)
 

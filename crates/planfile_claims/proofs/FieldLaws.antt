@@ -14,9 +14,10 @@ use lib.ListN.{length, take, getD, List·getD-append}
 use lib.Seq.{getD-take}
 use borrow.Author.Tests.{leb-false, le-ltb}
 use Rattle.laws.proofs.Tests.{or-left, or-right}
+use Rattle.frames.specs.Table.{widthsOf}
 use Rattle.tasks.specs.declared.set.Header.{Header}
 use Rattle.tasks.specs.declared.set.TaskSet.{TaskSet}
-use Rattle.frames.specs.Table.{widthsOf}
+use Rattle.tasks.specs.Set.{mostTasks}
 use Rattle.tasks.proofs.Carried.{ask-header, header-fits}
 use Rattle.servers.specs.Padded.{padded, upTo}
 use Rattle.servers.specs.Placement.{loadsIn}
@@ -38,7 +39,7 @@ use Rattle.plancheck.proofs.Checked.{OfSet, of-set, makes-agrees}
 use Rattle.plan.proofs.Made.{set-count, slot-some, few-loads}
 use Rattle.plan_claims.proofs.Claims.{plan-checked}
 use Rattle.servers.proofs.PaddedLaws.{up-length, up-at}
-use Rattle.plantext.specs.Fit.{Counted}
+use Rattle.plantext.specs.Fit.{CountsFit}
 use Rattle.planfile_claims.specs.Claims.{FitFields}
 use Rattle.planfile.proofs.AcceptLaws.{makes-counted}
 
@@ -61,7 +62,7 @@ many-slots r S p q =
     let most : r * S ≤ 64 * 16777215 = mul-le-mul p below in
     omega (arith, most)
 
-module _ (set : TaskSet) (plan : Plan) (full : length (set .tasks) ≡ 64) (m : makes set plan ≡ true) where
+module _ (set : TaskSet) (plan : Plan) (full : length (set .tasks) ≡ mostTasks) (m : makes set plan ≡ true) where
   S : ℕ
   S = set .header .slot
 
@@ -71,7 +72,7 @@ module _ (set : TaskSet) (plan : Plan) (full : length (set .tasks) ≡ 64) (m : 
   of : OfSet set plan
   of = of-set set full plan m
 
-  counted : Counted set plan
+  counted : CountsFit set plan
   counted = makes-counted set plan m
 
   same : SamePlan (set .count) plan (planMade set)
@@ -187,7 +188,7 @@ module _ (set : TaskSet) (plan : Plan) (full : length (set .tasks) ≡ 64) (m : 
         ∙ row-up (λ (p : ℕ). firstReserve S rs p .left) (processorsOf S rs) i k
 
   pub fit-fields : FitFields set plan
-  unfolding S
+  unfolding S widthsOf
   fit-fields =
       record {
         whole = omega (arith, counted .processors);

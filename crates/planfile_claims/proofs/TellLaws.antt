@@ -12,17 +12,17 @@ use lib.ListN.{length, take, drop, getD, length-append}
 use lib.Seq.{take-append-seam, drop-append-seam, take-at, drop-at}
 use borrow.Author.Tests.{ltb-false}
 use Rattle.frames.specs.Table.{widthsOf, widthOf, lengthOf}
-use Rattle.frames.specs.Line.{lineOf, fieldOf}
+use Rattle.frames.specs.Line.{lineOf, fieldOf, joined}
 use Rattle.frames.specs.declared.table.Frame.{Frame}
 use Rattle.frames_claims.proofs.LineLaws.{field-line}
 use Rattle.tasks.specs.declared.set.Task.{Task}
 use Rattle.tasks.specs.declared.set.TaskSet.{TaskSet}
 use Rattle.tasks.specs.Set.{zeroTask}
 use Rattle.plan.specs.declared.plan.Plan.{Plan}
-use Rattle.plantext.specs.Text.{lines, mark, planLine, serverLine, placedLine, processorLine, planText}
+use Rattle.plantext.specs.Text.{mark, serverFigures, placedFigures, processorFigures, planLine, serverLine, placedLine, processorLine, planText}
 use Rattle.planfile_claims.specs.Claims.{FitFields, SameUsed}
 use Rattle.plantext.proofs.LineLaws.{plan-bytes, server-size, placed-size, processor-size, server-bytes, placed-bytes, processor-bytes}
-use Rattle.plantext.proofs.TextLaws.{lines-bytes}
+use Rattle.frames.proofs.LinesLaws.{joined-length}
 
 -- equal texts whose fronts are as long have equal fronts and equal rests
 cut-front : (a b c d : List ℕ) → length a ≡ length c → a ++ b ≡ c ++ d → a ≡ c
@@ -39,16 +39,16 @@ line-tells frame vs ws e k p q =
 
 -- equal groups of as many lines of one length have equal lines
 lines-tell : (f g : ℕ → List ℕ) (k : ℕ) → ((j : ℕ) → length (f j) ≡ k) → ((j : ℕ) → length (g j) ≡ k)
-    → (n : ℕ) → lines f n ≡ lines g n → (i : ℕ) → i < n → f (i + 1) ≡ g (i + 1)
-unfolding lines
+    → (n : ℕ) → joined f n ≡ joined g n → (i : ℕ) → i < n → f (i + 1) ≡ g (i + 1)
+unfolding joined
 lines-tell f g k p q zero e i h = absurd (omega arith)
-lines-tell f g k p q (suc n) e i h = go (lines-tell f g k p q n (cut-front (lines f n) (f (suc n)) (lines g n) (g (suc n)) same e) i)
+lines-tell f g k p q (suc n) e i h = go (lines-tell f g k p q n (cut-front (joined f n) (f (suc n)) (joined g n) (g (suc n)) same e) i)
   where
-    same : length (lines f n) ≡ length (lines g n)
-    same = lines-bytes f k p n ∙ sym (lines-bytes g k q n)
+    same : length (joined f n) ≡ length (joined g n)
+    same = joined-length f k p n ∙ sym (joined-length g k q n)
 
     last : f (suc n) ≡ g (suc n)
-    last = cut-rest (lines f n) (f (suc n)) (lines g n) (g (suc n)) same e
+    last = cut-rest (joined f n) (f (suc n)) (joined g n) (g (suc n)) same e
 
     go : (i < n → f (i + 1) ≡ g (i + 1)) → f (i + 1) ≡ g (i + 1)
     go earlier =
@@ -61,22 +61,23 @@ lines-tell f g k p q (suc n) e i h = go (lines-tell f g k p q n (cut-front (line
 
 -- the figures of each line, by the place from 0
 server-figures : (plan : Plan) (i : ℕ) → serverLine plan (i + 1) ≡ lineOf Frame.Server ((i + 1) ∷ getD (plan .reserve) i 0 ∷ cond (ltb (getD (plan .reserve) i 0) (plan .slot)) (getD (plan .start) i 0) mark ∷ getD (plan .tasks) i 0 ∷ [])
-unfolding serverLine
+unfolding serverLine serverFigures
 server-figures plan i =
     ap (λ (k : ℕ). lineOf Frame.Server ((i + 1) ∷ getD (plan .reserve) k 0 ∷ cond (ltb (getD (plan .reserve) k 0) (plan .slot)) (getD (plan .start) k 0) mark ∷ getD (plan .tasks) k 0 ∷ [])) (add-sub-cancel i 1)
 
 placed-figures : (set : TaskSet) (plan : Plan) (i : ℕ) → placedLine set plan (i + 1) ≡ lineOf Frame.Placed (getD (set .tasks) i zeroTask .id ∷ getD (plan .server) i 0 ∷ [])
-unfolding placedLine
+unfolding placedLine placedFigures
 placed-figures set plan i =
     ap (λ (k : ℕ). lineOf Frame.Placed (getD (set .tasks) k zeroTask .id ∷ getD (plan .server) k 0 ∷ [])) (add-sub-cancel i 1)
 
 processor-figures : (plan : Plan) (i : ℕ) → processorLine plan (i + 1) ≡ lineOf Frame.Processor ((i + 1) ∷ getD (plan .first) i 0 ∷ getD (plan .duration) i 0 ∷ [])
-unfolding processorLine
+unfolding processorLine processorFigures
 processor-figures plan i =
     ap (λ (k : ℕ). lineOf Frame.Processor ((i + 1) ∷ getD (plan .first) k 0 ∷ getD (plan .duration) k 0 ∷ [])) (add-sub-cancel i 1)
 
--- a ring start or the mark fits eight digits
-pick-fits : (t : Bool) (x : ℕ) → x < 16 ^ 8 → cond t x mark < 16 ^ 8
+-- a ring start or the mark fits its field
+pick-fits : (t : Bool) (x : ℕ) → x < 16 ^ widthOf Frame.Server 2 → cond t x mark < 16 ^ widthOf Frame.Server 2
+unfolding widthsOf
 pick-fits true x h = h
 pick-fits false x h = lit< tt
 
@@ -87,13 +88,13 @@ start-tells false x y e p q = p refl ∙ sym (q refl)
 
 module _ (set₁ set₂ : TaskSet) (plan₁ plan₂ : Plan) (fit₁ : FitFields set₁ plan₁) (fit₂ : FitFields set₂ plan₂) (e : planText set₁ plan₁ ≡ planText set₂ plan₂) where
   servers-of : Plan → List ℕ
-  servers-of plan = lines (serverLine plan) (plan .servers)
+  servers-of plan = joined (serverLine plan) (plan .servers)
 
   tasks-of : TaskSet → Plan → List ℕ
-  tasks-of set plan = lines (placedLine set plan) (set .count)
+  tasks-of set plan = joined (placedLine set plan) (set .count)
 
   processors-of : Plan → List ℕ
-  processors-of plan = lines (processorLine plan) (plan .ring + plan .whole)
+  processors-of plan = joined (processorLine plan) (plan .ring + plan .whole)
 
   same-first : planLine plan₁ ≡ planLine plan₂
   unfolding planText
@@ -111,37 +112,32 @@ module _ (set₁ set₂ : TaskSet) (plan₁ plan₂ : Plan) (fit₁ : FitFields 
   figures = line-tells Frame.Plan _ _ same-first
 
   same-whole : plan₁ .whole ≡ plan₂ .whole
-  unfolding widthsOf
   same-whole = figures 0 (fit₁ .whole) (fit₂ .whole)
 
   same-ring : plan₁ .ring ≡ plan₂ .ring
-  unfolding widthsOf
   same-ring = figures 1 (fit₁ .ring) (fit₂ .ring)
 
   same-servers : plan₁ .servers ≡ plan₂ .servers
-  unfolding widthsOf
   same-servers = figures 2 (fit₁ .servers) (fit₂ .servers)
 
   same-slot : plan₁ .slot ≡ plan₂ .slot
-  unfolding widthsOf
   same-slot = figures 3 (fit₁ .slot) (fit₂ .slot)
 
   same-idle : plan₁ .idle ≡ plan₂ .idle
-  unfolding widthsOf
   same-idle = figures 4 (fit₁ .idle) (fit₂ .idle)
 
   -- the groups of lines, each as long in both texts
   servers-long : (plan : Plan) → length (servers-of plan) ≡ plan .servers * 21
   unfolding servers-of
-  servers-long plan = lines-bytes (serverLine plan) 21 (λ q. server-bytes plan q ∙ server-size) (plan .servers)
+  servers-long plan = joined-length (serverLine plan) 21 (λ q. server-bytes plan q ∙ server-size) (plan .servers)
 
   tasks-long : (set : TaskSet) (plan : Plan) → length (tasks-of set plan) ≡ set .count * 7
   unfolding tasks-of
-  tasks-long set plan = lines-bytes (placedLine set plan) 7 (λ k. placed-bytes set plan k ∙ placed-size) (set .count)
+  tasks-long set plan = joined-length (placedLine set plan) 7 (λ k. placed-bytes set plan k ∙ placed-size) (set .count)
 
   processors-long : (plan : Plan) → length (processors-of plan) ≡ (plan .ring + plan .whole) * 13
   unfolding processors-of
-  processors-long plan = lines-bytes (processorLine plan) 13 (λ p. processor-bytes plan p ∙ processor-size) (plan .ring + plan .whole)
+  processors-long plan = joined-length (processorLine plan) 13 (λ p. processor-bytes plan p ∙ processor-size) (plan .ring + plan .whole)
 
   servers-as-long : length (servers-of plan₁) ≡ length (servers-of plan₂)
   servers-as-long = omega (arith, servers-long plan₁, servers-long plan₂, same-servers)
@@ -185,24 +181,21 @@ module _ (set₁ set₂ : TaskSet) (plan₁ plan₂ : Plan) (fit₁ : FitFields 
       unfolding servers-of
       server-line =
           lines-tell (serverLine plan₁) (serverLine plan₂) (lengthOf Frame.Server + 1) (server-bytes plan₁) (server-bytes plan₂) (plan₂ .servers)
-          (ap (lines (serverLine plan₁)) (sym same-servers) ∙ same-server-lines) i h
+          (ap (joined (serverLine plan₁)) (sym same-servers) ∙ same-server-lines) i h
 
       server-same : lineOf Frame.Server ((i + 1) ∷ getD (plan₁ .reserve) i 0 ∷ cond (ltb (getD (plan₁ .reserve) i 0) (plan₁ .slot)) (getD (plan₁ .start) i 0) mark ∷ getD (plan₁ .tasks) i 0 ∷ []) ≡ lineOf Frame.Server ((i + 1) ∷ getD (plan₂ .reserve) i 0 ∷ cond (ltb (getD (plan₂ .reserve) i 0) (plan₂ .slot)) (getD (plan₂ .start) i 0) mark ∷ getD (plan₂ .tasks) i 0 ∷ [])
       server-same = sym (server-figures plan₁ i) ∙ server-line ∙ server-figures plan₂ i
 
       same-reserve : getD (plan₁ .reserve) i 0 ≡ getD (plan₂ .reserve) i 0
-      unfolding widthsOf
       same-reserve = line-tells Frame.Server _ _ server-same 1 (fit₁ .reserve i there) (fit₂ .reserve i h)
 
       same-tasks : getD (plan₁ .tasks) i 0 ≡ getD (plan₂ .tasks) i 0
-      unfolding widthsOf
       same-tasks = line-tells Frame.Server _ _ server-same 3 (fit₁ .tasks i there) (fit₂ .tasks i h)
 
       test : ltb (getD (plan₁ .reserve) i 0) (plan₁ .slot) ≡ ltb (getD (plan₂ .reserve) i 0) (plan₂ .slot)
       test = rw (same-reserve, same-slot)
 
       picked : cond (ltb (getD (plan₁ .reserve) i 0) (plan₁ .slot)) (getD (plan₁ .start) i 0) mark ≡ cond (ltb (getD (plan₂ .reserve) i 0) (plan₂ .slot)) (getD (plan₂ .start) i 0) mark
-      unfolding widthsOf
       picked = line-tells Frame.Server _ _ server-same 2 (pick-fits (ltb (getD (plan₁ .reserve) i 0) (plan₁ .slot)) _ (fit₁ .start i there)) (pick-fits (ltb (getD (plan₂ .reserve) i 0) (plan₂ .slot)) _ (fit₂ .start i h))
 
       same-start : getD (plan₁ .start) i 0 ≡ getD (plan₂ .start) i 0
@@ -217,10 +210,9 @@ module _ (set₁ set₂ : TaskSet) (plan₁ plan₂ : Plan) (fit₁ : FitFields 
       unfolding tasks-of
       placed-line =
           lines-tell (placedLine set₁ plan₁) (placedLine set₂ plan₂) (lengthOf Frame.Placed + 1) (placed-bytes set₁ plan₁) (placed-bytes set₂ plan₂) (set₂ .count)
-          (ap (lines (placedLine set₁ plan₁)) (sym same-count) ∙ same-task-lines) i h
+          (ap (joined (placedLine set₁ plan₁)) (sym same-count) ∙ same-task-lines) i h
 
       same-server : getD (plan₁ .server) i 0 ≡ getD (plan₂ .server) i 0
-      unfolding widthsOf
       same-server =
           line-tells Frame.Placed (getD (set₁ .tasks) i zeroTask .id ∷ getD (plan₁ .server) i 0 ∷ []) (getD (set₂ .tasks) i zeroTask .id ∷ getD (plan₂ .server) i 0 ∷ [])
           (sym (placed-figures set₁ plan₁ i) ∙ placed-line ∙ placed-figures set₂ plan₂ i) 1 (fit₁ .server i (omega (arith, same-count))) (fit₂ .server i h)
@@ -233,17 +225,15 @@ module _ (set₁ set₂ : TaskSet) (plan₁ plan₂ : Plan) (fit₁ : FitFields 
       unfolding processors-of
       processor-line =
           lines-tell (processorLine plan₁) (processorLine plan₂) (lengthOf Frame.Processor + 1) (processor-bytes plan₁) (processor-bytes plan₂) (plan₂ .ring + plan₂ .whole)
-          (ap (lines (processorLine plan₁)) (omega (arith, same-ring, same-whole)) ∙ same-processor-lines) i h
+          (ap (joined (processorLine plan₁)) (omega (arith, same-ring, same-whole)) ∙ same-processor-lines) i h
 
       processor-same : lineOf Frame.Processor ((i + 1) ∷ getD (plan₁ .first) i 0 ∷ getD (plan₁ .duration) i 0 ∷ []) ≡ lineOf Frame.Processor ((i + 1) ∷ getD (plan₂ .first) i 0 ∷ getD (plan₂ .duration) i 0 ∷ [])
       processor-same = sym (processor-figures plan₁ i) ∙ processor-line ∙ processor-figures plan₂ i
 
       same-first-server : getD (plan₁ .first) i 0 ≡ getD (plan₂ .first) i 0
-      unfolding widthsOf
       same-first-server = line-tells Frame.Processor _ _ processor-same 1 (fit₁ .first i here) (fit₂ .first i h)
 
       same-duration : getD (plan₁ .duration) i 0 ≡ getD (plan₂ .duration) i 0
-      unfolding widthsOf
       same-duration = line-tells Frame.Processor _ _ processor-same 2 (fit₁ .duration i here) (fit₂ .duration i h)
 
   pub told : SameUsed (set₂ .count) plan₁ plan₂

@@ -11,12 +11,16 @@ use Rattle.refusals.specs.declared.Written.{Written}
 use Rattle.refusals.specs.declared.Written.the-variants.{Bytes, Refused}
 use Rattle.ring.specs.declared.clock.Tick.{Tick}
 use Rattle.tasks.specs.declared.set.TaskSet.{TaskSet}
+use Rattle.tasks.specs.Set.{mostTasks}
+use Rattle.frames.specs.Table.{widthOf}
+use Rattle.frames.specs.declared.table.Frame.{Frame}
 use Rattle.refusals.specs.Leaves.{leaves}
 use Rattle.plan.specs.declared.plan.Plan.{Plan}
 use Rattle.questions.specs.declared.question.WhoAnswer.{WhoAnswer}
 use Rattle.questions.specs.declared.question.PassAnswer.{PassAnswer}
 use Rattle.plancheck.specs.Agrees.{makes}
-use Rattle.plantext.specs.Text.{planText}
+use Rattle.taskread.specs.Read.{furthest}
+use Rattle.plantext.specs.Text.{planText, longestText}
 use Rattle.plantext.specs.Fit.{fitted, Fits}
 use Rattle.planfile.specs.Write.{writePlan}
 use Rattle.planfile.specs.Tool.{answered}
@@ -48,30 +52,30 @@ pub record RefusedStoresNothing : Type 0 where
   pub write : (set : TaskSet) (plan : Plan) (buffer : List ℕ) (r : Refusal) {left : List ℕ} → Writes set plan buffer (Refused r) left → left ≡ buffer
   pub answer : (text buffer : List ℕ) (r : Refusal) {left : List ℕ} → Fits buffer (answered text) (Refused r) left → left ≡ buffer
 
--- The tool and the questions look no further than 1534 bytes into a file.
+-- The tool and the questions look no further into a file than the reader.
 pub record PrefixEnough : Type 0 where
-  pub answer : (n : ℕ) (text : List ℕ) → 1534 ≤ n → answered (take n text) ≡ answered text
-  pub who : (n : ℕ) (text : List ℕ) → 1534 ≤ n → (p : ℕ) (x : Tick) → whoIn (take n text) p x ≡ whoIn text p x
-  pub pass : (n : ℕ) (text : List ℕ) → 1534 ≤ n → (q R : ℕ) → passIn (take n text) q R ≡ passIn text q R
+  pub answer : (n : ℕ) (text : List ℕ) → furthest ≤ n → answered (take n text) ≡ answered text
+  pub who : (n : ℕ) (text : List ℕ) → furthest ≤ n → (p : ℕ) (x : Tick) → whoIn (take n text) p x ≡ whoIn text p x
+  pub pass : (n : ℕ) (text : List ℕ) → furthest ≤ n → (q R : ℕ) → passIn (take n text) q R ≡ passIn text q R
 
--- The longest answer has 2,647 bytes, so a caller who lends as many never meets row 12.
+-- No answer is longer than the longest text of a plan, so a caller who lends as many bytes never meets row 12.
 abbrev pub AnsweredShort : Type 0
-AnsweredShort = (text : List ℕ) → length (answered text) ≤ 2647
+AnsweredShort = (text : List ℕ) → length (answered text) ≤ longestText
 
 -- the figures of a plan fit their fields, and a server on a whole processor has no ring start
 pub record FitFields (set : TaskSet) (plan : Plan) : Type 0 where
-  pub whole : plan .whole < 16 ^ 2
-  pub ring : plan .ring < 16 ^ 2
-  pub servers : plan .servers < 16 ^ 2
-  pub slot : plan .slot < 16 ^ 6
-  pub idle : plan .idle < 16 ^ 8
-  pub reserve : (i : ℕ) → i < plan .servers → getD (plan .reserve) i 0 < 16 ^ 6
-  pub start : (i : ℕ) → i < plan .servers → getD (plan .start) i 0 < 16 ^ 8
+  pub whole : plan .whole < 16 ^ widthOf Frame.Plan 0
+  pub ring : plan .ring < 16 ^ widthOf Frame.Plan 1
+  pub servers : plan .servers < 16 ^ widthOf Frame.Plan 2
+  pub slot : plan .slot < 16 ^ widthOf Frame.Plan 3
+  pub idle : plan .idle < 16 ^ widthOf Frame.Plan 4
+  pub reserve : (i : ℕ) → i < plan .servers → getD (plan .reserve) i 0 < 16 ^ widthOf Frame.Server 1
+  pub start : (i : ℕ) → i < plan .servers → getD (plan .start) i 0 < 16 ^ widthOf Frame.Server 2
   pub no-start : (i : ℕ) → i < plan .servers → plan .slot ≤ getD (plan .reserve) i 0 → getD (plan .start) i 0 ≡ 0
-  pub tasks : (i : ℕ) → i < plan .servers → getD (plan .tasks) i 0 < 16 ^ 2
-  pub server : (i : ℕ) → i < set .count → getD (plan .server) i 0 < 16 ^ 2
-  pub first : (i : ℕ) → i < plan .ring + plan .whole → getD (plan .first) i 0 < 16 ^ 2
-  pub duration : (i : ℕ) → i < plan .ring + plan .whole → getD (plan .duration) i 0 < 16 ^ 6
+  pub tasks : (i : ℕ) → i < plan .servers → getD (plan .tasks) i 0 < 16 ^ widthOf Frame.Server 3
+  pub server : (i : ℕ) → i < set .count → getD (plan .server) i 0 < 16 ^ widthOf Frame.Placed 1
+  pub first : (i : ℕ) → i < plan .ring + plan .whole → getD (plan .first) i 0 < 16 ^ widthOf Frame.Processor 1
+  pub duration : (i : ℕ) → i < plan .ring + plan .whole → getD (plan .duration) i 0 < 16 ^ widthOf Frame.Processor 2
 
 -- two plans of so many tasks have the same figures, wherever they are used
 pub record SameUsed (count : ℕ) (a b : Plan) : Type 0 where
@@ -93,9 +97,9 @@ TextTells =
     (set₁ set₂ : TaskSet) (plan₁ plan₂ : Plan) → FitFields set₁ plan₁ → FitFields set₂ plan₂
     → planText set₁ plan₁ ≡ planText set₂ plan₂ → (set₁ .count ≡ set₂ .count) × SameUsed (set₂ .count) plan₁ plan₂
 
--- Two accepted plans with the same text are the same plan. A set has room for 64 tasks, by its type.
+-- Two accepted plans with the same text are the same plan. A set has room for the most tasks, by its type.
 abbrev pub TextTellsPlan : Type 0
 TextTellsPlan =
-    (set₁ set₂ : TaskSet) (plan₁ plan₂ : Plan) → length (set₁ .tasks) ≡ 64 → length (set₂ .tasks) ≡ 64
+    (set₁ set₂ : TaskSet) (plan₁ plan₂ : Plan) → length (set₁ .tasks) ≡ mostTasks → length (set₂ .tasks) ≡ mostTasks
     → makes set₁ plan₁ ≡ true → makes set₂ plan₂ ≡ true
     → planText set₁ plan₁ ≡ planText set₂ plan₂ → (set₁ .count ≡ set₂ .count) × SameUsed (set₂ .count) plan₁ plan₂

@@ -10,7 +10,7 @@ use Rattle.refusals.specs.declared.Refusal.the-variants.{Room}
 use Rattle.refusals.specs.declared.Written.{Written}
 use Rattle.refusals.specs.declared.Written.the-variants.{Bytes, Refused}
 use Rattle.tasks.specs.declared.set.TaskSet.{TaskSet}
-use Rattle.tasks.specs.Set.{mostTasks}
+use Rattle.tasks.specs.Set.{mostTasks, mostProcessors}
 use Rattle.refusals.specs.Leaves.{leaves}
 use Rattle.plan.specs.declared.plan.Plan.{Plan}
 
@@ -24,7 +24,7 @@ pub record Fits (buffer text : List ℕ) (answer : Written) (left : List ℕ) : 
   pub holds : left ≡ leaves (fitted buffer text) buffer text
 
 -- a set and a plan whose rows have room for what they count
-pub record Counted (set : TaskSet) (plan : Plan) : Type 0 where
-  pub servers : plan .servers ≤ 64
+pub record CountsFit (set : TaskSet) (plan : Plan) : Type 0 where
+  pub servers : plan .servers ≤ mostTasks
   pub tasks : set .count ≤ mostTasks
-  pub processors : plan .ring + plan .whole ≤ 64
+  pub processors : plan .ring + plan .whole ≤ mostProcessors

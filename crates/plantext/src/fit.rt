@@ -10,11 +10,11 @@ use refusals::Refusal;
 use refusals::Written;
 use tasks::set::TaskSet;
 ghost use Rattle.plantext.specs.Text.{planText, refusalText};
-ghost use Rattle.plantext.specs.Fit.{Fits, Counted};
+ghost use Rattle.plantext.specs.Fit.{Fits, CountsFit};
 
 // The text of a plan.
 pub fn fit_plan(set: TaskSet, plan: Plan, out: &mut [u8]) -> Written
-    requires { ⌜ Counted set plan ⌝ }
+    requires { ⌜ CountsFit set plan ⌝ }
     ensures { λ r. ⌜ Fits (now (out .entry)) (planText set plan) r (now (out .exit)) ⌝ }
 {
     let needed = text_length(set, plan);

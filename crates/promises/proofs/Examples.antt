@@ -14,7 +14,7 @@ use Rattle.questions.specs.declared.question.PassAnswer.{PassAnswer}
 use Rattle.digits.specs.Digit.{legal, valueOf, digitOf, allLegal}
 use Rattle.digits.specs.Number.{numberFrom, hex}
 use Rattle.frames.specs.Table.{kindOf, widthsOf, sum}
-use Rattle.frames.specs.Line.{line, after, closed, same, formed, fieldOf, fields, lineOf, lineOverflows, someTooLarge}
+use Rattle.frames.specs.Line.{line, after, closed, same, formed, fieldOf, fields, lineOf, lineOverflows, someTooLarge, joined}
 use Rattle.tasks.specs.Set.{setOf}
 use Rattle.tasks.specs.Rows.{some, firstFrom, countRow, twiceRow, boardRow, rangeRow, figuresOutcome, headerOverflows, taskOverflows, askRow}
 use Rattle.refusals.specs.First.{till}
@@ -42,7 +42,7 @@ use Rattle.plan.specs.Plan.{laidOut, setPlacement, setReserves, planMade}
 use Rattle.plancheck.specs.Agrees.{sameFigures, sameServers, sameProcessors, agrees, makes}
 use Rattle.plan.specs.Planner.{needed, fullRow, planOutcome, planOf}
 use Rattle.questions.specs.Question.{allowed, isProcessor, isServer, whoRuns, doesPass}
-use Rattle.plantext.specs.Text.{lines, planLine, serverLine, placedLine, processorLine, planText, refusalText}
+use Rattle.plantext.specs.Text.{serverFigures, placedFigures, processorFigures, planLine, serverLine, placedLine, processorLine, planText, refusalText}
 use Rattle.planfile.specs.File.{plannedSet, filedOf}
 use Rattle.planfile.specs.Tool.{answered}
 use Rattle.planfile.specs.OfFile.{whoIn, passIn}
@@ -95,5 +95,5 @@ examples =
     ∷ []
 
 pub examples-answered : map (λ (e : Example). answerOf (e .asked)) examples ≡ map (λ (e : Example). e .given) examples
-unfolding legal valueOf digitOf allLegal numberFrom hex kindOf widthsOf sum line after closed same formed fieldOf fields lineOf setOf some firstFrom countRow twiceRow boardRow rangeRow figuresOutcome headerOverflows taskOverflows lineOverflows someTooLarge askRow past tasksAmong lineRow orderRow countLineRow twiceLineRow lineOutcome till headerAt taskAt fileSet readOutcome readOf ceilingOf measureIn commonMeasure leastMultiple leastMultipleOf effectiveDeadline effectiveCost entryLoss jobs demand gap supplyPast supply enough smallestReserve lastUpTo firstUpTo short failing ownHorizon firstFailing verdictAt verdictOf passing loadsIn serversIn takes fit placeFrom placementOf reservesOf covers covererUpTo standAt phase ringTicks wholes wholeFrom whoOf firstReserve loadOf loadsOfSet lossOf slotRow tightRow horizonOf horizonRow chargedOutcome upTo laidOut setPlacement setReserves planMade sameFigures sameServers sameProcessors agrees needed fullRow planOutcome planOf makes allowed isProcessor isServer whoRuns doesPass lines planLine serverLine placedLine processorLine planText refusalText plannedSet filedOf answered whoIn passIn
+unfolding legal valueOf digitOf allLegal numberFrom hex kindOf widthsOf sum line after closed same formed fieldOf fields lineOf setOf some firstFrom countRow twiceRow boardRow rangeRow figuresOutcome headerOverflows taskOverflows lineOverflows someTooLarge askRow past tasksAmong lineRow orderRow countLineRow twiceLineRow lineOutcome till headerAt taskAt fileSet readOutcome readOf ceilingOf measureIn commonMeasure leastMultiple leastMultipleOf effectiveDeadline effectiveCost entryLoss jobs demand gap supplyPast supply enough smallestReserve lastUpTo firstUpTo short failing ownHorizon firstFailing verdictAt verdictOf passing loadsIn serversIn takes fit placeFrom placementOf reservesOf covers covererUpTo standAt phase ringTicks wholes wholeFrom whoOf firstReserve loadOf loadsOfSet lossOf slotRow tightRow horizonOf horizonRow chargedOutcome upTo laidOut setPlacement setReserves planMade sameFigures sameServers sameProcessors agrees needed fullRow planOutcome planOf makes allowed isProcessor isServer whoRuns doesPass joined serverFigures placedFigures processorFigures planLine serverLine placedLine processorLine planText refusalText plannedSet filedOf answered whoIn passIn
 examples-answered = refl

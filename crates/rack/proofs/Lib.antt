@@ -1,2 +1,1 @@
 pub mod RackLaws
-pub mod RackClaims

@@ -5,9 +5,8 @@ use mathlib.Core.List.{List, [], _∷_}
 use mathlib.Core.Path.{_≡_, refl, sym, _∙_, ap, subst}
 use borrow.Author.Tests.{lt-ltb, le-ltb}
 use lib.Dec.{lit≤}
-use lib.ListN.{length, take, getD, set}
+use lib.ListN.{length}
 use native.Mathlib.Omega.{arith}
-use Rattle.digits.proofs.Stored.{stored-next}
 use Rattle.refusals.specs.Refused.{numberOf}
 use Rattle.digits.specs.Stored.{stored}
 use Rattle.refusals.specs.declared.Refusal.{Refusal}
@@ -15,13 +14,9 @@ use Rattle.refusals.specs.declared.Refusal.the-variants.{Line, Order, Count, Tw
 use Rattle.refusals.specs.declared.Outcome.{Outcome}
 use Rattle.refusals.specs.declared.Outcome.the-variants.{Done, Refused}
 use Rattle.refusals.specs.declared.Written.{Written}
-use Rattle.ring.specs.declared.clock.Tick.{Tick}
-use Rattle.questions.specs.declared.question.WhoAnswer.{WhoAnswer}
-use Rattle.questions.specs.declared.question.PassAnswer.{PassAnswer}
 use Rattle.plantext.specs.Fit.{Fits}
 use Rattle.planfile.specs.Tool.{answered}
-use Rattle.planfile.specs.OfFile.{whoIn, passIn}
-use Rattle.rack.specs.Rack.{bytesOf, planBytes, planLeaves, statusOf, toldOf, leavesNumbers, whoNumbers, whoTold, verdictNumbers, passNumbers, passTold}
+use Rattle.rack.specs.Rack.{bytesOf, planBytes, planLeaves, statusOf, toldOf, leavesNumbers}
 
 -- the number of a refusal is 1 to 12
 pub number-row : (r : Refusal) → (1 ≤ numberOf r) × (numberOf r ≤ 12)
@@ -74,25 +69,8 @@ module _ (numbers answer : List ℕ) where
   unfolding toldOf
   told-refused r s = (s, refl)
 
--- one number more at the front of an answer
-pub front-next : (b s : List ℕ) (i : ℕ) → length s ≤ length b → i < length s
-    → set (stored b 0 (take i s)) i (getD s i 0) ≡ stored b 0 (take (i + 1) s)
-front-next b s i h k =
-    let from-start : i ≡ 0 + i = omega arith in
-    ap (λ (n : ℕ). set (stored b 0 (take i s)) n (getD s i 0)) from-start ∙ stored-next b 0 s i (omega arith) k
-
--- a question whose answer is known
-module _ (answer : List ℕ) {status : ℕ} {left : List ℕ} where
-  pub who-told : (tasks : List ℕ) (p : ℕ) (x : Tick) (a : WhoAnswer) (o : Outcome) → a ≡ whoIn tasks p x → a .outcome ≡ o
-      → Told o (a .server ∷ a .left ∷ []) answer status left
-      → (status ≡ statusOf (whoTold tasks p (x .0) answer)) × (left ≡ leavesNumbers (whoTold tasks p (x .0) answer) (whoNumbers tasks p (x .0)) answer)
-  unfolding whoTold whoNumbers
-  who-told tasks p x a o e f t = subst (λ (b : WhoAnswer). Told (b .outcome) (b .server ∷ b .left ∷ []) answer status left) e (subst (λ (q : Outcome). Told q (a .server ∷ a .left ∷ []) answer status left) (sym f) t)
-
-  pub pass-told : (tasks : List ℕ) (q R : ℕ) (a : PassAnswer) (o : Outcome) (numbers : List ℕ) → a ≡ passIn tasks q R → a .outcome ≡ o → numbers ≡ verdictNumbers (a .verdict)
-      → Told o numbers answer status left
-      → (status ≡ statusOf (passTold tasks q R answer)) × (left ≡ leavesNumbers (passTold tasks q R answer) (passNumbers tasks q R) answer)
-  unfolding passTold passNumbers
-  pass-told tasks q R a o numbers e f g t =
-      subst (λ (b : PassAnswer). Told (b .outcome) (verdictNumbers (b .verdict)) answer status left) e
-      (subst (λ (p : Outcome). Told p (verdictNumbers (a .verdict)) answer status left) (sym f) (subst (λ (ns : List ℕ). Told o ns answer status left) g t))
+-- an answer a, known to be b, with its outcome and its numbers
+pub told-by : {A : Type 0} (outcome : A → Outcome) (numbers : A → List ℕ) (answer : List ℕ) {status : ℕ} {left : List ℕ} {a b : A} {o : Outcome}
+    → a ≡ b → outcome a ≡ o → Told o (numbers a) answer status left → Told (outcome b) (numbers b) answer status left
+told-by {A} outcome numbers answer {status} {left} {a} e f t =
+    subst (λ (x : A). Told (outcome x) (numbers x) answer status left) e (subst (λ (q : Outcome). Told q (numbers a) answer status left) (sym f) t)

@@ -1,2 +1,1 @@
 pub mod Rack
-pub mod Claims

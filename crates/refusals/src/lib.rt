@@ -47,20 +47,20 @@ pub fn number(refusal: Refusal) -> u64
     }
 }
 
-pub fn place(refusal: Refusal) -> u64
+pub fn place(refusal: Refusal) -> u8
     ensures { λ r. ⌜ r ≡ placeOf refusal ⌝ }
 {
     match refusal {
-        Refusal::Line(k) => k as u64,
-        Refusal::Order(k) => k as u64,
-        Refusal::Count(k) => k as u64,
-        Refusal::Twice(k) => k as u64,
+        Refusal::Line(k) => k,
+        Refusal::Order(k) => k,
+        Refusal::Count(k) => k,
+        Refusal::Twice(k) => k,
         Refusal::Board => 0,
-        Refusal::Range(k) => k as u64,
-        Refusal::Slot(k) => k as u64,
-        Refusal::Tight(k) => k as u64,
+        Refusal::Range(k) => k,
+        Refusal::Slot(k) => k,
+        Refusal::Tight(k) => k,
         Refusal::Horizon => 0,
-        Refusal::Full(k) => k as u64,
+        Refusal::Full(k) => k,
         Refusal::Ask => 0,
         Refusal::Room => 0,
     }

@@ -10,7 +10,7 @@ fn say_refusal(refusal: Refusal) {
     io::write_all(STDOUT_FILENO, b"refusal ");
     io::print_decimal(STDOUT_FILENO, refusals::number(refusal));
     io::write_all(STDOUT_FILENO, b" at ");
-    io::print_decimal(STDOUT_FILENO, refusals::place(refusal));
+    io::print_decimal(STDOUT_FILENO, refusals::place(refusal) as u64);
     io::write_all(STDOUT_FILENO, b"\n");
 }
 

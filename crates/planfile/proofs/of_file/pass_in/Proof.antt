@@ -2,8 +2,8 @@
 -- Assumes nothing.
 use mathlib.Core.Path.{_∙_}
 use Rattle.planfile.specs.declared.file.FileAnswer.{FileAnswer}
-use Rattle.questions.specs.Question.{doesPass}
-use Rattle.planfile.specs.OfFile.{refusedPass, passIn}
+use Rattle.questions.specs.Question.{doesPass, refusedPass}
+use Rattle.planfile.specs.OfFile.{passIn}
 use Rattle.planfile.proofs.FileLaws.{when-done, when-refused, filed-makes}
 use borrow.Author.Needs.{needs}
 use Rattle.planfile.proofs.of_file.pass_in.Statement.{statement}

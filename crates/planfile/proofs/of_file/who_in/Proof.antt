@@ -2,8 +2,8 @@
 -- Assumes nothing.
 use mathlib.Core.Path.{_∙_}
 use Rattle.planfile.specs.declared.file.FileAnswer.{FileAnswer}
-use Rattle.questions.specs.Question.{whoRuns}
-use Rattle.planfile.specs.OfFile.{refusedWho, whoIn}
+use Rattle.questions.specs.Question.{whoRuns, refusedWho}
+use Rattle.planfile.specs.OfFile.{whoIn}
 use Rattle.planfile.proofs.FileLaws.{when-done, when-refused, filed-makes}
 use borrow.Author.Needs.{needs}
 use Rattle.planfile.proofs.of_file.who_in.Statement.{statement}

@@ -2,9 +2,9 @@
 -- Assumes nothing.
 use mathlib.Core.Path.{_∙_, ap}
 use native.Mathlib.Omega.{arith}
-use Rattle.frames.specs.Table.{widthsOf}
 use Rattle.digits.specs.Stored.{stored}
-use Rattle.plantext.proofs.LineLaws.{refused-size, refusal-bytes, refusal-filled}
+use Rattle.frames.specs.Table.{widthsOf}
+use Rattle.plantext.proofs.LineLaws.{refused-size, refusal-bytes, refusal-told}
 use borrow.Author.Needs.{needs}
 use Rattle.plantext.proofs.line.put_refusal.Statement.{statement}
 use Rattle.plantext.proofs.line.put_refusal.Tie as tie
@@ -14,6 +14,9 @@ number-requires c κs = search needs
 
 place-requires : tie.Need-place-requires
 place-requires c κs = search needs
+
+cast-place : tie.Need-cast-place
+cast-place c = search needs
 
 slice-aggregate-put-line : tie.Need-slice-aggregate-put-line
 slice-aggregate-put-line c = search needs
@@ -28,8 +31,9 @@ same-length c = search needs
 returns : tie.Need-returns
 returns c =
     let a = c .before .before .before .before .before .before .before .before .args in
-    c .before .before .put-line .ensures ∙ ap (stored (a .out .now) 0) (refusal-filled (a .refusal) _ _ (c .before .before .before .before .before .before .number .ensures) (c .before .before .before .before .before .place .ensures))
+    c .before .before .put-line .ensures ∙ ap (stored (a .out .now) 0) (refusal-told (a .refusal) _ _ (c .before .before .before .before .before .before .number .ensures) (c .before .before .before .before .before .place .ensures))
 
 pub put-refusal-spec : {M : Type 1} → statement M
 put-refusal-spec =
-    tie.close (tie.spec number-requires place-requires slice-aggregate-put-line put-line-requires same-length returns)
+    tie.close
+    (tie.spec number-requires place-requires cast-place slice-aggregate-put-line put-line-requires same-length returns)

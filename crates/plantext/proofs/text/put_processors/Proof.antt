@@ -1,78 +1,67 @@
--- The loop's invariant: the lines of the first `i` processors are put.
+-- The figures of the lines, and their lines.
 -- Assumes nothing.
-use Prim.Native.Nat.{_+_, _*_, _-_, _≤_}
+use Prim.Native.Nat.{ℕ, _*_}
+use mathlib.Core.Path.{_≡_, sym, _∙_, ap}
+use mathlib.Core.List.{List}
 use native.Mathlib.Omega.{arith}
-use lib.ListN.{length}
-use Rattle.frames.specs.Table.{lengthOf}
+use lib.ListN.{length, length-map}
+use Rattle.digits.specs.Stored.{stored}
+use Rattle.frames.specs.Table.{widthsOf}
+use Rattle.frames.specs.Line.{linesOf}
 use Rattle.frames.specs.declared.table.Frame.{Frame}
-use Rattle.plantext.specs.Text.{processorLine}
-use Rattle.plantext.proofs.LineLaws.{processor-bytes}
-use Rattle.plantext.proofs.TextLaws.{Put, put-none, put-room, put-next, put-all}
+use Rattle.tasks.specs.Set.{mostProcessors}
+use Rattle.plantext.specs.Text.{processorFigures, processorLine}
+use Rattle.plantext.proofs.FillLaws.{filled-length, lines-filled, processor-each}
+use borrow.Author.Needs.{needs}
 use Rattle.plantext.proofs.text.put_processors.Statement.{statement}
 use Rattle.plantext.proofs.text.put_processors.Tie as tie
 
-abbrev Inv-loop : tie.InvT-loop
-Inv-loop out₀ at plan count i₀ out i = Put (processorLine plan) out₀ at count out i
+-- the rows of a plan have their full length
+first-row : (s : tie.Start) → length (s .args .plan .first) ≡ 64
+first-row s = sym (length-map (s .args .plan .first) _) ∙ s .good .1 .1 .0 .1 .1 .1 .1 .1 .1 .1 .1 .1 .1 .1 .0 .1 .0 .1
 
-abbrev μ-loop : tie.MeasureT-loop
-μ-loop out₀ at plan count i₀ out i = count - i
+duration-row : (s : tie.Start) → length (s .args .plan .duration) ≡ 64
+duration-row s = sym (length-map (s .args .plan .duration) _) ∙ s .good .1 .1 .0 .1 .1 .1 .1 .1 .1 .1 .1 .1 .1 .1 .1 .0 .1 .0 .1
 
-loop-holds : tie.Need-loop-holds Inv-loop μ-loop
-loop-holds c = put-none _ _ _ _
+slice-aggregate-processor-values : tie.Need-slice-aggregate-processor-values
+slice-aggregate-processor-values c = search needs
 
-lines-length-requires : tie.Need-lines-length-requires Inv-loop μ-loop
-lines-length-requires c κs = omega arith
+slice-aggregate-processor-values-2 : tie.Need-slice-aggregate-processor-values-2
+slice-aggregate-processor-values-2 c = search needs
 
--- the room of the next line, in a turn
-room : (c : tie.In-loop Inv-loop μ-loop) → let a = c .before .before .before .args in a .at + c .before .loop .i * (lengthOf Frame.Processor + 1) + (lengthOf Frame.Processor + 1) ≤ length (a .out .now)
-room c =
-    let s = c .before .before .before in
+processor-values-requires : tie.Need-processor-values-requires
+processor-values-requires c κs =
+    let s = c .before .before .before .before .before in
+    (s .pre .0, omega (arith, s .pre .0, first-row s), omega (arith, s .pre .0, duration-row s))
+
+slice-aggregate-put-lines : tie.Need-slice-aggregate-put-lines
+slice-aggregate-put-lines c = search needs
+
+put-lines-requires : tie.Need-put-lines-requires
+unfolding widthsOf
+put-lines-requires c κs =
+    let s = c .before .before .before .before .before .before .before .before in
     let a = s .args in
-    put-room (processorLine (a .plan)) (lengthOf Frame.Processor + 1) (processor-bytes (a .plan)) (a .out .now) (a .at) (a .count) (s .pre .1) (c .before .loop .i) (c .loop-test .taken)
+    (omega (arith, s .pre .0, ap length (c .before .before .processor-values .ensures), filled-length (processorFigures (a .plan .first) (a .plan .duration)) 3 (processor-each (a .plan .first) (a .plan .duration)) (3 * mostProcessors) (a .n) (omega (arith, s .pre .0))), s .pre .1)
 
-add-next : tie.Need-add-next Inv-loop μ-loop
-add-next c = omega (arith, c .lines-length .ensures, room (c .before))
+same-length : tie.Need-same-length
+same-length c = search needs
 
-put-processor-requires : tie.Need-put-processor-requires Inv-loop μ-loop
-put-processor-requires c κs =
-    let turn = c .before .before in
-    (omega arith, omega (arith, c .before .lines-length .ensures, room turn, turn .before .loop .inv .same))
-
-add-i : tie.Need-add-i Inv-loop μ-loop
-add-i c = omega arith
-
-loop-less : tie.Need-loop-less Inv-loop μ-loop
-loop-less c = omega arith
-
-loop-again : tie.Need-loop-again Inv-loop μ-loop
-loop-again c =
-    let turn = c .before .before .before .before .before in
-    let s = turn .before .before .before in
-    let a = s .args in
-    put-next (processorLine (a .plan)) (lengthOf Frame.Processor + 1) (processor-bytes (a .plan)) (a .out .now) (a .at) (a .count) (s .pre .1)
-    (turn .before .loop .inv) (turn .loop-test .taken) (c .before .before .before .before .lines-length .ensures) (c .before .before .put-processor .ensures) (c .before .before .put-processor .kept .0)
-
-same-length : tie.Need-same-length Inv-loop μ-loop
-same-length c = c .before .loop .inv .same
-
-returns : tie.Need-returns Inv-loop μ-loop
+returns : tie.Need-returns
+unfolding widthsOf processorLine
 returns c =
-    let s = c .before .before .before in
-    let a = s .args in
-    put-all (processorLine (a .plan)) (lengthOf Frame.Processor + 1) (processor-bytes (a .plan)) (a .out .now) (a .at) (a .count) (s .pre .1) (c .before .loop .inv) (c .loop-test .left)
+    let a = c .before .before .before .before .before .before .before .before .before .before .before .args in
+    c .before .before .put-lines .ensures ∙ ap (stored (a .out .now) (a .at))
+    (ap (λ (v : List ℕ). linesOf Frame.Processor v (a .n)) (c .before .before .before .before .before .processor-values .ensures) ∙ lines-filled Frame.Processor (processorFigures (a .plan .first) (a .plan .duration)) (processor-each (a .plan .first) (a .plan .duration)) (3 * mostProcessors) (a .n))
 
 pub put-processors-spec : {M : Type 1} → statement M
 put-processors-spec =
     tie.close
     (tie.spec
-    Inv-loop
-    μ-loop
-    loop-holds
-    lines-length-requires
-    add-next
-    put-processor-requires
-    add-i
-    loop-less
-    loop-again
+    slice-aggregate-processor-values
+    slice-aggregate-processor-values-2
+    processor-values-requires
+    slice-aggregate-put-lines
+    put-lines-requires
     same-length
     returns)

@@ -1,78 +1,74 @@
--- The loop's invariant: the lines of the first `i` servers are put.
+-- The figures of the lines, and their lines.
 -- Assumes nothing.
-use Prim.Native.Nat.{_+_, _*_, _-_, _≤_}
+use Prim.Native.Nat.{ℕ, _*_}
+use mathlib.Core.Path.{_≡_, sym, _∙_, ap}
+use mathlib.Core.List.{List}
 use native.Mathlib.Omega.{arith}
-use lib.ListN.{length}
-use Rattle.frames.specs.Table.{lengthOf}
+use lib.ListN.{length, length-map}
+use Rattle.digits.specs.Stored.{stored}
+use Rattle.frames.specs.Table.{widthsOf}
+use Rattle.frames.specs.Line.{linesOf}
 use Rattle.frames.specs.declared.table.Frame.{Frame}
-use Rattle.plantext.specs.Text.{serverLine}
-use Rattle.plantext.proofs.LineLaws.{server-bytes}
-use Rattle.plantext.proofs.TextLaws.{Put, put-none, put-room, put-next, put-all}
+use Rattle.tasks.specs.Set.{mostTasks}
+use Rattle.plantext.specs.Text.{serverFigures, serverLine}
+use Rattle.plantext.proofs.FillLaws.{filled-length, lines-filled, server-each}
+use borrow.Author.Needs.{needs}
 use Rattle.plantext.proofs.text.put_servers.Statement.{statement}
 use Rattle.plantext.proofs.text.put_servers.Tie as tie
 
-abbrev Inv-loop : tie.InvT-loop
-Inv-loop out₀ at plan count i₀ out i = Put (serverLine plan) out₀ at count out i
+-- the rows of a plan have their full length
+reserve-row : (s : tie.Start) → length (s .args .plan .reserve) ≡ 64
+reserve-row s = sym (length-map (s .args .plan .reserve) _) ∙ s .good .1 .1 .0 .1 .1 .1 .1 .1 .1 .1 .0 .1 .0 .1
 
-abbrev μ-loop : tie.MeasureT-loop
-μ-loop out₀ at plan count i₀ out i = count - i
+start-row : (s : tie.Start) → length (s .args .plan .start) ≡ 64
+start-row s = sym (length-map (s .args .plan .start) _) ∙ s .good .1 .1 .0 .1 .1 .1 .1 .1 .1 .1 .1 .0 .1 .0 .1
 
-loop-holds : tie.Need-loop-holds Inv-loop μ-loop
-loop-holds c = put-none _ _ _ _
+tasks-row : (s : tie.Start) → length (s .args .plan .tasks) ≡ 64
+tasks-row s = sym (length-map (s .args .plan .tasks) _) ∙ s .good .1 .1 .0 .1 .1 .1 .1 .1 .1 .1 .1 .1 .0 .1 .0 .1
 
-lines-length-requires : tie.Need-lines-length-requires Inv-loop μ-loop
-lines-length-requires c κs = omega arith
+slice-aggregate-server-values : tie.Need-slice-aggregate-server-values
+slice-aggregate-server-values c = search needs
 
--- the room of the next line, in a turn
-room : (c : tie.In-loop Inv-loop μ-loop) → let a = c .before .before .before .args in a .at + c .before .loop .i * (lengthOf Frame.Server + 1) + (lengthOf Frame.Server + 1) ≤ length (a .out .now)
-room c =
-    let s = c .before .before .before in
+slice-aggregate-server-values-2 : tie.Need-slice-aggregate-server-values-2
+slice-aggregate-server-values-2 c = search needs
+
+slice-aggregate-server-values-3 : tie.Need-slice-aggregate-server-values-3
+slice-aggregate-server-values-3 c = search needs
+
+server-values-requires : tie.Need-server-values-requires
+server-values-requires c κs =
+    let s = c .before .before .before .before .before .before .before in
+    (s .pre .0, omega (arith, s .pre .0, reserve-row s), omega (arith, s .pre .0, start-row s), omega (arith, s .pre .0, tasks-row s))
+
+slice-aggregate-put-lines : tie.Need-slice-aggregate-put-lines
+slice-aggregate-put-lines c = search needs
+
+put-lines-requires : tie.Need-put-lines-requires
+unfolding widthsOf
+put-lines-requires c κs =
+    let s = c .before .before .before .before .before .before .before .before .before .before in
     let a = s .args in
-    put-room (serverLine (a .plan)) (lengthOf Frame.Server + 1) (server-bytes (a .plan)) (a .out .now) (a .at) (a .plan .servers) (s .pre .1) (c .before .loop .i) (c .loop-test .taken)
+    (omega (arith, s .pre .0, ap length (c .before .before .server-values .ensures), filled-length (serverFigures (a .plan .reserve) (a .plan .start) (a .plan .tasks) (a .plan .slot)) 4 (server-each (a .plan .reserve) (a .plan .start) (a .plan .tasks) (a .plan .slot)) (4 * mostTasks) (a .plan .servers) (omega (arith, s .pre .0))), s .pre .1)
 
-add-next : tie.Need-add-next Inv-loop μ-loop
-add-next c = omega (arith, c .lines-length .ensures, room (c .before))
+same-length : tie.Need-same-length
+same-length c = search needs
 
-put-server-requires : tie.Need-put-server-requires Inv-loop μ-loop
-put-server-requires c κs =
-    let turn = c .before .before in
-    (omega arith, omega (arith, c .before .lines-length .ensures, room turn, turn .before .loop .inv .same))
-
-add-i : tie.Need-add-i Inv-loop μ-loop
-add-i c = omega arith
-
-loop-less : tie.Need-loop-less Inv-loop μ-loop
-loop-less c = omega arith
-
-loop-again : tie.Need-loop-again Inv-loop μ-loop
-loop-again c =
-    let turn = c .before .before .before .before .before in
-    let s = turn .before .before .before in
-    let a = s .args in
-    put-next (serverLine (a .plan)) (lengthOf Frame.Server + 1) (server-bytes (a .plan)) (a .out .now) (a .at) (a .plan .servers) (s .pre .1)
-    (turn .before .loop .inv) (turn .loop-test .taken) (c .before .before .before .before .lines-length .ensures) (c .before .before .put-server .ensures) (c .before .before .put-server .kept .0)
-
-same-length : tie.Need-same-length Inv-loop μ-loop
-same-length c = c .before .loop .inv .same
-
-returns : tie.Need-returns Inv-loop μ-loop
+returns : tie.Need-returns
+unfolding widthsOf serverLine
 returns c =
-    let s = c .before .before .before in
-    let a = s .args in
-    put-all (serverLine (a .plan)) (lengthOf Frame.Server + 1) (server-bytes (a .plan)) (a .out .now) (a .at) (a .plan .servers) (s .pre .1) (c .before .loop .inv) (c .loop-test .left)
+    let a = c .before .before .before .before .before .before .before .before .before .before .before .before .before .args in
+    c .before .before .put-lines .ensures ∙ ap (stored (a .out .now) (a .at))
+    (ap (λ (v : List ℕ). linesOf Frame.Server v (a .plan .servers)) (c .before .before .before .before .before .server-values .ensures) ∙ lines-filled Frame.Server (serverFigures (a .plan .reserve) (a .plan .start) (a .plan .tasks) (a .plan .slot)) (server-each (a .plan .reserve) (a .plan .start) (a .plan .tasks) (a .plan .slot)) (4 * mostTasks) (a .plan .servers))
 
 pub put-servers-spec : {M : Type 1} → statement M
 put-servers-spec =
     tie.close
     (tie.spec
-    Inv-loop
-    μ-loop
-    loop-holds
-    lines-length-requires
-    add-next
-    put-server-requires
-    add-i
-    loop-less
-    loop-again
+    slice-aggregate-server-values
+    slice-aggregate-server-values-2
+    slice-aggregate-server-values-3
+    server-values-requires
+    slice-aggregate-put-lines
+    put-lines-requires
     same-length
     returns)

@@ -1,78 +1,60 @@
--- The loop's invariant: the lines of the first `i` tasks are put.
+-- The figures of the lines, and their lines.
 -- Assumes nothing.
-use Prim.Native.Nat.{_+_, _*_, _-_, _≤_}
+use Prim.Native.Nat.{ℕ, _*_}
+use mathlib.Core.Path.{_≡_, sym, _∙_, ap}
+use mathlib.Core.List.{List}
 use native.Mathlib.Omega.{arith}
-use lib.ListN.{length}
-use Rattle.frames.specs.Table.{lengthOf}
+use lib.ListN.{length, length-map}
+use Rattle.digits.specs.Stored.{stored}
+use Rattle.frames.specs.Table.{widthsOf}
+use Rattle.frames.specs.Line.{linesOf}
 use Rattle.frames.specs.declared.table.Frame.{Frame}
-use Rattle.plantext.specs.Text.{placedLine}
-use Rattle.plantext.proofs.LineLaws.{placed-bytes}
-use Rattle.plantext.proofs.TextLaws.{Put, put-none, put-room, put-next, put-all}
+use Rattle.tasks.specs.Set.{mostTasks}
+use Rattle.plantext.specs.Text.{placedFigures, placedLine}
+use Rattle.plantext.proofs.FillLaws.{filled-length, lines-filled, placed-each}
+use borrow.Author.Needs.{needs}
 use Rattle.plantext.proofs.text.put_tasks.Statement.{statement}
 use Rattle.plantext.proofs.text.put_tasks.Tie as tie
 
-abbrev Inv-loop : tie.InvT-loop
-Inv-loop out₀ at set plan count i₀ out i = Put (placedLine set plan) out₀ at count out i
+-- the rows of a plan have their full length
+server-row : (s : tie.Start) → length (s .args .plan .server) ≡ 64
+server-row s = sym (length-map (s .args .plan .server) _) ∙ s .good .1 .1 .1 .0 .1 .1 .1 .1 .1 .1 .1 .1 .1 .1 .0 .1 .0 .1
 
-abbrev μ-loop : tie.MeasureT-loop
-μ-loop out₀ at set plan count i₀ out i = count - i
+slice-aggregate-placed-values : tie.Need-slice-aggregate-placed-values
+slice-aggregate-placed-values c = search needs
 
-loop-holds : tie.Need-loop-holds Inv-loop μ-loop
-loop-holds c = put-none _ _ _ _
-
-lines-length-requires : tie.Need-lines-length-requires Inv-loop μ-loop
-lines-length-requires c κs = omega arith
-
--- the room of the next line, in a turn
-room : (c : tie.In-loop Inv-loop μ-loop) → let a = c .before .before .before .args in a .at + c .before .loop .i * (lengthOf Frame.Placed + 1) + (lengthOf Frame.Placed + 1) ≤ length (a .out .now)
-room c =
+placed-values-requires : tie.Need-placed-values-requires
+placed-values-requires c κs =
     let s = c .before .before .before in
+    (s .pre .0, omega (arith, s .pre .0, server-row s))
+
+slice-aggregate-put-lines : tie.Need-slice-aggregate-put-lines
+slice-aggregate-put-lines c = search needs
+
+put-lines-requires : tie.Need-put-lines-requires
+unfolding widthsOf
+put-lines-requires c κs =
+    let s = c .before .before .before .before .before .before in
     let a = s .args in
-    put-room (placedLine (a .set) (a .plan)) (lengthOf Frame.Placed + 1) (placed-bytes (a .set) (a .plan)) (a .out .now) (a .at) (a .set .count) (s .pre .1) (c .before .loop .i) (c .loop-test .taken)
+    (omega (arith, s .pre .0, ap length (c .before .before .placed-values .ensures), filled-length (placedFigures (a .set .tasks) (a .plan .server)) 2 (placed-each (a .set .tasks) (a .plan .server)) (2 * mostTasks) (a .set .count) (omega (arith, s .pre .0))), s .pre .1)
 
-add-next : tie.Need-add-next Inv-loop μ-loop
-add-next c = omega (arith, c .lines-length .ensures, room (c .before))
+same-length : tie.Need-same-length
+same-length c = search needs
 
-put-placed-requires : tie.Need-put-placed-requires Inv-loop μ-loop
-put-placed-requires c κs =
-    let turn = c .before .before in
-    (omega arith, omega (arith, c .before .lines-length .ensures, room turn, turn .before .loop .inv .same))
-
-add-i : tie.Need-add-i Inv-loop μ-loop
-add-i c = omega arith
-
-loop-less : tie.Need-loop-less Inv-loop μ-loop
-loop-less c = omega arith
-
-loop-again : tie.Need-loop-again Inv-loop μ-loop
-loop-again c =
-    let turn = c .before .before .before .before .before in
-    let s = turn .before .before .before in
-    let a = s .args in
-    put-next (placedLine (a .set) (a .plan)) (lengthOf Frame.Placed + 1) (placed-bytes (a .set) (a .plan)) (a .out .now) (a .at) (a .set .count) (s .pre .1)
-    (turn .before .loop .inv) (turn .loop-test .taken) (c .before .before .before .before .lines-length .ensures) (c .before .before .put-placed .ensures) (c .before .before .put-placed .kept .0)
-
-same-length : tie.Need-same-length Inv-loop μ-loop
-same-length c = c .before .loop .inv .same
-
-returns : tie.Need-returns Inv-loop μ-loop
+returns : tie.Need-returns
+unfolding widthsOf placedLine
 returns c =
-    let s = c .before .before .before in
-    let a = s .args in
-    put-all (placedLine (a .set) (a .plan)) (lengthOf Frame.Placed + 1) (placed-bytes (a .set) (a .plan)) (a .out .now) (a .at) (a .set .count) (s .pre .1) (c .before .loop .inv) (c .loop-test .left)
+    let a = c .before .before .before .before .before .before .before .before .before .args in
+    c .before .before .put-lines .ensures ∙ ap (stored (a .out .now) (a .at))
+    (ap (λ (v : List ℕ). linesOf Frame.Placed v (a .set .count)) (c .before .before .before .before .before .placed-values .ensures) ∙ lines-filled Frame.Placed (placedFigures (a .set .tasks) (a .plan .server)) (placed-each (a .set .tasks) (a .plan .server)) (2 * mostTasks) (a .set .count))
 
 pub put-tasks-spec : {M : Type 1} → statement M
 put-tasks-spec =
     tie.close
     (tie.spec
-    Inv-loop
-    μ-loop
-    loop-holds
-    lines-length-requires
-    add-next
-    put-placed-requires
-    add-i
-    loop-less
-    loop-again
+    slice-aggregate-placed-values
+    placed-values-requires
+    slice-aggregate-put-lines
+    put-lines-requires
     same-length
     returns)

@@ -2,14 +2,11 @@
 -- Assumes nothing.
 use Prim.Native.Nat.{ℕ, _+_, _*_, _≤_}
 use mathlib.Core.Path.{_≡_, _∙_, ap}
-use mathlib.Core.List.{List}
 use native.Mathlib.Omega.{arith}
 use lib.ListN.{length}
 use Rattle.frames.specs.Table.{lengthOf}
-use Rattle.digits.specs.Stored.{stored}
 use Rattle.frames.specs.declared.table.Frame.{Frame}
-use Rattle.plantext.specs.Text.{lines, serverLine, placedLine, processorLine}
-use Rattle.plantext.proofs.LineLaws.{plan-size, server-size, placed-size, processor-size}
+use Rattle.plantext.proofs.LineLaws.{plan-size, plan-bytes, server-size, placed-size, processor-size}
 use Rattle.plantext.proofs.TextLaws.{text-bytes, text-stored}
 use borrow.Author.Needs.{needs}
 use Rattle.plantext.proofs.text.put_text.Statement.{statement}
@@ -23,8 +20,8 @@ room : (s : tie.Start) → let a = s .args in 23 + a .plan .servers * 21 + a .se
 room s = omega (arith, s .pre .1, text-bytes (s .args .set) (s .args .plan))
 
 -- the bytes of each group of lines
-first : {n : ℕ} → n ≡ lengthOf Frame.Plan → n + 1 ≡ 23
-first e = ap (λ (n : ℕ). n + 1) e ∙ plan-size
+first : {n : ℕ} → n ≡ 1 * (lengthOf Frame.Plan + 1) → n ≡ 23
+first e = e ∙ ap (λ (n : ℕ). 1 * n) plan-size
 
 servers : {n : ℕ} (q : ℕ) → n ≡ q * (lengthOf Frame.Server + 1) → n ≡ q * 21
 servers q e = e ∙ ap (λ (k : ℕ). q * k) server-size
@@ -33,50 +30,47 @@ tasks : {n : ℕ} (q : ℕ) → n ≡ q * (lengthOf Frame.Placed + 1) → n ≡ 
 tasks q e = e ∙ ap (λ (k : ℕ). q * k) placed-size
 
 put-plan-requires : tie.Need-put-plan-requires
-put-plan-requires c κs = omega (arith, room (c .before .before .before), plan-size)
+put-plan-requires c κs = omega (arith, room (c .before .before .before), plan-bytes (c .before .before .before .args .plan))
 
-length-requires : tie.Need-length-requires
-length-requires c κs = search needs
-
-add-servers : tie.Need-add-servers
-add-servers c = omega (arith, first (c .length .ensures))
+lines-length-requires : tie.Need-lines-length-requires
+lines-length-requires c κs = search needs
 
 put-servers-requires : tie.Need-put-servers-requires
 put-servers-requires c κs =
     let s = c .before .before .before .before .before .before .before .before in
     let kept = c .before .before .before .before .put-plan .kept .0 in
     let a = s .args in
-    (s .pre .0 .servers, omega (arith, room s, first (c .before .length .ensures), ap (λ (k : ℕ). a .plan .servers * k) server-size, kept))
+    (s .pre .0 .servers, omega (arith, room s, first (c .before .lines-length .ensures), ap (λ (k : ℕ). a .plan .servers * k) server-size, kept))
 
-lines-length-requires : tie.Need-lines-length-requires
-lines-length-requires c κs = search needs
+lines-length-requires-2 : tie.Need-lines-length-requires-2
+lines-length-requires-2 c κs = search needs
 
 add-tasks : tie.Need-add-tasks
 add-tasks c =
     let s = c .before .before .before .before .before .before .before .before .before .before .before .before in
-    omega (arith, room s, first (c .before .before .before .before .before .length .ensures), servers (s .args .plan .servers) (c .lines-length .ensures))
+    omega (arith, room s, first (c .before .before .before .before .before .lines-length .ensures), servers (s .args .plan .servers) (c .lines-length2 .ensures))
 
 put-tasks-requires : tie.Need-put-tasks-requires
 put-tasks-requires c κs =
     let s = c .before .before .before .before .before .before .before .before .before .before .before .before .before in
     let a = s .args in
     let kept = c .before .before .before .before .put-servers .kept .0 ∙ c .before .before .before .before .before .before .before .before .before .put-plan .kept .0 in
-    (s .pre .0 .tasks, omega (arith, room s, first (c .before .before .before .before .before .before .length .ensures), servers (s .args .plan .servers) (c .before .lines-length .ensures), ap (λ (k : ℕ). a .set .count * k) placed-size, kept))
+    (s .pre .0 .tasks, omega (arith, room s, first (c .before .before .before .before .before .before .lines-length .ensures), servers (s .args .plan .servers) (c .before .lines-length2 .ensures), ap (λ (k : ℕ). a .set .count * k) placed-size, kept))
 
-lines-length-requires-2 : tie.Need-lines-length-requires-2
-lines-length-requires-2 c κs = search needs
+lines-length-requires-3 : tie.Need-lines-length-requires-3
+lines-length-requires-3 c κs = search needs
 
 add-processors : tie.Need-add-processors
 add-processors c =
     let s = c .before .before .before .before .before .before .before .before .before .before .before .before .before .before .before .before .before in
-    omega (arith, room s, first (c .before .before .before .before .before .before .before .before .before .before .length .ensures), servers (s .args .plan .servers) (c .before .before .before .before .before .lines-length .ensures), tasks (s .args .set .count) (c .lines-length2 .ensures))
+    omega (arith, room s, first (c .before .before .before .before .before .before .before .before .before .before .lines-length .ensures), servers (s .args .plan .servers) (c .before .before .before .before .before .lines-length2 .ensures), tasks (s .args .set .count) (c .lines-length3 .ensures))
 
 put-processors-requires : tie.Need-put-processors-requires
 put-processors-requires c κs =
     let s = c .before .before .before .before .before .before .before .before .before .before .before .before .before .before .before .before .before .before in
     let a = s .args in
     let kept = c .before .before .before .before .put-tasks .kept .0 ∙ c .before .before .before .before .before .before .before .before .before .put-servers .kept .0 ∙ c .before .before .before .before .before .before .before .before .before .before .before .before .before .before .put-plan .kept .0 in
-    (s .pre .0 .processors, omega (arith, room s, first (c .before .before .before .before .before .before .before .before .before .before .before .length .ensures), servers (s .args .plan .servers) (c .before .before .before .before .before .before .lines-length .ensures), tasks (s .args .set .count) (c .before .lines-length2 .ensures), ap (λ (k : ℕ). (a .plan .ring + a .plan .whole) * k) processor-size, kept))
+    (s .pre .0 .processors, omega (arith, room s, first (c .before .before .before .before .before .before .before .before .before .before .before .lines-length .ensures), servers (s .args .plan .servers) (c .before .before .before .before .before .before .lines-length2 .ensures), tasks (s .args .set .count) (c .before .lines-length3 .ensures), ap (λ (k : ℕ). (a .plan .ring + a .plan .whole) * k) processor-size, kept))
 
 same-length : tie.Need-same-length
 same-length c = search needs
@@ -85,18 +79,12 @@ returns : tie.Need-returns
 returns c =
     let s = c .before .before .before .before .before .before .before .before .before .before .before .before .before .before .before .before .before .before .before .before .before in
     let a = s .args in
-    let k = c .before .before .before .before .before .before .before .before .before .before .before .before .before .before .length .result + 1 in
-    let m = k + c .before .before .before .before .before .before .before .before .before .lines-length .result in
-    let n = m + c .before .before .before .before .lines-length2 .result in
-    let start = first (c .before .before .before .before .before .before .before .before .before .before .before .before .before .before .length .ensures) in
-    c .before .before .put-processors .ensures
-    ∙ ap (λ (o : List ℕ). stored o n (lines (processorLine (a .plan)) (a .plan .ring + a .plan .whole)))
-    (c .before .before .before .before .before .before .before .put-tasks .ensures
-    ∙ ap (λ (o : List ℕ). stored o m (lines (placedLine (a .set) (a .plan)) (a .set .count)))
-    (c .before .before .before .before .before .before .before .before .before .before .before .before .put-servers .ensures
-    ∙ ap (λ (o : List ℕ). stored o k (lines (serverLine (a .plan)) (a .plan .servers))) (c .before .before .before .before .before .before .before .before .before .before .before .before .before .before .before .before .before .put-plan .ensures)))
-    ∙ text-stored (a .set) (a .plan) (a .out .now) k m n start
-    (omega (arith, start, servers (s .args .plan .servers) (c .before .before .before .before .before .before .before .before .before .lines-length .ensures))) (omega (arith, tasks (s .args .set .count) (c .before .before .before .before .lines-length2 .ensures))) (s .pre .1)
+    let start = first (c .before .before .before .before .before .before .before .before .before .before .before .before .before .before .lines-length .ensures) in
+    text-stored (a .set) (a .plan) (a .out .now) (s .pre .1) start
+    (omega (arith, start, servers (s .args .plan .servers) (c .before .before .before .before .before .before .before .before .before .lines-length2 .ensures))) (omega (arith, tasks (s .args .set .count) (c .before .before .before .before .lines-length3 .ensures)))
+    (c .before .before .before .before .before .before .before .before .before .before .before .before .before .before .before .before .before .put-plan .ensures)
+    (c .before .before .before .before .before .before .before .before .before .before .before .before .put-servers .ensures)
+    (c .before .before .before .before .before .before .before .put-tasks .ensures) (c .before .before .put-processors .ensures)
 
 pub put-text-spec : {M : Type 1} → statement M
 put-text-spec =
@@ -104,13 +92,12 @@ put-text-spec =
     (tie.spec
     add-count
     put-plan-requires
-    length-requires
-    add-servers
-    put-servers-requires
     lines-length-requires
+    put-servers-requires
+    lines-length-requires-2
     add-tasks
     put-tasks-requires
-    lines-length-requires-2
+    lines-length-requires-3
     add-processors
     put-processors-requires
     same-length

@@ -3,17 +3,12 @@
 use Prim.Native.Nat.{ℕ, _+_, _*_, _≤_}
 use mathlib.Core.Path.{_≡_, _∙_, ap}
 use native.Mathlib.Omega.{arith}
+use Rattle.tasks.specs.Set.{mostTasks, mostProcessors}
 use Rattle.plantext.proofs.LineLaws.{plan-size, server-size, placed-size, processor-size}
 use Rattle.plantext.proofs.TextLaws.{text-bytes}
 use borrow.Author.Needs.{needs}
 use Rattle.plantext.proofs.text.text_length.Statement.{statement}
 use Rattle.plantext.proofs.text.text_length.Tie as tie
-
-length-requires : tie.Need-length-requires
-length-requires c κs = search needs
-
-add-first : tie.Need-add-first
-add-first c = omega (arith, c .length .ensures, plan-size)
 
 lines-length-requires : tie.Need-lines-length-requires
 lines-length-requires c κs = search needs
@@ -21,24 +16,27 @@ lines-length-requires c κs = search needs
 lines-length-requires-2 : tie.Need-lines-length-requires-2
 lines-length-requires-2 c κs = search needs
 
-add-lines-length : tie.Need-add-lines-length
-add-lines-length c = search needs
-
 lines-length-requires-3 : tie.Need-lines-length-requires-3
 lines-length-requires-3 c κs = search needs
 
+add-lines-length : tie.Need-add-lines-length
+add-lines-length c = search needs
+
+lines-length-requires-4 : tie.Need-lines-length-requires-4
+lines-length-requires-4 c κs = search needs
+
 -- the four parts, in bytes
-parts : (c : tie.After-lines-length3) → let a = c .before .before .before .before .before .args in
-    (c .before .before .before .before .length .result + 1 ≡ 23) × (c .before .before .before .lines-length .result ≡ a .plan .servers * 21) × (c .before .before .lines-length2 .result ≡ a .set .count * 7) × (c .lines-length3 .result ≡ (a .plan .ring + a .plan .whole) * 13)
+parts : (c : tie.After-lines-length4) → let a = c .before .before .before .before .before .args in
+    (c .before .before .before .before .lines-length .result ≡ 23) × (c .before .before .before .lines-length2 .result ≡ a .plan .servers * 21) × (c .before .before .lines-length3 .result ≡ a .set .count * 7) × (c .lines-length4 .result ≡ (a .plan .ring + a .plan .whole) * 13)
 parts c =
     let a = c .before .before .before .before .before .args in (
-      ap (λ (n : ℕ). n + 1) (c .before .before .before .before .length .ensures) ∙ plan-size,
-      c .before .before .before .lines-length .ensures ∙ ap (λ (n : ℕ). a .plan .servers * n) server-size,
-      c .before .before .lines-length2 .ensures ∙ ap (λ (n : ℕ). a .set .count * n) placed-size,
-      c .lines-length3 .ensures ∙ ap (λ (n : ℕ). (a .plan .ring + a .plan .whole) * n) processor-size,
+      c .before .before .before .before .lines-length .ensures ∙ ap (λ (n : ℕ). 1 * n) plan-size,
+      c .before .before .before .lines-length2 .ensures ∙ ap (λ (n : ℕ). a .plan .servers * n) server-size,
+      c .before .before .lines-length3 .ensures ∙ ap (λ (n : ℕ). a .set .count * n) placed-size,
+      c .lines-length4 .ensures ∙ ap (λ (n : ℕ). (a .plan .ring + a .plan .whole) * n) processor-size,
     )
 
-bounds : (c : tie.After-lines-length3) → let a = c .before .before .before .before .before .args in (a .plan .servers ≤ 64) × (a .set .count ≤ 64) × (a .plan .ring + a .plan .whole ≤ 64)
+bounds : (c : tie.After-lines-length4) → let a = c .before .before .before .before .before .args in (a .plan .servers ≤ mostTasks) × (a .set .count ≤ mostTasks) × (a .plan .ring + a .plan .whole ≤ mostProcessors)
 bounds c = let s = c .before .before .before .before .before in (s .pre .servers, s .pre .tasks, s .pre .processors)
 
 add-result : tie.Need-add-result
@@ -57,12 +55,11 @@ pub text-length-spec : {M : Type 1} → statement M
 text-length-spec =
     tie.close
     (tie.spec
-    length-requires
-    add-first
     lines-length-requires
     lines-length-requires-2
-    add-lines-length
     lines-length-requires-3
+    add-lines-length
+    lines-length-requires-4
     add-result
     add-result-2
     add-result-3

@@ -1,6 +1,12 @@
 -- `rack::answers::rack_pass` meets its contract: the verdict as numbers, or the question's refusal. Assumes nothing.
-use Rattle.refusals.specs.declared.Outcome.the-variants.{Done, Refused}
-use Rattle.rack.proofs.RackLaws.{pass-told, told-refused}
+use Prim.Native.Nat.{ℕ}
+use mathlib.Core.Path.{_≡_, subst}
+use mathlib.Core.List.{List}
+use Rattle.refusals.specs.declared.Outcome.{Outcome}
+use Rattle.questions.specs.declared.question.PassAnswer.{PassAnswer}
+use Rattle.planfile.specs.OfFile.{passIn}
+use Rattle.rack.specs.Rack.{statusOf, leavesNumbers, verdictNumbers, passNumbers, passTold}
+use Rattle.rack.proofs.RackLaws.{Told, told-by, told-refused}
 use borrow.Author.Needs.{needs}
 use Rattle.rack.proofs.answers.rack_pass.Statement.{statement}
 use Rattle.rack.proofs.answers.rack_pass.Tie as tie
@@ -29,21 +35,25 @@ code-requires c κs = search needs
 same-length : tie.Need-same-length
 same-length c = search needs
 
+-- the numbers of the question's verdict, told with an outcome
+told : (answer tasks : List ℕ) (q R : ℕ) {p : PassAnswer} {o : Outcome} {numbers : List ℕ} {status : ℕ} {left : List ℕ} → p ≡ passIn tasks q R → p .outcome ≡ o
+    → numbers ≡ verdictNumbers (p .verdict) → Told o numbers answer status left
+    → (status ≡ statusOf (passTold tasks q R answer)) × (left ≡ leavesNumbers (passTold tasks q R answer) (passNumbers tasks q R) answer)
+unfolding passTold passNumbers
+told answer tasks q R {o = o} {status = status} {left = left} e f g t =
+    told-by (λ (p : PassAnswer). p .outcome) (λ (p : PassAnswer). verdictNumbers (p .verdict)) answer e f (subst (λ (ns : List ℕ). Told o ns answer status left) g t)
+
 returns : tie.Need-returns
 returns c =
     let a = c .before .before .before .before .before .before .before .before .before .before .before .args in
-    let pass = c .before .before .before .before .before .before .before .before .pass-in in
-    let numbers = c .before .before .before .before .before .before .before .numbers-of in
-    pass-told (a .answer .now) (a .tasks .now) (a .server) (a .reserve) (pass .result) Done (numbers .result) (pass .ensures) (c .before .before .before .before .before .enum-told .given .1) (numbers .ensures) (c .before .before .put-numbers .ensures)
+    told (a .answer .now) (a .tasks .now) (a .server) (a .reserve) (c .before .before .before .before .before .before .before .before .pass-in .ensures) (c .before .before .before .before .before .enum-told .given .1)
+    (c .before .before .before .before .before .before .before .numbers-of .ensures) (c .before .before .put-numbers .ensures)
 
 returns-2 : tie.Need-returns-2
 returns-2 c =
     let a = c .before .before .before .before .before .before .before .before .args in
-    let pass = c .before .before .before .before .before .pass-in in
-    let numbers = c .before .before .before .before .numbers-of in
-    let refusal = c .before .before .outcome .given .0 .0 in
-    pass-told (a .answer .now) (a .tasks .now) (a .server) (a .reserve) (pass .result) (Refused refusal) (numbers .result) (pass .ensures) (c .before .before .outcome .given .1) (numbers .ensures)
-    (told-refused (numbers .result) (a .answer .now) refusal (c .code .ensures))
+    told (a .answer .now) (a .tasks .now) (a .server) (a .reserve) (c .before .before .before .before .before .pass-in .ensures) (c .before .before .outcome .given .1)
+    (c .before .before .before .before .numbers-of .ensures) (told-refused _ (a .answer .now) _ (c .code .ensures))
 
 pub rack-pass-spec : {M : Type 1} → statement M
 rack-pass-spec =

@@ -1,7 +1,12 @@
 -- `rack::answers::rack_who` meets its contract: the question's answer as numbers, or its refusal. Assumes nothing.
-use mathlib.Core.List.{[], _∷_}
-use Rattle.refusals.specs.declared.Outcome.the-variants.{Done, Refused}
-use Rattle.rack.proofs.RackLaws.{who-told, told-refused}
+use Prim.Native.Nat.{ℕ}
+use mathlib.Core.Path.{_≡_}
+use mathlib.Core.List.{List, [], _∷_}
+use Rattle.refusals.specs.declared.Outcome.{Outcome}
+use Rattle.questions.specs.declared.question.WhoAnswer.{WhoAnswer}
+use Rattle.planfile.specs.OfFile.{whoIn}
+use Rattle.rack.specs.Rack.{statusOf, leavesNumbers, whoNumbers, whoTold}
+use Rattle.rack.proofs.RackLaws.{Told, told-by, told-refused}
 use borrow.Author.Needs.{needs}
 use Rattle.rack.proofs.answers.rack_who.Statement.{statement}
 use Rattle.rack.proofs.answers.rack_who.Tie as tie
@@ -27,19 +32,22 @@ code-requires c κs = search needs
 same-length : tie.Need-same-length
 same-length c = search needs
 
+-- the numbers of the question's answer, told with an outcome
+told : (answer tasks : List ℕ) (p x : ℕ) {w : WhoAnswer} {o : Outcome} {status : ℕ} {left : List ℕ} → w ≡ whoIn tasks p (record { 0 = x }) → w .outcome ≡ o
+    → Told o (w .server ∷ w .left ∷ []) answer status left
+    → (status ≡ statusOf (whoTold tasks p x answer)) × (left ≡ leavesNumbers (whoTold tasks p x answer) (whoNumbers tasks p x) answer)
+unfolding whoTold whoNumbers
+told answer tasks p x = told-by (λ (w : WhoAnswer). w .outcome) (λ (w : WhoAnswer). w .server ∷ w .left ∷ []) answer
+
 returns : tie.Need-returns
 returns c =
     let a = c .before .before .before .before .before .before .before .before .before .before .args in
-    let who = c .before .before .before .before .before .before .before .who-in in
-    who-told (a .answer .now) (a .tasks .now) (a .processor) (record { 0 = a .tick }) (who .result) Done (who .ensures) (c .before .before .before .before .before .enum-told .given .1) (c .before .before .put-numbers .ensures)
+    told (a .answer .now) (a .tasks .now) (a .processor) (a .tick) (c .before .before .before .before .before .before .before .who-in .ensures) (c .before .before .before .before .before .enum-told .given .1) (c .before .before .put-numbers .ensures)
 
 returns-2 : tie.Need-returns-2
 returns-2 c =
     let a = c .before .before .before .before .before .before .before .args in
-    let who = c .before .before .before .before .who-in in
-    let refusal = c .before .before .outcome .given .0 .0 in
-    who-told (a .answer .now) (a .tasks .now) (a .processor) (record { 0 = a .tick }) (who .result) (Refused refusal) (who .ensures) (c .before .before .outcome .given .1)
-    (told-refused (who .result .server ∷ who .result .left ∷ []) (a .answer .now) refusal (c .code .ensures))
+    told (a .answer .now) (a .tasks .now) (a .processor) (a .tick) (c .before .before .before .before .who-in .ensures) (c .before .before .outcome .given .1) (told-refused _ (a .answer .now) _ (c .code .ensures))
 
 pub rack-who-spec : {M : Type 1} → statement M
 rack-who-spec =

@@ -1,0 +1,87 @@
+-- The loop's invariant: the figures of the first `i` lines are filled in.
+-- Assumes nothing.
+use Prim.Native.Nat.{ℕ, _+_, _*_, _-_, _≤_}
+use mathlib.Core.Path.{_∙_, ap}
+use native.Mathlib.Omega.{arith}
+use Rattle.digits.specs.Stored.{stored}
+use Rattle.tasks.specs.Set.{mostTasks}
+use Rattle.plantext.specs.Text.{placedFigures}
+use Rattle.plantext.proofs.FillLaws.{Filled, filled-none, filled-next, filled-all, placed-each, placed-at}
+use borrow.Author.Needs.{needs}
+use Rattle.plantext.proofs.values.placed_values.Statement.{statement}
+use Rattle.plantext.proofs.values.placed_values.Tie as tie
+
+abbrev Inv-loop : tie.InvT-loop
+Inv-loop server set values₀ n i₀ values i = Filled (placedFigures (set .tasks) server) (2 * mostTasks) n values i
+
+abbrev μ-loop : tie.MeasureT-loop
+μ-loop server set values₀ n i₀ values i = n - i
+
+loop-holds : tie.Need-loop-holds Inv-loop μ-loop
+loop-holds c = filled-none _ _ _
+
+mul-task : tie.Need-mul-task Inv-loop μ-loop
+mul-task c = search needs
+
+element-copy-out-task : tie.Need-element-copy-out-task Inv-loop μ-loop
+element-copy-out-task c = omega arith
+
+cast-t14 : tie.Need-cast-t14 Inv-loop μ-loop
+cast-t14 c = search needs
+
+mul-t10 : tie.Need-mul-t10 Inv-loop μ-loop
+mul-t10 c = search needs
+
+shared-slice-read-t16 : tie.Need-shared-slice-read-t16 Inv-loop μ-loop
+shared-slice-read-t16 c = omega arith
+
+slice-aggregate-put-figures : tie.Need-slice-aggregate-put-figures Inv-loop μ-loop
+slice-aggregate-put-figures c = search needs
+
+mul-put-figures : tie.Need-mul-put-figures Inv-loop μ-loop
+mul-put-figures c = omega arith
+
+slice-aggregate-put-figures-2 : tie.Need-slice-aggregate-put-figures-2 Inv-loop μ-loop
+slice-aggregate-put-figures-2 c = search needs
+
+put-figures-requires : tie.Need-put-figures-requires Inv-loop μ-loop
+put-figures-requires c κs = omega (arith, c .before .before .before .before .before .before .loop .inv .same)
+
+add-i : tie.Need-add-i Inv-loop μ-loop
+add-i c = omega arith
+
+loop-less : tie.Need-loop-less Inv-loop μ-loop
+loop-less c = omega arith
+
+loop-again : tie.Need-loop-again Inv-loop μ-loop
+loop-again c =
+    let turn = c .before .before .before .before .before .before .before in
+    let a = turn .before .before .before .args in
+    filled-next (placedFigures (a .t1 .tasks) (a .server .now)) 2 (placed-each (a .t1 .tasks) (a .server .now)) (omega arith) (turn .before .loop .inv) (turn .loop-test .taken)
+    (c .before .put-figures .ensures ∙ ap (stored (turn .before .loop .values) (2 * turn .before .loop .i)) (placed-at (a .t1 .tasks) (a .server .now) (turn .before .loop .i))) (c .before .put-figures .kept .0)
+
+returns : tie.Need-returns Inv-loop μ-loop
+returns c =
+    let a = c .before .before .before .args in
+    filled-all (placedFigures (a .t1 .tasks) (a .server .now)) 2 (placed-each (a .t1 .tasks) (a .server .now)) (omega arith) (c .before .loop .inv) (c .loop-test .left)
+
+pub placed-values-spec : {M : Type 1} → statement M
+placed-values-spec =
+    tie.close
+    (tie.spec
+    Inv-loop
+    μ-loop
+    loop-holds
+    mul-task
+    element-copy-out-task
+    cast-t14
+    mul-t10
+    shared-slice-read-t16
+    slice-aggregate-put-figures
+    mul-put-figures
+    slice-aggregate-put-figures-2
+    put-figures-requires
+    add-i
+    loop-less
+    loop-again
+    returns)

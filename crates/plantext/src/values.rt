@@ -1,0 +1,93 @@
+// The figures of a plan's lines, one line behind the other, as the writer of lines takes them.
+// What they are stands in specs/Text.antt. Each function takes the rows that its lines show, not the whole plan.
+use framewrite::MARK;
+use tasks::set::TaskSet;
+ghost use mathlib.Core.Path.{_≡_};
+ghost use mathlib.Core.Bool.{cond};
+ghost use Prim.Native.Nat.{_+_, _*_, _≤_};
+ghost use lib.Dec.{ltb};
+ghost use lib.ListN.{length as count};
+ghost use Rattle.digits.specs.Stored.{stored};
+ghost use Rattle.tasks.specs.Set.{mostTasks, mostProcessors};
+ghost use Rattle.plantext.specs.Text.{mark, filled, serverFigures, placedFigures, processorFigures};
+
+// Copies figures to a place among numbers.
+pub fn put_figures(numbers: &mut [u64], at: usize, figures: &[u64])
+    requires { ⌜ at + count (now figures) ≤ count (now numbers) ⌝ }
+    ensures { λ r. ⌜ now (numbers .exit) ≡ stored (now (numbers .entry)) at (now (figures .entry)) ⌝ }
+{
+    let mut i = 0;
+    while i < figures.len() {
+        let j = at + i;
+        numbers[j] = figures[i];
+        i += 1;
+    }
+}
+
+// The ring start of a server, or the mark where it has a whole processor.
+fn start_or_mark(reserve: u64, slot: u64, start: u64) -> u64
+    ensures { λ r. ⌜ r ≡ cond (ltb reserve slot) start mark ⌝ }
+{
+    if reserve < slot {
+        return start;
+    }
+    MARK
+}
+
+// The figures of the 12 lines, by server.
+pub fn server_values(
+    reserve: &[u64],
+    start: &[u64],
+    tasks: &[u64],
+    n: usize,
+    slot: u64,
+) -> [u64; 4 * TaskSet::MOST_TASKS]
+    requires { ⌜ (n ≤ mostTasks) × (n ≤ count (now reserve)) × (n ≤ count (now start)) × (n ≤ count (now tasks)) ⌝ }
+    ensures { λ r. ⌜ r ≡ filled (4 * mostTasks) (serverFigures (now (reserve .entry)) (now (start .entry)) (now (tasks .entry)) slot) n ⌝ }
+{
+    let mut values = [0; 4 * TaskSet::MOST_TASKS];
+    let mut i = 0;
+    while i < n {
+        let begin = start_or_mark(reserve[i], slot, start[i]);
+        let figures = [i as u64 + 1, reserve[i], begin, tasks[i]];
+        put_figures(&mut values, 4 * i, &figures);
+        i += 1;
+    }
+    values
+}
+
+// The figures of the 13 lines, in file order.
+pub fn placed_values(set: TaskSet, server: &[u64]) -> [u64; 2 * TaskSet::MOST_TASKS]
+    requires { ⌜ (set .count ≤ mostTasks) × (set .count ≤ count (now server)) ⌝ }
+    ensures { λ r. ⌜ r ≡ filled (2 * mostTasks) (placedFigures (set .tasks) (now (server .entry))) (set .count) ⌝ }
+{
+    let mut values = [0; 2 * TaskSet::MOST_TASKS];
+    let n = set.count;
+    let mut i = 0;
+    while i < n {
+        let task = set.tasks[i];
+        let figures = [task.id as u64, server[i]];
+        put_figures(&mut values, 2 * i, &figures);
+        i += 1;
+    }
+    values
+}
+
+// The figures of the 14 lines, by processor.
+pub fn processor_values(
+    first: &[u64],
+    duration: &[u64],
+    n: usize,
+) -> [u64; 3 * TaskSet::MOST_PROCESSORS as usize]
+    requires { ⌜ (n ≤ mostProcessors) × (n ≤ count (now first)) × (n ≤ count (now duration)) ⌝ }
+    ensures { λ r. ⌜ r ≡ filled (3 * mostProcessors) (processorFigures (now (first .entry)) (now (duration .entry))) n ⌝ }
+{
+    let mut values = [0; 3 * TaskSet::MOST_PROCESSORS as usize];
+    let mut i = 0;
+    while i < n {
+        let figures = [i as u64 + 1, first[i], duration[i]];
+        put_figures(&mut values, 3 * i, &figures);
+        i += 1;
+    }
+    values
+}
