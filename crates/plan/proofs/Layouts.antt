@@ -9,11 +9,11 @@ use borrow.Author.Tests.{lt-ltb, le-ltb}
 use lib.ListN.{length, take}
 use Rattle.laws.proofs.Orders.{le-or-lt}
 use Rattle.wholes.proofs.CeilingLaws.{ceiling-least}
-use Rattle.servers.specs.Padded.{padded, upTo}
-use Rattle.servers.specs.Members.{memberLoads}
-use Rattle.servers.specs.Placement.{loadsIn}
+use Rattle.members.specs.Padded.{padded, upTo}
+use Rattle.members.specs.Members.{memberLoads}
+use Rattle.members.specs.Loads.{loadsIn}
 use Rattle.servers.specs.declared.Servers.{Servers}
-use Rattle.servers.specs.declared.members.Members.{Members}
+use Rattle.members.specs.declared.Members.{Members}
 use Rattle.ring.specs.Slotted.{SlottedFirst}
 use Rattle.ring.specs.Reserves.{ringTicks, wholes, ringProcessors, processorsOf}
 use Rattle.ring.specs.Who.{firstReserve}

@@ -11,11 +11,11 @@ use Rattle.refusals.specs.declared.Refusal.the-variants.{Full, Ask}
 use Rattle.refusals.specs.declared.Outcome.{Outcome}
 use Rattle.refusals.specs.declared.Outcome.the-variants.{Done, Refused}
 use Rattle.demand.specs.Load.{Sound, Every}
-use Rattle.servers.specs.Members.{membersOf, memberLoads, Sized}
+use Rattle.members.specs.Members.{membersOf, memberLoads, Sized}
 use Rattle.servers.specs.Placement.{serversIn}
 use Rattle.servers.specs.Reserve.{serversOf}
 use Rattle.servers.specs.declared.Servers.{Servers}
-use Rattle.servers.specs.declared.members.Members.{Members}
+use Rattle.members.specs.declared.Members.{Members}
 use Rattle.servers.proofs.ReserveLaws.{reserves-count}
 use Rattle.tasks.specs.declared.set.TaskSet.{TaskSet}
 use Rattle.tasks.specs.Set.{mostTasks}

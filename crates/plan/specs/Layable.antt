@@ -4,9 +4,9 @@ use Prim.Native.Nat.{ℕ, _≤_}
 use mathlib.Core.Path.{_≡_}
 use lib.ListN.{take}
 use Rattle.tasks.specs.Set.{mostTasks}
-use Rattle.servers.specs.Padded.{padded}
+use Rattle.members.specs.Padded.{padded}
 use Rattle.servers.specs.declared.Servers.{Servers}
-use Rattle.servers.specs.declared.members.Members.{Members}
+use Rattle.members.specs.declared.Members.{Members}
 use Rattle.ring.specs.Slotted.{SlottedFirst}
 
 pub record Layable (m : Members) (served : Servers) (S : ℕ) : Type 0 where

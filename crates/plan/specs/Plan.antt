@@ -8,8 +8,9 @@ use lib.Dec.{ltb}
 use Rattle.demand.specs.Load.{Load}
 use Rattle.tasks.specs.declared.set.TaskSet.{TaskSet}
 use Rattle.tasks.specs.Set.{mostTasks}
-use Rattle.servers.specs.Placement.{loadsIn, placementOf}
-use Rattle.servers.specs.Padded.{padded, upTo}
+use Rattle.members.specs.Loads.{loadsIn}
+use Rattle.servers.specs.Placement.{placementOf}
+use Rattle.members.specs.Padded.{padded, upTo}
 use Rattle.servers.specs.Reserve.{reservesOf}
 use Rattle.ring.specs.Reserves.{reserveOf, wholes, startOf, ringProcessors, idlePositions, processorsOf}
 use Rattle.ring.specs.Who.{firstReserve}

@@ -1,21 +1,21 @@
 // From placed and sized servers to the plan: ring starts, numbers of tasks, first reserves.
 // What they mean stands in specs/Plan.antt. The reserves stand in a slice, of which the first n count.
 use crate::plan::Plan;
+use members::Members;
+use members::gather;
 use ring::reserves::ring_processors;
 use ring::reserves::ring_ticks;
 use ring::reserves::start;
 use ring::reserves::whole_count;
 use servers::Servers;
-use servers::members::Members;
-use servers::members::gather;
 use tasks::set::TaskSet;
 ghost use mathlib.Core.Path.{_≡_};
 ghost use Prim.Native.Nat.{ℕ, _≤_};
 ghost use lib.ListN.{length, take};
 ghost use Rattle.tasks.specs.Set.{mostTasks};
-ghost use Rattle.servers.specs.Padded.{padded, upTo};
-ghost use Rattle.servers.specs.Members.{memberLoads};
-ghost use Rattle.servers.specs.Placement.{loadsIn};
+ghost use Rattle.members.specs.Padded.{padded, upTo};
+ghost use Rattle.members.specs.Members.{memberLoads};
+ghost use Rattle.members.specs.Loads.{loadsIn};
 ghost use Rattle.ring.specs.Slotted.{SlottedFirst};
 ghost use Rattle.ring.specs.Reserves.{processorsOf};
 ghost use Rattle.ring.specs.Who.{firstReserve};

@@ -18,10 +18,11 @@ use Rattle.verdict.specs.Verdict.{verdictOf}
 use Rattle.verdict.specs.Reserve.{Smallest}
 use Rattle.verdict.specs.Claims.{Asked}
 use Rattle.verdict.proofs.Claims.{verdict-means}
-use Rattle.servers.specs.Placement.{loadsIn, serversIn}
+use Rattle.members.specs.Loads.{loadsIn}
+use Rattle.servers.specs.Placement.{serversIn}
 use Rattle.servers.specs.Claims.{Parted}
 use Rattle.servers.proofs.Claims.{each-in-one, every-passes, smallest-reserves}
-use Rattle.servers.proofs.LoadLaws.{every-in}
+use Rattle.members.proofs.LoadLaws.{every-in}
 use Rattle.ring.specs.declared.clock.Tick.{Tick}
 use Rattle.ring.specs.Who.{whoOf}
 use Rattle.ring.specs.Reserves.{ringProcessors, wholes, processorsOf}

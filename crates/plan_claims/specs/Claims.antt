@@ -13,7 +13,7 @@ use Rattle.demand.specs.Passes.{Passes}
 use Rattle.verdict.specs.declared.answer.Verdict.the-variants.{Yes, No}
 use Rattle.verdict.specs.Reserve.{Smallest}
 use Rattle.verdict.specs.Claims.{FailsFirst}
-use Rattle.servers.specs.Placement.{loadsIn}
+use Rattle.members.specs.Loads.{loadsIn}
 use Rattle.ring.specs.declared.clock.Tick.{Tick}
 use Rattle.ring.specs.Reserves.{ringProcessors, wholes}
 use Rattle.ring_claims.specs.Serves.{Serves}

@@ -29,7 +29,8 @@ use Rattle.demand.specs.Supply.{gap, supplyPast, supply}
 use Rattle.verdict.specs.Reserve.{enough, smallestReserve}
 use Rattle.verdict.specs.Search.{lastUpTo, firstUpTo, short}
 use Rattle.verdict.specs.Verdict.{failing, ownHorizon, firstFailing, verdictAt, verdictOf, passing}
-use Rattle.servers.specs.Placement.{loadsIn, serversIn, takes, fit, placeFrom, placementOf}
+use Rattle.members.specs.Loads.{loadsIn}
+use Rattle.servers.specs.Placement.{serversIn, takes, fit, placeFrom, placementOf}
 use Rattle.servers.specs.Reserve.{reservesOf}
 use Rattle.ring.specs.Cover.{covers, covererUpTo, standAt}
 use Rattle.ring.specs.Phase.{phase}
@@ -37,7 +38,7 @@ use Rattle.ring.specs.Reserves.{ringTicks, wholes}
 use Rattle.ring.specs.Who.{wholeFrom, whoOf, firstReserve}
 use Rattle.rows.specs.Charge.{loadOf, loadsOfSet, lossOf}
 use Rattle.rows.specs.Rows.{slotRow, tightRow, horizonOf, horizonRow, chargedOutcome}
-use Rattle.servers.specs.Padded.{upTo}
+use Rattle.members.specs.Padded.{upTo}
 use Rattle.plan.specs.Plan.{laidOut, setPlacement, setReserves, planMade}
 use Rattle.plancheck.specs.Agrees.{sameFigures, sameServers, sameProcessors, agrees, makes}
 use Rattle.plan.specs.Planner.{needed, fullRow, planOutcome, planOf}

@@ -13,8 +13,9 @@ use Rattle.demand.specs.Supply.{supplyPast, supply}
 use Rattle.verdict.specs.Search.{firstUpTo}
 use Rattle.verdict.specs.Verdict.{failing, ownHorizon, firstFailing, verdictAt, verdictOf, passing}
 use Rattle.verdict.specs.Reserve.{enough, smallestReserve}
-use Rattle.servers.specs.Placement.{loadsIn, serversIn, takes, fit, placeFrom, placementOf}
-use Rattle.servers.specs.Padded.{upTo}
+use Rattle.members.specs.Loads.{loadsIn}
+use Rattle.servers.specs.Placement.{serversIn, takes, fit, placeFrom, placementOf}
+use Rattle.members.specs.Padded.{upTo}
 use Rattle.servers.specs.Reserve.{reservesOf}
 use Rattle.ring.specs.Reserves.{ringTicks, wholes}
 use Rattle.ring_claims.specs.Serves.{RingServer, WholeProcessor}

@@ -13,12 +13,12 @@ use Rattle.tasks.specs.Set.{mostTasks}
 use Rattle.laws.proofs.Tests.{and-left, and-right}
 use Rattle.demand.specs.Load.{Load}
 use Rattle.demand.specs.Supply.{Allowed}
-use Rattle.servers.specs.Members.{membersOf, memberLoads, Sized}
-use Rattle.servers.specs.Placement.{loadsIn}
-use Rattle.servers.specs.declared.members.Members.{Members}
-use Rattle.servers.proofs.MemberLaws.{members-back}
-use Rattle.servers.proofs.LoadLaws.{every-in, in-few}
-use Rattle.servers.proofs.PartLaws.{Fine, all-fine, holds-sized}
+use Rattle.members.specs.Members.{membersOf, memberLoads, Sized}
+use Rattle.members.specs.Loads.{loadsIn}
+use Rattle.members.specs.declared.Members.{Members}
+use Rattle.members.proofs.MemberLaws.{members-back}
+use Rattle.members.proofs.LoadLaws.{every-in, in-few}
+use Rattle.members.proofs.PartLaws.{Fine, all-fine, holds-sized}
 use Rattle.tasks.specs.declared.set.TaskSet.{TaskSet}
 use Rattle.plan.specs.declared.plan.Plan.{Plan}
 use Rattle.rows.specs.Charge.{loadsOfSet, lossOf}

@@ -11,7 +11,7 @@ use Rattle.verdict.specs.Verdict.{verdictOf}
 use Rattle.ring.specs.declared.clock.Tick.{Tick}
 use Rattle.ring.specs.declared.cover.Stand.{Stand}
 use Rattle.ring.specs.Who.{whoOf}
-use Rattle.servers.specs.Placement.{loadsIn}
+use Rattle.members.specs.Loads.{loadsIn}
 use Rattle.tasks.specs.declared.set.Header.{Header}
 use Rattle.tasks.specs.declared.set.TaskSet.{TaskSet}
 use Rattle.plan.specs.declared.plan.Plan.{Plan}

@@ -15,7 +15,7 @@ use Rattle.ring.specs.declared.cover.Stand.{Stand}
 use Rattle.ring.specs.Slotted.{SlottedFirst}
 use Rattle.ring.specs.Reserves.{processorsOf}
 use Rattle.ring.specs.Who.{whoOf}
-use Rattle.servers.specs.Placement.{loadsIn}
+use Rattle.members.specs.Loads.{loadsIn}
 use Rattle.tasks.specs.declared.set.TaskSet.{TaskSet}
 use Rattle.plan.specs.declared.plan.Plan.{Plan}
 use Rattle.questions.specs.declared.question.WhoAnswer.{WhoAnswer}

@@ -1,5 +1,7 @@
 // The two questions about a set and its plan: who runs on a processor at a tick, and does a server pass with a reserve.
 // What they mean stands in specs/Question.antt. Before each stands the function for a plan that is checked already.
+use members::gather;
+use members::own_horizon;
 use plan::plan::Plan;
 use plancheck::makes_plan;
 use refusals::Outcome;
@@ -8,8 +10,6 @@ use ring::clock::Tick;
 use ring::cover::Stand;
 use rows::charge;
 use rows::rows::horizon;
-use servers::members::gather;
-use servers::members::own_horizon;
 use tasks::set::TaskSet;
 use verdict::answer::Reading;
 use verdict::answer::Verdict;
@@ -18,7 +18,7 @@ ghost use mathlib.Core.Bool.{true};
 ghost use lib.ListN.{take};
 ghost use Rattle.tasks.specs.Set.{mostTasks};
 ghost use Rattle.ring.specs.Who.{whoOf};
-ghost use Rattle.servers.specs.Placement.{loadsIn};
+ghost use Rattle.members.specs.Loads.{loadsIn};
 ghost use Rattle.verdict.specs.Verdict.{verdictOf};
 ghost use Rattle.rows.specs.Charge.{loadsOfSet, lossOf};
 ghost use Rattle.plan.specs.Plan.{setPlacement, setReserves};

@@ -11,9 +11,9 @@ use lib.Dec.{leb, ltb}
 use lib.ListN.{length, take, getD, length-map}
 use lib.Seq.{take-suc, length-take-le}
 use Rattle.laws.proofs.Tests.{or-left, or-right}
-use Rattle.servers.specs.declared.members.Members.{Members}
-use Rattle.servers.specs.Members.{membersOf, withLoad}
-use Rattle.servers.proofs.MemberLaws.{members-more}
+use Rattle.members.specs.declared.Members.{Members}
+use Rattle.members.specs.Members.{membersOf, withLoad}
+use Rattle.members.proofs.MemberLaws.{members-more}
 use Rattle.tasks.specs.declared.set.Header.{Header}
 use Rattle.tasks.specs.declared.set.Task.{Task}
 use Rattle.tasks.specs.declared.set.TaskSet.{TaskSet}

@@ -22,12 +22,12 @@ use Rattle.demand.specs.Load.{Load, Sound, Every, Loaded, loadAt}
 use Rattle.demand.proofs.Demand.{every-at}
 use Rattle.verdict.specs.Verdict.{ownHorizon}
 use Rattle.verdict.proofs.Verdict.{own-horizon}
-use Rattle.servers.specs.Padded.{padded}
-use Rattle.servers.specs.Members.{membersOf, memberLoads, Sized}
-use Rattle.servers.specs.declared.members.Members.{Members}
-use Rattle.servers.proofs.PaddedLaws.{padded-length, padded-take}
-use Rattle.servers.proofs.MemberLaws.{members-back}
-use Rattle.servers.proofs.PartLaws.{slot-divides}
+use Rattle.members.specs.Padded.{padded}
+use Rattle.members.specs.Members.{membersOf, memberLoads, Sized}
+use Rattle.members.specs.declared.Members.{Members}
+use Rattle.members.proofs.PaddedLaws.{padded-length, padded-take}
+use Rattle.members.proofs.MemberLaws.{members-back}
+use Rattle.members.proofs.PartLaws.{slot-divides}
 use Rattle.tasks.specs.declared.set.Header.{Header}
 use Rattle.tasks.specs.declared.set.Task.{Task}
 use Rattle.tasks.specs.declared.set.TaskSet.{TaskSet}

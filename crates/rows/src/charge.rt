@@ -1,13 +1,13 @@
 // House charging applied to a set: a task's effective cost and deadline, the entry loss, and the loads of all tasks.
 // What they mean stands in specs/Charge.antt.
-use servers::members::Members;
-use servers::members::with_load;
+use members::Members;
+use members::with_load;
 use tasks::set::Header;
 use tasks::set::Task;
 use tasks::set::TaskSet;
 ghost use mathlib.Core.Path.{_≡_};
 ghost use Prim.Native.Nat.{_≤_};
-ghost use Rattle.servers.specs.Members.{membersOf};
+ghost use Rattle.members.specs.Members.{membersOf};
 ghost use Rattle.rows.specs.Charge.{loadOf, loadsOfSet, lossOf};
 ghost use Rattle.rows.specs.Rows.{Chargeable};
 

@@ -14,15 +14,16 @@ use Rattle.verdict.specs.Claims.{Asked}
 use Rattle.verdict.specs.Search.{NoneIn, First}
 use Rattle.verdict.specs.Reserve.{Smallest}
 use Rattle.verdict.proofs.Claims.{passing-means, reserve-means}
-use Rattle.servers.specs.Placement.{loadsIn, serversIn, takes, fit, placeFrom, placementOf}
+use Rattle.members.specs.Loads.{loadsIn}
+use Rattle.servers.specs.Placement.{serversIn, takes, fit, placeFrom, placementOf}
 use Rattle.servers.specs.Reserve.{reserveIn, reservesOf}
 use Rattle.servers.specs.Claims.{Parted, EachInOne, EveryPasses, PassesWith, Lowest, Opened, FirstFit, SmallestReserves, ServerLoads}
-use Rattle.servers.proofs.LoadLaws.{every-in}
-use Rattle.servers.proofs.PartLaws.{own-in-divides}
+use Rattle.members.proofs.LoadLaws.{every-in}
+use Rattle.members.proofs.PartLaws.{own-in-divides}
 use Rattle.servers.proofs.FitLaws.{fit-view}
 use Rattle.servers.proofs.PlacementLaws.{placement-length, placement-more, by-last, placement-grows}
 use Rattle.servers.proofs.StandingLaws.{OldOrNew, TakesOrNew, old-or-new, AllPass, parted-more, few-more, all-pass-more}
-use Rattle.servers.proofs.PaddedLaws.{up-length, up-at}
+use Rattle.members.proofs.PaddedLaws.{up-length, up-at}
 
 -- first fit picks a server that takes the task, or a new one
 fit-takes-or-new : (ls : List Load) (S L : ℕ) (placement : List ℕ) (l : Load) → TakesOrNew ls S L placement l (fit ls S L placement l)

@@ -1,8 +1,4 @@
--- The laws of padded numbers, of a server's loads, of placement and of sizing.
-pub mod PaddedLaws
-pub mod MemberLaws
-pub mod LoadLaws
-pub mod PartLaws
+-- The laws of placement and of sizing.
 pub mod FitLaws
 pub mod PlacementLaws
 pub mod StandingLaws

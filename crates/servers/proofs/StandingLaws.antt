@@ -4,18 +4,28 @@ use native.Mathlib.Omega.{arith}
 use native.Mathlib.Decide.{decLt, decLe, ℕ-discrete}
 use mathlib.Core.Path.{_≡_, refl, sym, ap, _∙_}
 use mathlib.Core.Logic.{_⊎_, inl, inr, ⊎-elim}
-use mathlib.Core.Bool.{true}
+use mathlib.Core.Bool.{Bool, true}
 use mathlib.Core.List.{List, [], _∷_, _++_}
 use lib.ListN.{length, getD, length-append, List·getD-append}
 use lib.Seq.{getD-append-seam}
+use borrow.Author.Tests.{ne-eqb}
 use Rattle.demand.specs.Load.{Load, Sound}
 use Rattle.demand.proofs.Claims.{alone-passes}
 use Rattle.verdict.specs.Verdict.{passing}
 use Rattle.verdict.proofs.Verdict.{passes-passing}
-use Rattle.servers.specs.Placement.{loadsIn, serversIn, takes}
+use Rattle.members.specs.Loads.{keep, loadsIn}
+use Rattle.servers.specs.Placement.{serversIn, takes}
 use Rattle.servers.specs.Claims.{Parted}
-use Rattle.servers.proofs.LoadLaws.{in-joined, in-apart, in-none}
+use Rattle.members.proofs.LoadLaws.{in-joined, in-apart}
 use Rattle.servers.proofs.PlacementLaws.{servers-more}
+
+-- a server past the last has no load
+in-none : (ls : List Load) (placement : List ℕ) (q : ℕ) → serversIn placement < q → loadsIn ls placement q ≡ []
+unfolding loadsIn serversIn
+in-none [] placement q h = refl
+in-none (l ∷ ls) [] q h = refl
+in-none (l ∷ ls) (a ∷ placement) q h =
+    ap (λ (b : Bool). keep b l (loadsIn ls placement q)) (ne-eqb a q (omega arith)) ∙ in-none ls placement q (omega arith)
 
 -- q is a server of the placement, or a new one
 abbrev pub OldOrNew : (placement : List ℕ) (q : ℕ) → Type 0

@@ -8,7 +8,8 @@ use Rattle.demand.specs.Demand.{jobs, demand}
 use Rattle.demand.specs.Supply.{supplyPast, supply}
 use Rattle.verdict.specs.Search.{firstUpTo}
 use Rattle.verdict.specs.Verdict.{failing, ownHorizon, firstFailing, verdictAt, verdictOf, passing}
-use Rattle.servers.specs.Placement.{loadsIn, serversIn, takes, fit, placeFrom, placementOf}
+use Rattle.members.specs.Loads.{loadsIn}
+use Rattle.servers.specs.Placement.{serversIn, takes, fit, placeFrom, placementOf}
 
 -- a task that server 1 cannot take goes to 2, and a later one that it can take goes back to 1
 pub goes-back :

@@ -10,7 +10,8 @@ use Rattle.demand.specs.Passes.{Passes}
 use Rattle.verdict.specs.Claims.{Asked}
 use Rattle.verdict.specs.Verdict.{ownHorizon}
 use Rattle.verdict.specs.Reserve.{Smallest}
-use Rattle.servers.specs.Placement.{loadsIn, serversIn, placementOf}
+use Rattle.members.specs.Loads.{loadsIn}
+use Rattle.servers.specs.Placement.{serversIn, placementOf}
 use Rattle.servers.specs.Reserve.{reservesOf}
 
 -- a placement names one server for each task, among those that there are, and no server is empty

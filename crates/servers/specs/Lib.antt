@@ -1,5 +1,3 @@
-pub mod Padded
-pub mod Members
 pub mod Placement
 pub mod Reserve
 pub mod Claims

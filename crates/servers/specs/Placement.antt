@@ -2,23 +2,13 @@
 -- Document 01, "From tasks to servers to ring", rule 1 (the report's Alg. 1 and Ineq. 1).
 use Prim.Native.Nat.{ℕ, suc, max}
 use mathlib.Core.List.{List, [], _∷_, _++_}
-use mathlib.Core.Bool.{Bool, true, false}
-use lib.Dec.{eqb}
+use mathlib.Core.Bool.{Bool}
 use Rattle.demand.specs.Load.{Load}
 use Rattle.verdict.specs.Search.{firstUpTo, orElse}
 use Rattle.verdict.specs.Verdict.{passing}
-use Rattle.servers.specs.Padded.{padded}
+use Rattle.members.specs.Padded.{padded}
+use Rattle.members.specs.Loads.{loadsIn}
 use Rattle.servers.specs.declared.placement.Placed.{Placed}
-
-abbrev pub keep : Bool → Load → List Load → List Load
-keep true l ls = l ∷ ls
-keep false l ls = ls
-
--- the loads of server q, in file order; a task past the placement's end is in no server yet
-unfoldable pub loadsIn : List Load → (placement : List ℕ) → ℕ → List Load
-loadsIn [] placement q = []
-loadsIn (l ∷ ls) [] q = []
-loadsIn (l ∷ ls) (a ∷ placement) q = keep (eqb a q) l (loadsIn ls placement q)
 
 -- how many servers there are: they are numbered without gaps
 unfoldable pub serversIn : (placement : List ℕ) → ℕ

@@ -4,8 +4,9 @@ use Prim.Native.Nat.{ℕ}
 use mathlib.Core.List.{List}
 use Rattle.demand.specs.Load.{Load}
 use Rattle.verdict.specs.Reserve.{smallestReserve}
-use Rattle.servers.specs.Padded.{padded, upTo}
-use Rattle.servers.specs.Placement.{loadsIn, serversIn, placementOf}
+use Rattle.members.specs.Padded.{padded, upTo}
+use Rattle.members.specs.Loads.{loadsIn}
+use Rattle.servers.specs.Placement.{serversIn, placementOf}
 use Rattle.servers.specs.declared.Servers.{Servers}
 
 -- the smallest allowed reserve with which server q of a placement passes

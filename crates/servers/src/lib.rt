@@ -5,10 +5,9 @@ use crate::sizing::size;
 use tasks::set::TaskSet;
 ghost use mathlib.Core.Path.{_≡_};
 ghost use Rattle.demand.specs.Load.{loadsOf};
-ghost use Rattle.servers.specs.Members.{Sized};
+ghost use Rattle.members.specs.Members.{Sized};
 ghost use Rattle.servers.specs.Reserve.{serversOf};
 
-pub mod members; // members.rt: the loads of one server
 pub mod placement; // placement.rt: first fit
 pub mod sizing; // sizing.rt: the smallest reserve of each server
 

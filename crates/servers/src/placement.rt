@@ -1,14 +1,14 @@
 // Placement by first fit in file order: whether a server takes a task, the server for a task, and the servers of all tasks.
 // What they mean stands in specs/Placement.antt. The server of each task stands in a slice, of which the first i are placed.
-use crate::members::gather;
-use crate::members::own_horizon;
+use members::gather;
+use members::own_horizon;
 use tasks::set::TaskSet;
 ghost use mathlib.Core.Path.{_≡_};
 ghost use Prim.Native.Nat.{_+_, _≤_};
 ghost use lib.ListN.{length, take};
 ghost use Rattle.demand.specs.Load.{loadAt, loadsOf};
 ghost use Rattle.tasks.specs.Set.{mostTasks};
-ghost use Rattle.servers.specs.Members.{Sized};
+ghost use Rattle.members.specs.Members.{Sized};
 ghost use Rattle.servers.specs.Placement.{takes, fit, serversIn, placementOf, placed};
 
 // Server q passes with task i added. The task is added before the horizon is taken.

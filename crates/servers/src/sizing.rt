@@ -1,15 +1,15 @@
 // The smallest reserve of each server of a placement. What it means stands in specs/Reserve.antt.
 // The server of each task stands in a slice, of which the first n count.
-use crate::members::gather;
-use crate::members::own_horizon;
+use members::gather;
+use members::own_horizon;
 use tasks::set::TaskSet;
 ghost use mathlib.Core.Path.{_≡_};
 ghost use Prim.Native.Nat.{_≤_};
 ghost use lib.ListN.{length, take};
 ghost use Rattle.demand.specs.Load.{loadsOf};
-ghost use Rattle.servers.specs.Padded.{padded, upTo};
+ghost use Rattle.members.specs.Padded.{padded, upTo};
 ghost use Rattle.tasks.specs.Set.{mostTasks};
-ghost use Rattle.servers.specs.Members.{Sized};
+ghost use Rattle.members.specs.Members.{Sized};
 ghost use Rattle.servers.specs.Reserve.{reserveIn};
 
 // The smallest allowed reserve with which server q passes.

@@ -4,9 +4,9 @@ use Prim.Native.Nat.{ℕ, _-_, _≤_}
 use mathlib.Core.Path.{refl}
 use native.Mathlib.Omega.{arith}
 use lib.ListN.{length, take}
-use Rattle.servers.specs.Members.{memberLoads}
-use Rattle.servers.specs.Placement.{loadsIn}
-use Rattle.servers.proofs.PaddedLaws.{Filled, filled-none, filled-next, filled-all}
+use Rattle.members.specs.Members.{memberLoads}
+use Rattle.members.specs.Loads.{loadsIn}
+use Rattle.members.proofs.PaddedLaws.{Filled, filled-none, filled-next, filled-all}
 use borrow.Author.Needs.{needs}
 use Rattle.plan.proofs.layout.task_counts.Statement.{statement}
 use Rattle.plan.proofs.layout.task_counts.Tie as tie

@@ -2,8 +2,8 @@
 -- Assumes nothing.
 use borrow.Author.Needs.{needs}
 use mathlib.Core.Path.{ap}
-use Rattle.servers.specs.declared.members.Members.{Members}
-use Rattle.servers.specs.Members.{membersOf}
+use Rattle.members.specs.declared.Members.{Members}
+use Rattle.members.specs.Members.{membersOf}
 use Rattle.plan.proofs.layout.tasks_of.Statement.{statement}
 use Rattle.plan.proofs.layout.tasks_of.Tie as tie
 

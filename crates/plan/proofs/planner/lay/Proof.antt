@@ -5,7 +5,7 @@ use mathlib.Core.Path.{_≡_, sym, ap, _∙_}
 use lib.ListN.{length, length-map}
 use Rattle.plan.proofs.Made.{may-charge, set-sized, set-layable, set-laid}
 use Rattle.tasks.specs.Set.{mostTasks}
-use Rattle.servers.specs.Members.{memberLoads}
+use Rattle.members.specs.Members.{memberLoads}
 use Rattle.servers.specs.Reserve.{serversOf}
 use Rattle.rows.specs.Charge.{lossOf}
 use Rattle.plan.proofs.planner.lay.Statement.{statement}

@@ -10,8 +10,8 @@ use Rattle.tasks.specs.Set.{mostTasks}
 use Rattle.demand.specs.Load.{Load}
 use Rattle.verdict.specs.declared.answer.Verdict.{Verdict}
 use Rattle.verdict.specs.Verdict.{verdictOf}
-use Rattle.servers.specs.Members.{Sized}
-use Rattle.servers.proofs.PartLaws.{testable}
+use Rattle.members.specs.Members.{Sized}
+use Rattle.members.proofs.PartLaws.{testable}
 use Rattle.tasks.specs.declared.set.TaskSet.{TaskSet}
 use Rattle.plan.specs.Planner.{Clear}
 use Rattle.rows.specs.Charge.{loadsOfSet, lossOf}

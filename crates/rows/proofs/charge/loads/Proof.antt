@@ -5,7 +5,7 @@ use mathlib.Core.Path.{_≡_, refl, sym, ap, _∙_}
 use mathlib.Core.List.{map}
 use native.Mathlib.Omega.{arith}
 use lib.ListN.{length, take, length-map}
-use Rattle.servers.specs.Members.{membersOf}
+use Rattle.members.specs.Members.{membersOf}
 use Rattle.rows.specs.Charge.{loadOf, loadsOfSet}
 use Rattle.rows.proofs.Charges.{set-early, loads-count, loads-step}
 use borrow.Author.Needs.{needs}

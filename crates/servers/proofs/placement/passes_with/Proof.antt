@@ -11,11 +11,12 @@ use Rattle.demand.specs.Load.{Load, loadAt, loadsOf}
 use Rattle.demand.proofs.Demand.{loads-length}
 use Rattle.verdict.specs.Verdict.{passing}
 use Rattle.tasks.specs.Set.{mostTasks}
-use Rattle.servers.specs.Members.{membersOf, withLoad, Sized}
-use Rattle.servers.specs.Placement.{loadsIn, takes}
-use Rattle.servers.specs.declared.members.Members.{Members}
-use Rattle.servers.proofs.LoadLaws.{in-few}
-use Rattle.servers.proofs.PartLaws.{Holds, holds-sized, holds-gathered, holds-with, holds-loads, testable}
+use Rattle.members.specs.Members.{membersOf, withLoad, Sized}
+use Rattle.members.specs.Loads.{loadsIn}
+use Rattle.servers.specs.Placement.{takes}
+use Rattle.members.specs.declared.Members.{Members}
+use Rattle.members.proofs.LoadLaws.{in-few}
+use Rattle.members.proofs.PartLaws.{Holds, holds-sized, holds-gathered, holds-with, holds-loads, testable}
 use Rattle.servers.proofs.placement.passes_with.Statement.{statement}
 use Rattle.servers.proofs.placement.passes_with.Tie as tie
 

@@ -10,7 +10,7 @@ use lib.ListN.{set}
 use Rattle.demand.specs.Load.{Load, loadsOf}
 use Rattle.demand.proofs.Demand.{loads-next}
 use Rattle.servers.specs.Placement.{placementOf, placed}
-use Rattle.servers.proofs.PartLaws.{sized-first}
+use Rattle.members.proofs.PartLaws.{sized-first}
 use Rattle.servers.proofs.SoFarLaws.{SoFar, so-far-none, so-far-room, so-far-count, so-far-few, so-far-next, so-far-placed}
 use Rattle.servers.proofs.placement.place.Statement.{statement}
 use Rattle.servers.proofs.placement.place.Tie as tie

@@ -5,8 +5,8 @@ use borrow.Author.Needs.{needs}
 use native.Mathlib.Nat.{le-refl}
 use Rattle.demand.specs.Load.{Load}
 use Rattle.verdict.specs.Reserve.{smallestReserve}
-use Rattle.servers.specs.Members.{Sized}
-use Rattle.servers.proofs.PartLaws.{holds-sized, holds-gathered, holds-loads, testable}
+use Rattle.members.specs.Members.{Sized}
+use Rattle.members.proofs.PartLaws.{holds-sized, holds-gathered, holds-loads, testable}
 use Rattle.servers.proofs.sizing.reserve_of.Statement.{statement}
 use Rattle.servers.proofs.sizing.reserve_of.Tie as tie
 

@@ -1,7 +1,7 @@
 -- `with_load` meets its contract: the load goes into the first unused place of each row. Assumes nothing.
 use borrow.Author.Needs.{needs}
-use Rattle.servers.proofs.members.with_load.Statement.{statement}
-use Rattle.servers.proofs.members.with_load.Tie as tie
+use Rattle.members.proofs.with_load.Statement.{statement}
+use Rattle.members.proofs.with_load.Tie as tie
 
 mul-more : tie.Need-mul-more
 mul-more c = search needs

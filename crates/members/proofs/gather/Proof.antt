@@ -12,13 +12,13 @@ use lib.Seq.{take-suc, length-take-le}
 use Rattle.demand.specs.Load.{Load, loadAt, loadsOf}
 use Rattle.demand.proofs.Demand.{loads-next, loads-length}
 use Rattle.tasks.specs.Set.{mostTasks}
-use Rattle.servers.specs.Members.{membersOf, withLoad, Gathered}
-use Rattle.servers.specs.Placement.{loadsIn}
-use Rattle.servers.specs.declared.members.Members.{Members}
-use Rattle.servers.proofs.MemberLaws.{members-more}
-use Rattle.servers.proofs.LoadLaws.{in-joined, in-apart, in-few}
-use Rattle.servers.proofs.members.gather.Statement.{statement}
-use Rattle.servers.proofs.members.gather.Tie as tie
+use Rattle.members.specs.Members.{membersOf, withLoad, Gathered}
+use Rattle.members.specs.Loads.{loadsIn}
+use Rattle.members.specs.declared.Members.{Members}
+use Rattle.members.proofs.MemberLaws.{members-more}
+use Rattle.members.proofs.LoadLaws.{in-joined, in-apart, in-few}
+use Rattle.members.proofs.gather.Statement.{statement}
+use Rattle.members.proofs.gather.Tie as tie
 
 abbrev Inv-loop : tie.InvT-loop
 Inv-loop costs deadlines periods server n q m₀ i₀ m i =

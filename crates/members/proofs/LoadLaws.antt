@@ -9,7 +9,7 @@ use lib.Dec.{eqb}
 use lib.ListN.{length, getD}
 use borrow.Author.Tests.{eq-eqb, ne-eqb}
 use Rattle.demand.specs.Load.{Load, Every}
-use Rattle.servers.specs.Placement.{keep, loadsIn, serversIn}
+use Rattle.members.specs.Loads.{keep, loadsIn}
 
 -- what is kept or left out at the front leaves the rest alone
 keep-append : (b : Bool) (l : Load) (ls ks : List Load) → keep b l (ls ++ ks) ≡ keep b l ls ++ ks
@@ -74,11 +74,3 @@ in-some (l ∷ ls) (a ∷ placement) (suc i) q e h g = kept (eqb a q) (in-some l
     kept : (b : Bool) → 1 ≤ length (loadsIn ls placement q) → 1 ≤ length (keep b l (loadsIn ls placement q))
     kept true rest = omega arith
     kept false rest = rest
-
--- a server past the last has no load
-pub in-none : (ls : List Load) (placement : List ℕ) (q : ℕ) → serversIn placement < q → loadsIn ls placement q ≡ []
-unfolding loadsIn serversIn
-in-none [] placement q h = refl
-in-none (l ∷ ls) [] q h = refl
-in-none (l ∷ ls) (a ∷ placement) q h =
-    ap (λ (b : Bool). keep b l (loadsIn ls placement q)) (ne-eqb a q (omega arith)) ∙ in-none ls placement q (omega arith)

@@ -8,7 +8,7 @@ use mathlib.Core.List.{List, [], _∷_, _++_}
 use lib.ListN.{length, set, take, getD, replicate, length-append, length-replicate, List·getD-append}
 use lib.Seq.{append-snoc, set-append-seam, take-at, getD-append-seam}
 use Rattle.tasks.specs.Set.{mostTasks}
-use Rattle.servers.specs.Padded.{padded, upTo}
+use Rattle.members.specs.Padded.{padded, upTo}
 
 -- there are mostTasks places
 pub padded-length : (ns : List ℕ) → length ns ≤ mostTasks → length (padded ns) ≡ mostTasks

@@ -8,11 +8,11 @@ use lib.ListN.{take}
 use Rattle.wholes.specs.Multiple.{leastMultipleOf, within}
 use Rattle.wholes.proofs.WithinLaws.{within-value, past-value}
 use Rattle.verdict.proofs.Horizons.{own-taken}
-use Rattle.servers.specs.Members.{Bounded}
-use Rattle.servers.proofs.MemberLaws.{bounded-positive}
-use Rattle.servers.proofs.PartLaws.{own-within}
-use Rattle.servers.proofs.members.own_horizon.Statement.{statement}
-use Rattle.servers.proofs.members.own_horizon.Tie as tie
+use Rattle.members.specs.Members.{Bounded}
+use Rattle.members.proofs.MemberLaws.{bounded-positive}
+use Rattle.members.proofs.PartLaws.{own-within}
+use Rattle.members.proofs.own_horizon.Statement.{statement}
+use Rattle.members.proofs.own_horizon.Tie as tie
 
 -- the server's horizon is not past the file's
 never-past : {costs deadlines periods : List ℕ} {n S H : ℕ} {A : Type 0} → Bounded costs deadlines periods n S H → H < leastMultipleOf S (take n periods) → A

@@ -1,5 +1,5 @@
 // The loads of one server, gathered from the tasks in file order, and the server's own horizon.
-// What they mean stands in specs/Members.antt and specs/Placement.antt.
+// What they mean stands in specs/Members.antt and specs/Loads.antt.
 use tasks::set::TaskSet;
 use wholes::Multiple;
 ghost use mathlib.Core.Path.{_≡_};
@@ -8,8 +8,8 @@ ghost use lib.ListN.{take};
 ghost use Rattle.demand.specs.Load.{Load, loadsOf};
 ghost use Rattle.verdict.specs.Verdict.{ownHorizon};
 ghost use Rattle.tasks.specs.Set.{mostTasks};
-ghost use Rattle.servers.specs.Members.{membersOf, memberLoads, withLoad, Gathered, Bounded};
-ghost use Rattle.servers.specs.Placement.{loadsIn};
+ghost use Rattle.members.specs.Members.{membersOf, memberLoads, withLoad, Gathered, Bounded};
+ghost use Rattle.members.specs.Loads.{loadsIn};
 
 // Unused room is zero.
 pub struct Members {

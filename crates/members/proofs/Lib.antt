@@ -1,0 +1,4 @@
+pub mod PaddedLaws
+pub mod MemberLaws
+pub mod LoadLaws
+pub mod PartLaws

@@ -1,0 +1,3 @@
+pub mod Padded
+pub mod Members
+pub mod Loads
