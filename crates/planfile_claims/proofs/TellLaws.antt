@@ -19,7 +19,8 @@ use Rattle.tasks.specs.declared.set.Task.{Task}
 use Rattle.tasks.specs.declared.set.TaskSet.{TaskSet}
 use Rattle.tasks.specs.Set.{zeroTask}
 use Rattle.plan.specs.declared.plan.Plan.{Plan}
-use Rattle.plantext.specs.Text.{mark, serverFigures, placedFigures, processorFigures, planLine, serverLine, placedLine, processorLine, planText}
+use Rattle.planfigures.specs.Figures.{mark, serverFigures, placedFigures, processorFigures}
+use Rattle.plantext.specs.Text.{planLine, serverLine, placedLine, processorLine, planText}
 use Rattle.planfile_claims.specs.Claims.{FitFields, SameUsed}
 use Rattle.plantext.proofs.LineLaws.{plan-bytes, server-size, placed-size, processor-size, server-bytes, placed-bytes, processor-bytes}
 use Rattle.frames.proofs.LinesLaws.{joined-length}

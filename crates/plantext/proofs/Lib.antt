@@ -1,4 +1,3 @@
 pub mod LineLaws
 pub mod TextLaws
-pub mod FillLaws
 pub mod FitLaws

@@ -1,13 +1,13 @@
 // The text of a plan: one 11 line, then 12 by server, 13 in file order, 14 by processor, one behind the other.
 // What it is stands in specs/Text.antt.
 use crate::line::put_plan;
-use crate::values::placed_values;
-use crate::values::processor_values;
-use crate::values::server_values;
 use frames::table::Frame;
 use framewrite::lines_length;
 use framewrite::put_lines;
 use plan::plan::Plan;
+use planfigures::placed_values;
+use planfigures::processor_values;
+use planfigures::server_values;
 use tasks::set::TaskSet;
 ghost use mathlib.Core.Path.{_≡_};
 ghost use Prim.Native.Nat.{_+_, _*_, _≤_};

@@ -43,7 +43,8 @@ use Rattle.plan.specs.Plan.{laidOut, setPlacement, setReserves, planMade}
 use Rattle.plancheck.specs.Agrees.{sameFigures, sameServers, sameProcessors, agrees, makes}
 use Rattle.plan.specs.Planner.{needed, fullRow, planOutcome, planOf}
 use Rattle.questions.specs.Question.{allowed, isProcessor, isServer, whoRuns, doesPass}
-use Rattle.plantext.specs.Text.{serverFigures, placedFigures, processorFigures, planLine, serverLine, placedLine, processorLine, planText, refusalText}
+use Rattle.planfigures.specs.Figures.{serverFigures, placedFigures, processorFigures}
+use Rattle.plantext.specs.Text.{planLine, serverLine, placedLine, processorLine, planText, refusalText}
 use Rattle.planfile.specs.File.{plannedSet, filedOf}
 use Rattle.planfile.specs.Tool.{answered}
 use Rattle.planfile.specs.OfFile.{whoIn, passIn}

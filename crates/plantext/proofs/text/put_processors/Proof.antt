@@ -10,8 +10,9 @@ use Rattle.frames.specs.Table.{widthsOf}
 use Rattle.frames.specs.Line.{linesOf}
 use Rattle.frames.specs.declared.table.Frame.{Frame}
 use Rattle.tasks.specs.Set.{mostProcessors}
-use Rattle.plantext.specs.Text.{processorFigures, processorLine}
-use Rattle.plantext.proofs.FillLaws.{filled-length, lines-filled, processor-each}
+use Rattle.planfigures.specs.Figures.{processorFigures}
+use Rattle.plantext.specs.Text.{processorLine}
+use Rattle.planfigures.proofs.FillLaws.{filled-length, lines-filled, processor-each}
 use borrow.Author.Needs.{needs}
 use Rattle.plantext.proofs.text.put_processors.Statement.{statement}
 use Rattle.plantext.proofs.text.put_processors.Tie as tie

@@ -10,8 +10,9 @@ use Rattle.frames.specs.Table.{widthsOf}
 use Rattle.frames.specs.Line.{linesOf}
 use Rattle.frames.specs.declared.table.Frame.{Frame}
 use Rattle.tasks.specs.Set.{mostTasks}
-use Rattle.plantext.specs.Text.{serverFigures, serverLine}
-use Rattle.plantext.proofs.FillLaws.{filled-length, lines-filled, server-each}
+use Rattle.planfigures.specs.Figures.{serverFigures}
+use Rattle.plantext.specs.Text.{serverLine}
+use Rattle.planfigures.proofs.FillLaws.{filled-length, lines-filled, server-each}
 use borrow.Author.Needs.{needs}
 use Rattle.plantext.proofs.text.put_servers.Statement.{statement}
 use Rattle.plantext.proofs.text.put_servers.Tie as tie

@@ -10,8 +10,9 @@ use Rattle.frames.specs.Table.{widthsOf}
 use Rattle.frames.specs.Line.{linesOf}
 use Rattle.frames.specs.declared.table.Frame.{Frame}
 use Rattle.tasks.specs.Set.{mostTasks}
-use Rattle.plantext.specs.Text.{placedFigures, placedLine}
-use Rattle.plantext.proofs.FillLaws.{filled-length, lines-filled, placed-each}
+use Rattle.planfigures.specs.Figures.{placedFigures}
+use Rattle.plantext.specs.Text.{placedLine}
+use Rattle.planfigures.proofs.FillLaws.{filled-length, lines-filled, placed-each}
 use borrow.Author.Needs.{needs}
 use Rattle.plantext.proofs.text.put_tasks.Statement.{statement}
 use Rattle.plantext.proofs.text.put_tasks.Tie as tie

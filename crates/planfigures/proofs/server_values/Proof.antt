@@ -5,11 +5,11 @@ use mathlib.Core.Path.{_∙_, ap}
 use native.Mathlib.Omega.{arith}
 use Rattle.digits.specs.Stored.{stored}
 use Rattle.tasks.specs.Set.{mostTasks}
-use Rattle.plantext.specs.Text.{serverFigures}
-use Rattle.plantext.proofs.FillLaws.{Filled, filled-none, filled-next, filled-all, server-each, server-at}
+use Rattle.planfigures.specs.Figures.{serverFigures}
+use Rattle.planfigures.proofs.FillLaws.{Filled, filled-none, filled-next, filled-all, server-each, server-at}
 use borrow.Author.Needs.{needs}
-use Rattle.plantext.proofs.values.server_values.Statement.{statement}
-use Rattle.plantext.proofs.values.server_values.Tie as tie
+use Rattle.planfigures.proofs.server_values.Statement.{statement}
+use Rattle.planfigures.proofs.server_values.Tie as tie
 
 abbrev Inv-loop : tie.InvT-loop
 Inv-loop reserve start tasks n slot values₀ i₀ values i = Filled (serverFigures reserve start tasks slot) (4 * mostTasks) n values i

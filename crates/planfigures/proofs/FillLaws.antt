@@ -17,7 +17,7 @@ use Rattle.frames.specs.declared.table.Frame.{Frame}
 use Rattle.frames.proofs.LinesLaws.{joined-length, lines-joined}
 use Rattle.tasks.specs.declared.set.Task.{Task}
 use Rattle.tasks.specs.Set.{zeroTask}
-use Rattle.plantext.specs.Text.{mark, filled, serverFigures, placedFigures, processorFigures}
+use Rattle.planfigures.specs.Figures.{mark, filled, serverFigures, placedFigures, processorFigures}
 
 pub joined-next : (f : ℕ → List ℕ) (i : ℕ) → joined f (i + 1) ≡ joined f i ++ f (i + 1)
 unfolding joined

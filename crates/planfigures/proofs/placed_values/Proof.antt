@@ -5,11 +5,11 @@ use mathlib.Core.Path.{_∙_, ap}
 use native.Mathlib.Omega.{arith}
 use Rattle.digits.specs.Stored.{stored}
 use Rattle.tasks.specs.Set.{mostTasks}
-use Rattle.plantext.specs.Text.{placedFigures}
-use Rattle.plantext.proofs.FillLaws.{Filled, filled-none, filled-next, filled-all, placed-each, placed-at}
+use Rattle.planfigures.specs.Figures.{placedFigures}
+use Rattle.planfigures.proofs.FillLaws.{Filled, filled-none, filled-next, filled-all, placed-each, placed-at}
 use borrow.Author.Needs.{needs}
-use Rattle.plantext.proofs.values.placed_values.Statement.{statement}
-use Rattle.plantext.proofs.values.placed_values.Tie as tie
+use Rattle.planfigures.proofs.placed_values.Statement.{statement}
+use Rattle.planfigures.proofs.placed_values.Tie as tie
 
 abbrev Inv-loop : tie.InvT-loop
 Inv-loop server set values₀ n i₀ values i = Filled (placedFigures (set .tasks) server) (2 * mostTasks) n values i

@@ -1,5 +1,5 @@
 // The figures of a plan's lines, one line behind the other, as the writer of lines takes them.
-// What they are stands in specs/Text.antt. Each function takes the rows that its lines show, not the whole plan.
+// What they are stands in specs/Figures.antt. Each function takes the rows that its lines show, not the whole plan.
 use framewrite::MARK;
 use tasks::set::TaskSet;
 ghost use mathlib.Core.Path.{_≡_};
@@ -9,7 +9,7 @@ ghost use lib.Dec.{ltb};
 ghost use lib.ListN.{length as count};
 ghost use Rattle.digits.specs.Stored.{stored};
 ghost use Rattle.tasks.specs.Set.{mostTasks, mostProcessors};
-ghost use Rattle.plantext.specs.Text.{mark, filled, serverFigures, placedFigures, processorFigures};
+ghost use Rattle.planfigures.specs.Figures.{mark, filled, serverFigures, placedFigures, processorFigures};
 
 // Copies figures to a place among numbers.
 pub fn put_figures(numbers: &mut [u64], at: usize, figures: &[u64])

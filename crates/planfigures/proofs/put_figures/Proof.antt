@@ -9,8 +9,8 @@ use lib.ListN.{length, take, getD, set, length-set}
 use lib.Seq.{take-all}
 use Rattle.digits.specs.Stored.{stored}
 use Rattle.digits.proofs.Stored.{stored-nil, stored-next}
-use Rattle.plantext.proofs.values.put_figures.Statement.{statement}
-use Rattle.plantext.proofs.values.put_figures.Tie as tie
+use Rattle.planfigures.proofs.put_figures.Statement.{statement}
+use Rattle.planfigures.proofs.put_figures.Tie as tie
 
 abbrev Inv-loop : tie.InvT-loop
 Inv-loop numbers₀ at figures i₀ numbers i =

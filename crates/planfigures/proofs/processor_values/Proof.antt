@@ -5,11 +5,11 @@ use mathlib.Core.Path.{_∙_, ap}
 use native.Mathlib.Omega.{arith}
 use Rattle.digits.specs.Stored.{stored}
 use Rattle.tasks.specs.Set.{mostProcessors}
-use Rattle.plantext.specs.Text.{processorFigures}
-use Rattle.plantext.proofs.FillLaws.{Filled, filled-none, filled-next, filled-all, processor-each, processor-at}
+use Rattle.planfigures.specs.Figures.{processorFigures}
+use Rattle.planfigures.proofs.FillLaws.{Filled, filled-none, filled-next, filled-all, processor-each, processor-at}
 use borrow.Author.Needs.{needs}
-use Rattle.plantext.proofs.values.processor_values.Statement.{statement}
-use Rattle.plantext.proofs.values.processor_values.Tie as tie
+use Rattle.planfigures.proofs.processor_values.Statement.{statement}
+use Rattle.planfigures.proofs.processor_values.Tie as tie
 
 abbrev Inv-loop : tie.InvT-loop
 Inv-loop first duration n values₀ i₀ values i = Filled (processorFigures first duration) (3 * mostProcessors) n values i

@@ -3,8 +3,8 @@
 use Prim.Native.Nat.{_≤_, _<_}
 use native.Mathlib.Omega.{arith}
 use borrow.Author.Tests.{lt-ltb, le-ltb}
-use Rattle.plantext.proofs.values.start_or_mark.Statement.{statement}
-use Rattle.plantext.proofs.values.start_or_mark.Tie as tie
+use Rattle.planfigures.proofs.start_or_mark.Statement.{statement}
+use Rattle.planfigures.proofs.start_or_mark.Tie as tie
 
 returns : tie.Need-returns
 returns c =
