@@ -1,4 +1,6 @@
 // Lines of a frame, written to a place in a lent buffer from the values of their fields.
+pub mod figures; // figures.rt: figures copied to their place among numbers
+
 use digits::put_number;
 use frames::table::Frame;
 use frames::table::fields_in;

@@ -40,7 +40,7 @@ use Rattle.taskread.proofs.Lines.{clear-past, first-header, later-task, reads-c
 use Rattle.refusals.proofs.FirstLaws.{done-till}
 use Rattle.tasks_claims.proofs.ShapedLaws.{shaped-less, shaped-count, among-header}
 use Rattle.taskwrite.proofs.WriteAsks.{first-some, writer-ask, writer-board, writer-range}
-use Rattle.taskwrite.proofs.WriteText.{lines-nil, lines-cons, text-size}
+use Rattle.taskwrite.proofs.WriteText.{lines-nil, lines-cons}
 
 -- a header's line gives its figures back
 header-back : (h : Header) (rest : List ℕ) → headerOverflows h ≡ false → headerAt (lineOf Frame.Header (headerValues h) ++ rest) ≡ h

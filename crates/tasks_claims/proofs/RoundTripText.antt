@@ -39,7 +39,7 @@ use Rattle.taskread.proofs.Lines.{later-task}
 use Rattle.taskread.proofs.AmongLaws.{among-task, among-all}
 use Rattle.tasks_claims.proofs.ShapedLaws.{shaped-less, among-header}
 use Rattle.taskwrite.proofs.WriteAsks.{writer-rows}
-use Rattle.taskwrite.proofs.WriteText.{lines-nil, lines-cons, lines-append}
+use Rattle.taskwrite.proofs.WriteText.{lines-nil, lines-one, lines-append}
 
 -- a line of a kind is the line of its own figures
 header-again : (text : List ℕ) → formed Frame.Header text ≡ true → text ≡ lineOf Frame.Header (headerValues (headerAt text)) ++ after text
@@ -65,9 +65,8 @@ lines-again text (suc i) s =
     let rest = past (suc i) text in
     let t = taskAt rest in
     let next : rest ≡ lineOf Frame.Task (taskValues t) ++ past (suc (suc i)) text = task-again rest (s .tasks i (omega arith)) ∙ ap (λ (l : List ℕ). lineOf Frame.Task (taskValues t) ++ l) (sym (past-next text (suc i))) in
-    let line : taskLines (t ∷ []) ≡ lineOf Frame.Task (taskValues t) = lines-cons t [] ∙ ap (λ (l : List ℕ). lineOf Frame.Task (taskValues t) ++ l) lines-nil ∙ append-nil (lineOf Frame.Task (taskValues t)) in
     lines-again text i (shaped-less text i (suc i) (omega arith) s)
-    ∙ ap (λ (l : List ℕ). taskLines (tasksAmong text (suc i)) ++ l) (next ∙ ap (λ (l : List ℕ). l ++ past (suc (suc i)) text) (sym line))
+    ∙ ap (λ (l : List ℕ). taskLines (tasksAmong text (suc i)) ++ l) (next ∙ ap (λ (l : List ℕ). l ++ past (suc (suc i)) text) (sym (lines-one t)))
     ∙ sym (append-assoc (taskLines (tasksAmong text (suc i))) (taskLines (t ∷ [])) (past (suc (suc i)) text))
     ∙ ap (λ (l : List ℕ). l ++ past (suc (suc i)) text) (sym (lines-append (tasksAmong text (suc i)) (t ∷ [])) ∙ ap taskLines (sym (among-task text (suc i) (s .tasks i (omega arith)))))
 

@@ -1,40 +1,27 @@
--- Laws of a set's text: its length, and its 02 lines stored one behind the other.
+-- Laws of a set's text: its length, the figures and the lines of its tasks, and the text stored in two steps.
 -- Assumes nothing.
-use Prim.Native.Nat.{ℕ, _+_, _*_, _≤_, _<_}
-use mathlib.Core.Path.{_≡_, refl, sym, _∙_, ap}
+use Prim.Native.Nat.{ℕ, zero, suc, _+_, _*_, _≤_}
+use mathlib.Core.Path.{_≡_, refl, sym, _∙_, ap, ap₂}
 use mathlib.Core.List.{List, [], _∷_, _++_, append-assoc, append-nil}
+use native.Mathlib.Nat.{suc-mul, add-sub-cancel}
 use native.Mathlib.Numerals.{add-one}
 use native.Mathlib.Omega.{arith}
 use lib.ListN.{length, take, getD, length-append}
-use lib.Seq.{take-suc, length-take-le}
-use Rattle.frames.specs.Table.{widthsOf, sum, lengthOf}
-use Rattle.frames.specs.Line.{lineOf}
+use lib.Seq.{take-suc}
+use Rattle.frames.specs.Table.{widthsOf, fieldsIn, lengthOf}
+use Rattle.frames.specs.Line.{lineOf, linesOf, joined}
 use Rattle.digits.specs.Stored.{stored}
 use Rattle.frames.specs.declared.table.Frame.{Frame}
 use Rattle.frames.proofs.Lines.{line-length}
+use Rattle.framewrite.specs.Figures.{filled}
+use Rattle.framewrite.proofs.FillLaws.{filled-length, lines-filled}
 use Rattle.digits.proofs.Stored.{stored-stored}
 use Rattle.tasks.specs.declared.set.Task.{Task}
 use Rattle.tasks.specs.declared.set.TaskSet.{TaskSet}
-use Rattle.tasks.specs.Set.{members}
+use Rattle.tasks.specs.Set.{members, zeroTask}
 use Rattle.tasks.proofs.SetLaws.{members-length}
 use Rattle.tasks.specs.Values.{headerValues, taskValues}
-use Rattle.taskwrite.specs.Write.{taskLines, textOf}
-
--- the lines' lengths, as the table gives them
-pub header-length : lengthOf Frame.Header ≡ 30
-unfolding widthsOf sum
-header-length = refl
-
-pub task-length : lengthOf Frame.Task ≡ 22
-unfolding widthsOf sum
-task-length = refl
-
--- an 01 line has 31 bytes, an 02 line 23
-pub header-size : lengthOf Frame.Header + 1 ≡ 31
-header-size = ap (λ (n : ℕ). n + 1) header-length
-
-pub task-size : lengthOf Frame.Task + 1 ≡ 23
-task-size = ap (λ (n : ℕ). n + 1) task-length
+use Rattle.taskwrite.specs.Write.{taskFigures, mostFigures, taskLines, textOf}
 
 pub lines-nil : taskLines [] ≡ []
 unfolding taskLines
@@ -51,56 +38,63 @@ lines-append (t ∷ ts) us =
     ap (λ (l : List ℕ). lineOf Frame.Task (taskValues t) ++ l) (lines-append ts us)
     ∙ sym (append-assoc (lineOf Frame.Task (taskValues t)) (taskLines ts) (taskLines us))
 
-pub lines-length : (ts : List Task) → length (taskLines ts) ≡ length ts * 23
+-- the line of one task
+pub lines-one : (t : Task) → taskLines (t ∷ []) ≡ lineOf Frame.Task (taskValues t)
 unfolding taskLines
-lines-length [] = refl
+lines-one t = append-nil (lineOf Frame.Task (taskValues t))
+
+lines-length : (ts : List Task) → length (taskLines ts) ≡ length ts * (lengthOf Frame.Task + 1)
+unfolding taskLines
+lines-length [] = omega arith
 lines-length (t ∷ ts) =
     length-append (lineOf Frame.Task (taskValues t)) (taskLines ts)
-    ∙ omega (arith, line-length Frame.Task (taskValues t), task-size, lines-length ts)
+    ∙ omega (arith, line-length Frame.Task (taskValues t), lines-length ts, suc-mul (length ts) (lengthOf Frame.Task + 1))
 
-pub text-size : (set : TaskSet) → length (textOf set) ≡ 31 + length (members set) * 23
+-- the bytes of a file of so many tasks
+pub text-bytes : (set : TaskSet) → set .count ≤ length (set .tasks) → length (textOf set) ≡ lengthOf Frame.Header + 1 + set .count * (lengthOf Frame.Task + 1)
 unfolding textOf
-text-size set =
+text-bytes set fits =
     length-append (lineOf Frame.Header (headerValues (set .header))) (taskLines (members set))
-    ∙ omega (arith, line-length Frame.Header (headerValues (set .header)), header-size, lines-length (members set))
+    ∙ ap₂ _+_ (line-length Frame.Header (headerValues (set .header))) (lines-length (members set) ∙ ap (λ (n : ℕ). n * (lengthOf Frame.Task + 1)) (members-length set fits))
 
-pub text-bytes : (set : TaskSet) → set .count ≤ length (set .tasks) → length (textOf set) ≡ 31 + set .count * 23
-text-bytes set fits = omega (arith, text-size set, ap (λ (n : ℕ). n * 23) (members-length set fits))
+-- a task's figures: as many as its line has fields, and those of the place i from 0
+module _ (tasks : List Task) where
+  pub figures-each : (k : ℕ) → length (taskFigures tasks k) ≡ fieldsIn Frame.Task
+  unfolding taskFigures widthsOf
+  figures-each k = refl
 
--- the bytes before task i, by the table's lengths
-pub lines-at : (start i : ℕ) → start ≡ lengthOf Frame.Header + 1 + i * (lengthOf Frame.Task + 1) → start ≡ 31 + i * 23
-lines-at start i e = omega (arith, e, header-size, ap (λ (n : ℕ). i * n) task-size)
+  pub figures-at : (i : ℕ) → taskValues (getD tasks i zeroTask) ≡ taskFigures tasks (i + 1)
+  unfolding taskFigures
+  figures-at i = rw (add-sub-cancel i 1)
 
--- one task more, one line more
-pub lines-next : (ts : List Task) (i : ℕ) (none : Task) → i < length ts → taskLines (take (i + 1) ts) ≡ taskLines (take i ts) ++ lineOf Frame.Task (taskValues (getD ts i none))
-lines-next ts i none h =
-    ap (λ (n : ℕ). taskLines (take n ts)) (add-one i)
-    ∙ ap taskLines (take-suc ts i none h)
-    ∙ lines-append (take i ts) (getD ts i none ∷ [])
-    ∙ ap (λ (l : List ℕ). taskLines (take i ts) ++ l) (lines-cons (getD ts i none) [] ∙ ap (λ (l : List ℕ). lineOf Frame.Task (taskValues (getD ts i none)) ++ l) lines-nil ∙ append-nil (lineOf Frame.Task (taskValues (getD ts i none))))
+  -- the lines of the first n tasks' figures are the first n tasks' lines
+  figures-joined : (n : ℕ) → n ≤ length tasks → joined (λ (k : ℕ). lineOf Frame.Task (taskFigures tasks k)) n ≡ taskLines (take n tasks)
+  unfolding joined
+  figures-joined zero h = sym lines-nil
+  figures-joined (suc n) h =
+      ap₂ _++_ (figures-joined n (omega arith)) (sym (lines-one (getD tasks n zeroTask) ∙ ap (lineOf Frame.Task) (figures-at n ∙ ap (taskFigures tasks) (add-one n))))
+      ∙ sym (lines-append (take n tasks) (getD tasks n zeroTask ∷ []))
+      ∙ ap taskLines (sym (take-suc tasks n zeroTask h))
 
--- that line stored right behind those before it
-pub lines-stored : (b : List ℕ) (at : ℕ) (ts : List Task) (i next : ℕ) (none : Task) → i < length ts → next ≡ at + i * 23 → at + (i + 1) * 23 ≤ length b → stored (stored b at (taskLines (take i ts))) next (lineOf Frame.Task (taskValues (getD ts i none))) ≡ stored b at (taskLines (take (i + 1) ts))
-lines-stored b at ts i next none h e fits =
-    ap (λ (n : ℕ). stored (stored b at (taskLines (take i ts))) n line) (e ∙ ap (λ (n : ℕ). at + n) (sym front))
-    ∙ stored-stored b at (taskLines (take i ts)) line (omega (arith, front, line-length Frame.Task (taskValues (getD ts i none)), task-size))
-    ∙ ap (stored b at) (sym (lines-next ts i none h))
-  where
-    line : List ℕ
-    line = lineOf Frame.Task (taskValues (getD ts i none))
+  figures-lines : (size n : ℕ) → n ≤ length tasks → linesOf Frame.Task (filled size (taskFigures tasks) n) n ≡ taskLines (take n tasks)
+  figures-lines size n h = lines-filled Frame.Task (taskFigures tasks) figures-each size n ∙ figures-joined n h
 
-    front : length (taskLines (take i ts)) ≡ i * 23
-    front = lines-length (take i ts) ∙ ap (λ (n : ℕ). n * 23) (length-take-le i ts (omega arith))
+  pub figures-length : (size n : ℕ) → n * fieldsIn Frame.Task ≤ size → length (filled size (taskFigures tasks) n) ≡ size
+  figures-length size n h = filled-length (taskFigures tasks) (fieldsIn Frame.Task) figures-each size n h
 
--- the 01 line stored, and then the 02 lines, is the text stored
-pub text-stored : (b : List ℕ) (set : TaskSet) → length (textOf set) ≤ length b → stored (stored b 0 (lineOf Frame.Header (headerValues (set .header)))) 31 (taskLines (members set)) ≡ stored b 0 (textOf set)
+-- the 01 line of the header's figures stored, and the 02 lines of the tasks' figures right behind it, is the text stored
+pub text-put : (b : List ℕ) (set : TaskSet) {header values written left : List ℕ} {at : ℕ} → set .count ≤ length (set .tasks) → length (textOf set) ≤ length b
+    → header ≡ headerValues (set .header) → values ≡ filled mostFigures (taskFigures (set .tasks)) (set .count) → at ≡ lengthOf Frame.Header + 1
+    → written ≡ stored b 0 (lineOf Frame.Header header) → left ≡ stored written at (linesOf Frame.Task values (set .count))
+    → left ≡ stored b 0 (textOf set)
 unfolding textOf
-text-stored b set fits =
-    ap (λ (n : ℕ). stored (stored b 0 first) n (taskLines (members set))) (sym size)
+text-put b set {at = at} few fits e f start written left =
+    left
+    ∙ ap₂ (λ (o l : List ℕ). stored o at l)
+    (written ∙ ap (λ (vs : List ℕ). stored b 0 (lineOf Frame.Header vs)) e)
+    (ap (λ (vs : List ℕ). linesOf Frame.Task vs (set .count)) f ∙ figures-lines (set .tasks) mostFigures (set .count) few)
+    ∙ ap (λ (n : ℕ). stored (stored b 0 first) n (taskLines (members set))) (start ∙ sym (line-length Frame.Header (headerValues (set .header))) ∙ omega arith)
     ∙ stored-stored b 0 first (taskLines (members set)) (omega (arith, length-append first (taskLines (members set))))
   where
     first : List ℕ
     first = lineOf Frame.Header (headerValues (set .header))
-
-    size : 0 + length first ≡ 31
-    size = omega (arith, line-length Frame.Header (headerValues (set .header)), header-size)

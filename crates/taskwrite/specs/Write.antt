@@ -1,10 +1,10 @@
 -- What writing a task set answers, and what the lent bytes then hold.
 -- Document 01, "Lines of hexadecimal" and rows 11 and 12 of the refusals.
-use Prim.Native.Nat.{ℕ}
+use Prim.Native.Nat.{ℕ, _*_, _-_}
 use mathlib.Core.Path.{_≡_}
 use mathlib.Core.List.{List, [], _∷_, _++_}
 use mathlib.Core.Bool.{Bool, true, false, cond, _||_}
-use lib.ListN.{length}
+use lib.ListN.{length, getD}
 use lib.Dec.{ltb}
 use Rattle.frames.specs.Line.{lineOf}
 use Rattle.frames.specs.declared.table.Frame.{Frame}
@@ -15,9 +15,17 @@ use Rattle.refusals.specs.declared.Written.the-variants.{Bytes, Refused}
 use Rattle.tasks.specs.declared.set.Task.{Task}
 use Rattle.tasks.specs.declared.set.TaskSet.{TaskSet}
 use Rattle.refusals.specs.Leaves.{leaves}
-use Rattle.tasks.specs.Set.{members}
+use Rattle.tasks.specs.Set.{mostTasks, members, zeroTask}
 use Rattle.tasks.specs.Values.{headerValues, taskValues}
 use Rattle.tasks.specs.Rows.{some, boardRow, rangeRow, askRow}
+
+-- the figures of the 02 line of task k, from 1
+unfoldable pub taskFigures : (tasks : List Task) → ℕ → List ℕ
+taskFigures tasks k = taskValues (getD tasks (k - 1) zeroTask)
+
+-- the figures of as many 02 lines as a set has room for
+abbrev pub mostFigures : ℕ
+mostFigures = 4 * mostTasks
 
 unfoldable pub taskLines : List Task → List ℕ
 taskLines [] = []

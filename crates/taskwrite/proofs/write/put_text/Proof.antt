@@ -1,120 +1,84 @@
--- The loop's invariant: behind the 01 line stand the lines of the first `i` tasks.
+-- The 01 line of the header's figures, and behind it the 02 lines of the tasks' figures, are the text.
 -- Assumes nothing.
-use Prim.Native.Nat.{ℕ, _+_, _*_, _≤_, _-_}
-use mathlib.Core.Path.{_≡_, refl, sym, _∙_, ap}
-use mathlib.Core.List.{List}
+use Prim.Native.Nat.{_+_, _*_, _≤_}
+use mathlib.Core.Path.{_≡_, sym, _∙_}
 use native.Mathlib.Omega.{arith}
-use lib.ListN.{length, length-map, take, getD}
-use Rattle.frames.specs.Line.{lineOf}
-use Rattle.digits.specs.Stored.{stored}
+use borrow.Author.Needs.{needs}
+use lib.ListN.{length, length-map}
+use Rattle.frames.specs.Table.{widthsOf, lengthOf}
 use Rattle.frames.specs.declared.table.Frame.{Frame}
-use Rattle.digits.proofs.Stored.{stored-nil}
-use Rattle.tasks.specs.Set.{mostTasks, members, zeroTask}
-use Rattle.tasks.specs.Values.{taskValues}
-use Rattle.taskwrite.specs.Write.{taskLines}
-use Rattle.taskwrite.proofs.WriteText.{header-size, task-size, lines-at, lines-nil, lines-stored, text-bytes, text-stored}
+use Rattle.tasks.specs.Set.{mostTasks}
+use Rattle.taskwrite.specs.Write.{mostFigures}
+use Rattle.taskwrite.proofs.WriteText.{text-bytes, text-put, figures-length}
 use Rattle.taskwrite.proofs.write.put_text.Statement.{statement}
 use Rattle.taskwrite.proofs.write.put_text.Tie as tie
 
-abbrev Inv-loop : tie.InvT-loop
-Inv-loop out₀ set count i₀ out i =
-    (i ≤ count) × ((out ≡ stored out₀ 31 (taskLines (take i (set .tasks)))) × (length out ≡ length out₀))
-
-abbrev μ-loop : tie.MeasureT-loop
-μ-loop out₀ set count i₀ out i = count - i
-
-full : (s : tie.Start Inv-loop μ-loop) → length (s .args .t2 .tasks) ≡ mostTasks
-full s = sym (length-map (s .args .t2 .tasks) _) ∙ s .good .1 .0 .1 .1 .1 .1 .0 .1 .0 .1
+full : (s : tie.Start) → length (s .args .set .tasks) ≡ mostTasks
+full s = sym (length-map (s .args .set .tasks) _) ∙ s .good .1 .0 .1 .1 .1 .1 .0 .1 .0 .1
 
 -- the buffer has the room of all lines
-room : (s : tie.Start Inv-loop μ-loop) → 31 + s .args .t2 .count * 23 ≤ length (s .args .out .now)
-room s = omega (arith, s .pre, text-bytes (s .args .t2) (omega (arith, full s, s .pre)))
+room : (s : tie.Start) → lengthOf Frame.Header + 1 + s .args .set .count * (lengthOf Frame.Task + 1) ≤ length (s .args .out .now)
+room s = omega (arith, s .pre, text-bytes (s .args .set) (omega (arith, full s, s .pre)))
 
-put-header-requires : tie.Need-put-header-requires Inv-loop μ-loop
-put-header-requires c κs = omega (arith, room (c .before .before .before), header-size)
+header-values-requires : tie.Need-header-values-requires
+header-values-requires c κs = search needs
 
-loop-holds : tie.Need-loop-holds Inv-loop μ-loop
-loop-holds c =
-    let out = c .before .before .put-header .last .0 in
-    (omega arith, (sym (ap (stored out 31) lines-nil ∙ stored-nil out 31), refl))
+slice-aggregate-put-line : tie.Need-slice-aggregate-put-line
+slice-aggregate-put-line c = search needs
 
-mul-task : tie.Need-mul-task Inv-loop μ-loop
-mul-task c = omega arith
+put-line-requires : tie.Need-put-line-requires
+unfolding widthsOf
+put-line-requires c κs =
+    let d = c .before .before in
+    rw (d .header-values .ensures) (omega arith, omega (arith, room (d .before .before)))
 
-element-copy-out-task : tie.Need-element-copy-out-task Inv-loop μ-loop
-element-copy-out-task c = omega arith
+lines-length-requires : tie.Need-lines-length-requires
+lines-length-requires c κs = omega arith
 
-text-length-requires : tie.Need-text-length-requires Inv-loop μ-loop
-text-length-requires c κs = omega arith
+task-figures-requires : tie.Need-task-figures-requires
+task-figures-requires c κs = c .before .before .before .before .before .before .before .before .pre .0
 
-put-task-requires : tie.Need-put-task-requires Inv-loop μ-loop
-put-task-requires c κs =
-    let at = c .before .before .before .before in
-    let same = at .before .before .before .put-header .kept .0 in
-    omega (
-      arith,
-      lines-at (c .before .text-length .result) (at .loop .i) (c .before .text-length .ensures),
-      room (at .before .before .before .before .before .before .before),
-      at .loop .inv .1 .1,
-      same,
-      c .before .before .before .loop-test .taken,
-      task-size,
+slice-aggregate-put-lines : tie.Need-slice-aggregate-put-lines
+slice-aggregate-put-lines c = search needs
+
+-- the 02 lines start behind the 01 line
+start : (c : tie.After-lines-length) → c .lines-length .result ≡ lengthOf Frame.Header + 1
+start c = c .lines-length .ensures ∙ omega arith
+
+put-lines-requires : tie.Need-put-lines-requires
+unfolding widthsOf
+put-lines-requires c κs =
+    let d = c .before .before in
+    let written = d .before .before .before .before in
+    let s = written .before .before .before .before .before in
+    let set = s .args .set in (
+      rw (d .task-figures .ensures) (omega (arith, s .pre .0, figures-length (set .tasks) mostFigures (set .count) (omega (arith, s .pre .0)))),
+      omega (arith, room s, start (d .before), written .put-line .kept .0),
     )
 
-add-i : tie.Need-add-i Inv-loop μ-loop
-add-i c = omega arith
+same-length : tie.Need-same-length
+same-length c = search needs
 
-loop-less : tie.Need-loop-less Inv-loop μ-loop
-loop-less c = omega arith
-
-loop-again : tie.Need-loop-again Inv-loop μ-loop
-loop-again c =
-    let at = c .before .before .before .before .before .before .before in
-    let s = at .before .before .before .before .before .before .before in
-    let set = s .args .t2 in
-    let i = at .loop .i in
-    let start = c .before .before .before .before .text-length in
-    let turn = c .before .before .before .before .before .before .loop-test .taken in
-    let same = at .before .before .before .put-header .kept .0 in (
-      omega (arith, turn),
-      (
-        c .before .before .put-task .ensures
-            ∙ ap (λ (o : List ℕ). stored o (start .result) (lineOf Frame.Task (taskValues (getD (set .tasks) i zeroTask)))) (at .loop .inv .1 .0)
-            ∙ lines-stored (at .before .before .before .put-header .last .0) 31 (set .tasks) i (start .result) zeroTask (omega (arith, turn, full s, s .pre))
-            (lines-at (start .result) i (start .ensures)) (omega (arith, turn, room s, same)),
-        c .before .before .put-task .kept .0 ∙ at .loop .inv .1 .1,
-      ),
-    )
-
-same-length : tie.Need-same-length Inv-loop μ-loop
-same-length c = c .before .loop .inv .1 .1 ∙ c .before .before .before .before .put-header .kept .0
-
-returns : tie.Need-returns Inv-loop μ-loop
+returns : tie.Need-returns
 returns c =
-    let at = c .before in
-    let s = at .before .before .before .before .before .before .before in
-    let set = s .args .t2 in
-    let all : at .loop .i ≡ set .count = omega (arith, at .loop .inv .0, c .loop-test .left) in
-    let first = at .before .before .before .put-header in
-    at .loop .inv .1 .0
-    ∙ ap (λ (n : ℕ). stored (first .last .0) 31 (taskLines (take n (set .tasks)))) all
-    ∙ ap (λ (o : List ℕ). stored o 31 (taskLines (members set))) (first .ensures)
-    ∙ text-stored (s .args .out .now) set (s .pre .1)
+    let lines = c .before .before in
+    let d = lines .before .before .before in
+    let line = d .before .before .before .before in
+    let first = line .before .before .before in
+    let s = first .before .before in
+    text-put (s .args .out .now) (s .args .set) (omega (arith, full s, s .pre .0)) (s .pre .1)
+    (first .header-values .ensures) (d .task-figures .ensures) (start (d .before)) (line .put-line .ensures) (lines .put-lines .ensures)
 
 pub put-text-spec : {M : Type 1} → statement M
 put-text-spec =
     tie.close
     (tie.spec
-    Inv-loop
-    μ-loop
-    put-header-requires
-    loop-holds
-    mul-task
-    element-copy-out-task
-    text-length-requires
-    put-task-requires
-    add-i
-    loop-less
-    loop-again
+    header-values-requires
+    slice-aggregate-put-line
+    put-line-requires
+    lines-length-requires
+    task-figures-requires
+    slice-aggregate-put-lines
+    put-lines-requires
     same-length
     returns)

@@ -12,7 +12,7 @@ use Rattle.tasks.specs.Set.{mostTasks}
 use Rattle.taskwrite.specs.Write.{textOf, writerAsks}
 use Rattle.tasks.proofs.Carried.{ask-count, count-within}
 use Rattle.taskwrite.proofs.WriteAsks.{writer-ask, write-ask, write-room, write-bytes, answered}
-use Rattle.taskwrite.proofs.WriteText.{lines-at, text-bytes}
+use Rattle.taskwrite.proofs.WriteText.{text-bytes}
 use Rattle.taskwrite.proofs.write.write.Statement.{statement}
 use Rattle.taskwrite.proofs.write.write.Tie as tie
 
@@ -41,7 +41,7 @@ size d =
     let set = s .args .set in
     let full : length (set .tasks) ≡ mostTasks = sym (length-map (set .tasks) _) ∙ s .good .0 .1 .1 .1 .1 .0 .1 .0 .1 in
     let fits : set .count ≤ length (set .tasks) = omega (arith, full, within (d .before)) in
-    lines-at (d .text-length .result) (set .count) (d .text-length .ensures) ∙ sym (text-bytes set fits)
+    d .text-length .ensures ∙ sym (text-bytes set fits)
 
 returns-2 : tie.Need-returns-2
 returns-2 c =
