@@ -3,10 +3,8 @@
 use Prim.Native.Nat.{ℕ, _-_, _^_}
 use mathlib.Core.List.{List, [], _∷_}
 use mathlib.Core.Bool.{cond}
-use lib.ListN.{getD, replicate}
+use lib.ListN.{getD}
 use lib.Dec.{ltb}
-use Rattle.digits.specs.Stored.{stored}
-use Rattle.frames.specs.Line.{joined}
 use Rattle.tasks.specs.declared.set.Task.{Task}
 use Rattle.tasks.specs.Set.{zeroTask}
 
@@ -26,7 +24,3 @@ placedFigures tasks server k = getD tasks (k - 1) zeroTask .id ∷ at server k �
 
 unfoldable pub processorFigures : (first duration : List ℕ) → ℕ → List ℕ
 processorFigures first duration p = p ∷ at first p ∷ at duration p ∷ []
-
--- the figures of n lines, one line behind the other, at the start of so many numbers; the rest are zeros
-unfoldable pub filled : (size : ℕ) (figures : ℕ → List ℕ) (n : ℕ) → List ℕ
-filled size figures n = stored (replicate size 0) 0 (joined figures n)

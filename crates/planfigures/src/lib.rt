@@ -1,28 +1,16 @@
 // The figures of a plan's lines, one line behind the other, as the writer of lines takes them.
 // What they are stands in specs/Figures.antt. Each function takes the rows that its lines show, not the whole plan.
 use framewrite::MARK;
+use framewrite::figures::put_figures;
 use tasks::set::TaskSet;
 ghost use mathlib.Core.Path.{_≡_};
 ghost use mathlib.Core.Bool.{cond};
-ghost use Prim.Native.Nat.{_+_, _*_, _≤_};
+ghost use Prim.Native.Nat.{_*_, _≤_};
 ghost use lib.Dec.{ltb};
 ghost use lib.ListN.{length as count};
-ghost use Rattle.digits.specs.Stored.{stored};
 ghost use Rattle.tasks.specs.Set.{mostTasks, mostProcessors};
-ghost use Rattle.planfigures.specs.Figures.{mark, filled, serverFigures, placedFigures, processorFigures};
-
-// Copies figures to a place among numbers.
-pub fn put_figures(numbers: &mut [u64], at: usize, figures: &[u64])
-    requires { ⌜ at + count (now figures) ≤ count (now numbers) ⌝ }
-    ensures { λ r. ⌜ now (numbers .exit) ≡ stored (now (numbers .entry)) at (now (figures .entry)) ⌝ }
-{
-    let mut i = 0;
-    while i < figures.len() {
-        let j = at + i;
-        numbers[j] = figures[i];
-        i += 1;
-    }
-}
+ghost use Rattle.framewrite.specs.Figures.{filled};
+ghost use Rattle.planfigures.specs.Figures.{mark, serverFigures, placedFigures, processorFigures};
 
 // The ring start of a server, or the mark where it has a whole processor.
 fn start_or_mark(reserve: u64, slot: u64, start: u64) -> u64

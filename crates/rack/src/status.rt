@@ -1,5 +1,5 @@
 // The status of an answer, 0 or a refusal as one number, and the numbers of an answer in lent memory.
-use planfigures::put_figures;
+use framewrite::figures::put_figures;
 use refusals::Refusal;
 use refusals::number;
 use refusals::place;

@@ -12,7 +12,8 @@ use Rattle.frames.specs.declared.table.Frame.{Frame}
 use Rattle.tasks.specs.Set.{mostProcessors}
 use Rattle.planfigures.specs.Figures.{processorFigures}
 use Rattle.plantext.specs.Text.{processorLine}
-use Rattle.planfigures.proofs.FillLaws.{filled-length, lines-filled, processor-each}
+use Rattle.framewrite.proofs.FillLaws.{filled-length, lines-filled}
+use Rattle.planfigures.proofs.FigureLaws.{processor-each}
 use borrow.Author.Needs.{needs}
 use Rattle.plantext.proofs.text.put_processors.Statement.{statement}
 use Rattle.plantext.proofs.text.put_processors.Tie as tie

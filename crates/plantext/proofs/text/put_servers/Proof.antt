@@ -12,7 +12,8 @@ use Rattle.frames.specs.declared.table.Frame.{Frame}
 use Rattle.tasks.specs.Set.{mostTasks}
 use Rattle.planfigures.specs.Figures.{serverFigures}
 use Rattle.plantext.specs.Text.{serverLine}
-use Rattle.planfigures.proofs.FillLaws.{filled-length, lines-filled, server-each}
+use Rattle.framewrite.proofs.FillLaws.{filled-length, lines-filled}
+use Rattle.planfigures.proofs.FigureLaws.{server-each}
 use borrow.Author.Needs.{needs}
 use Rattle.plantext.proofs.text.put_servers.Statement.{statement}
 use Rattle.plantext.proofs.text.put_servers.Tie as tie

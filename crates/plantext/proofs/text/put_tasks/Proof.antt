@@ -12,7 +12,8 @@ use Rattle.frames.specs.declared.table.Frame.{Frame}
 use Rattle.tasks.specs.Set.{mostTasks}
 use Rattle.planfigures.specs.Figures.{placedFigures}
 use Rattle.plantext.specs.Text.{placedLine}
-use Rattle.planfigures.proofs.FillLaws.{filled-length, lines-filled, placed-each}
+use Rattle.framewrite.proofs.FillLaws.{filled-length, lines-filled}
+use Rattle.planfigures.proofs.FigureLaws.{placed-each}
 use borrow.Author.Needs.{needs}
 use Rattle.plantext.proofs.text.put_tasks.Statement.{statement}
 use Rattle.plantext.proofs.text.put_tasks.Tie as tie
