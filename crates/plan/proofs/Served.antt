@@ -19,7 +19,7 @@ use Rattle.members.proofs.PaddedLaws.{padded-length, padded-take}
 use Rattle.servers.proofs.PlacementLaws.{placement-length}
 use Rattle.servers.proofs.Claims.{servers-few}
 use Rattle.servers.proofs.ReserveLaws.{reserves-count, reserves-range}
-use Rattle.ring.specs.Slotted.{SlottedFirst}
+use Rattle.reserves.specs.Slotted.{SlottedFirst}
 use Rattle.plan.specs.Plan.{laidOut}
 use Rattle.plan.specs.Layable.{Layable}
 use Rattle.rows.proofs.Clears.{members-count, members-loads}

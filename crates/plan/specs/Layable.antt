@@ -7,7 +7,7 @@ use Rattle.tasks.specs.Set.{mostTasks}
 use Rattle.members.specs.Padded.{padded}
 use Rattle.servers.specs.declared.Servers.{Servers}
 use Rattle.members.specs.declared.Members.{Members}
-use Rattle.ring.specs.Slotted.{SlottedFirst}
+use Rattle.reserves.specs.Slotted.{SlottedFirst}
 
 pub record Layable (m : Members) (served : Servers) (S : ℕ) : Type 0 where
   pub tasks-few : m .count ≤ mostTasks

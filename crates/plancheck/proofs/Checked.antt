@@ -14,7 +14,7 @@ use Rattle.members.specs.Padded.{padded}
 use Rattle.servers.specs.Placement.{serversIn}
 use Rattle.members.proofs.PaddedLaws.{padded-take}
 use Rattle.servers.proofs.PlacementLaws.{placement-length}
-use Rattle.ring.specs.Slotted.{SlottedFirst}
+use Rattle.reserves.specs.Slotted.{SlottedFirst}
 use Rattle.tasks.specs.declared.set.TaskSet.{TaskSet}
 use Rattle.plan.specs.declared.plan.Plan.{Plan}
 use Rattle.rows.specs.Charge.{loadsOfSet, lossOf}

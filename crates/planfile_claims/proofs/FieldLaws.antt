@@ -22,10 +22,10 @@ use Rattle.tasks.proofs.Carried.{ask-header, header-fits}
 use Rattle.members.specs.Padded.{padded, upTo}
 use Rattle.members.specs.Loads.{loadsIn}
 use Rattle.members.proofs.LoadLaws.{in-few}
-use Rattle.ring.specs.Reserves.{reserveOf, wholes, startOf, ringProcessors, ringLength, processorsOf}
+use Rattle.reserves.specs.Reserves.{reserveOf, wholes, startOf, ringProcessors, ringLength, processorsOf}
 use Rattle.ring.specs.Who.{firstReserve}
 use Rattle.ring.specs.declared.cover.Stand.{Stand}
-use Rattle.ring.proofs.Starts.{ring-part, ring-holds}
+use Rattle.reserves.proofs.Starts.{ring-part, ring-holds}
 use Rattle.ring_claims.proofs.Claims.{first-reserve}
 use Rattle.ring.proofs.WhoLaws.{first-whole}
 use Rattle.ring_claims.proofs.OwnLaws.{whole-at}

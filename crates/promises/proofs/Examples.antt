@@ -34,8 +34,9 @@ use Rattle.servers.specs.Placement.{serversIn, takes, fit, placeFrom, placement
 use Rattle.servers.specs.Reserve.{reservesOf}
 use Rattle.ring.specs.Cover.{covers, covererUpTo, standAt}
 use Rattle.ring.specs.Phase.{phase}
-use Rattle.ring.specs.Reserves.{ringTicks, wholes}
-use Rattle.ring.specs.Who.{wholeFrom, whoOf, firstReserve}
+use Rattle.reserves.specs.Reserves.{ringTicks, wholes}
+use Rattle.reserves.specs.Whole.{wholeFrom}
+use Rattle.ring.specs.Who.{whoOf, firstReserve}
 use Rattle.rows.specs.Charge.{loadOf, loadsOfSet, lossOf}
 use Rattle.rows.specs.Rows.{slotRow, tightRow, horizonOf, horizonRow, chargedOutcome}
 use Rattle.members.specs.Padded.{upTo}

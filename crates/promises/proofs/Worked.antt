@@ -17,7 +17,7 @@ use Rattle.members.specs.Loads.{loadsIn}
 use Rattle.servers.specs.Placement.{serversIn, takes, fit, placeFrom, placementOf}
 use Rattle.members.specs.Padded.{upTo}
 use Rattle.servers.specs.Reserve.{reservesOf}
-use Rattle.ring.specs.Reserves.{ringTicks, wholes}
+use Rattle.reserves.specs.Reserves.{ringTicks, wholes}
 use Rattle.ring_claims.specs.Serves.{RingServer, WholeProcessor}
 use Rattle.tasks.specs.declared.set.Task.{Task}
 use Rattle.tasks.specs.declared.set.TaskSet.{TaskSet}

@@ -1,10 +1,9 @@
-// The reserves in server order, of which the first n count: what stands on the ring, and where.
-// A reserve of a slot means a whole processor.
+// Sums over the reserves: the ring's ticks and processors, the whole processors, where each reserve starts.
 ghost use mathlib.Core.Path.{_≡_};
 ghost use Prim.Native.Nat.{_≤_};
 ghost use lib.ListN.{take};
-ghost use Rattle.ring.specs.Slotted.{SlottedFirst};
-ghost use Rattle.ring.specs.Reserves.{ringTicks, wholes, startOf, ringProcessors};
+ghost use Rattle.reserves.specs.Slotted.{SlottedFirst};
+ghost use Rattle.reserves.specs.Reserves.{ringTicks, wholes, startOf, ringProcessors};
 
 // The sum of the reserves on the ring.
 pub fn ring_ticks(reserves: &[u64], n: usize, slot: u64) -> u64

@@ -1,4 +1,4 @@
--- `reserves::start` meets its contract: the ring reserves of lower number are the first q − 1.
+-- `sums::start` meets its contract: the ring reserves of lower number are the first q − 1.
 -- Assumes nothing.
 use Prim.Native.Nat.{ℕ, _-_}
 use mathlib.Core.Path.{sym, ap, _∙_}
@@ -6,10 +6,10 @@ use borrow.Author.Needs.{needs}
 use native.Mathlib.Numerals.{sub-one}
 use native.Mathlib.Omega.{arith}
 use lib.ListN.{take}
-use Rattle.ring.specs.Reserves.{ringTicks}
-use Rattle.ring.proofs.Starts.{fewer, taken-start}
-use Rattle.ring.proofs.reserves.start.Statement.{statement}
-use Rattle.ring.proofs.reserves.start.Tie as tie
+use Rattle.reserves.specs.Reserves.{ringTicks}
+use Rattle.reserves.proofs.Starts.{fewer, taken-start}
+use Rattle.reserves.proofs.sums.start.Statement.{statement}
+use Rattle.reserves.proofs.sums.start.Tie as tie
 
 sub-before : tie.Need-sub-before
 sub-before c = search needs

@@ -8,9 +8,9 @@ use native.Mathlib.Numerals.{add-one}
 use native.Mathlib.Omega.{arith}
 use lib.ListN.{getD, take}
 use lib.Seq.{length-take-le}
-use Rattle.ring.specs.Slotted.{SlottedFirst}
-use Rattle.ring.specs.Reserves.{ringTicks, wholes}
-use Rattle.ring.proofs.Starts.{ring-more, ring-same, wholes-more, wholes-same, wholes-below, ring-room}
+use Rattle.reserves.specs.Slotted.{SlottedFirst}
+use Rattle.reserves.specs.Reserves.{ringTicks, wholes}
+use Rattle.reserves.proofs.Starts.{ring-more, ring-same, wholes-more, wholes-same, wholes-below, ring-room}
 
 -- `sum` is what F sums of the first i
 pub record Summed (F : List ℕ → ℕ) (rs : List ℕ) (n sum i : ℕ) : Type 0 where

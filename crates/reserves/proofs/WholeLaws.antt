@@ -10,10 +10,10 @@ use lib.ListN.{length, getD, take, drop, drop-of-length-le}
 use lib.Seq.{drop-cons, getD-take}
 use Rattle.laws.proofs.Orders.{le-or-lt}
 use Rattle.laws.proofs.Choices.{cond-ltb, cond-ltb-not}
-use Rattle.ring.specs.Slotted.{SlottedFirst}
-use Rattle.ring.specs.Reserves.{wholes}
-use Rattle.ring.specs.Who.{wholeFrom, wholeServer}
-use Rattle.ring.proofs.Starts.{taken-length, wholes-cons, wholes-nil}
+use Rattle.reserves.specs.Slotted.{SlottedFirst}
+use Rattle.reserves.specs.Reserves.{wholes}
+use Rattle.reserves.specs.Whole.{wholeFrom, wholeServer}
+use Rattle.reserves.proofs.Starts.{taken-length, wholes-cons, wholes-nil}
 
 module _ (S : ℕ) where
   -- a ring server is passed over

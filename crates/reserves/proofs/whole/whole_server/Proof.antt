@@ -1,12 +1,12 @@
--- `who::whole_server` meets its contract. The loop's invariant: the server asked for is the `more`-th from the i-th reserve on.
+-- `whole::whole_server` meets its contract. The loop's invariant: the server asked for is the `more`-th from the i-th reserve on.
 -- The measure is what is left of n. Assumes nothing.
 use Prim.Native.Nat.{_-_}
 use mathlib.Core.Logic.{⊎-elim}
 use borrow.Author.Needs.{needs}
 use native.Mathlib.Omega.{arith}
-use Rattle.ring.proofs.WholeLaws.{Walked, walked-none, walked-here, walked-past, walked-next, walked-all}
-use Rattle.ring.proofs.who.whole_server.Statement.{statement}
-use Rattle.ring.proofs.who.whole_server.Tie as tie
+use Rattle.reserves.proofs.WholeLaws.{Walked, walked-none, walked-here, walked-past, walked-next, walked-all}
+use Rattle.reserves.proofs.whole.whole_server.Statement.{statement}
+use Rattle.reserves.proofs.whole.whole_server.Tie as tie
 
 abbrev Inv-loop : tie.InvT-loop
 Inv-loop reserves n slot k more₀ i₀ more i = Walked slot reserves n k more i

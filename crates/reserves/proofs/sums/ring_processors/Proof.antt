@@ -1,11 +1,11 @@
--- `reserves::ring_processors` meets its contract: the sum of the reserves, in slots, rounded up.
+-- `sums::ring_processors` meets its contract: the sum of the reserves, in slots, rounded up.
 -- Assumes nothing.
 use Prim.Native.Nat.{ℕ}
 use mathlib.Core.Path.{ap, _∙_}
 use borrow.Author.Needs.{needs}
 use Rattle.wholes.specs.Ceiling.{ceilingOf}
-use Rattle.ring.proofs.reserves.ring_processors.Statement.{statement}
-use Rattle.ring.proofs.reserves.ring_processors.Tie as tie
+use Rattle.reserves.proofs.sums.ring_processors.Statement.{statement}
+use Rattle.reserves.proofs.sums.ring_processors.Tie as tie
 
 ring-ticks-requires : tie.Need-ring-ticks-requires
 ring-ticks-requires c κs = search needs

@@ -1,23 +1,23 @@
--- `reserves::whole_count` meets its contract. The loop's invariant: the count is that of the first i reserves.
+-- `sums::ring_ticks` meets its contract. The loop's invariant: the sum is that of the first i reserves.
 -- The measure is what is left of n. Assumes nothing.
 use Prim.Native.Nat.{_-_}
 use mathlib.Core.Logic.{⊎-elim}
 use borrow.Author.Needs.{needs}
 use native.Mathlib.Omega.{arith}
-use Rattle.ring.specs.Reserves.{wholes}
-use Rattle.ring.proofs.Starts.{wholes-nil}
-use Rattle.ring.proofs.SummedLaws.{Summed, summed-none, summed-all, count-more, count-same, count-room}
-use Rattle.ring.proofs.reserves.whole_count.Statement.{statement}
-use Rattle.ring.proofs.reserves.whole_count.Tie as tie
+use Rattle.reserves.specs.Reserves.{ringTicks}
+use Rattle.reserves.proofs.Starts.{ring-nil}
+use Rattle.reserves.proofs.SummedLaws.{Summed, summed-none, summed-all, ticks-more, ticks-same, ticks-room}
+use Rattle.reserves.proofs.sums.ring_ticks.Statement.{statement}
+use Rattle.reserves.proofs.sums.ring_ticks.Tie as tie
 
 abbrev Inv-loop : tie.InvT-loop
-Inv-loop reserves n slot count₀ i₀ count i = Summed (wholes slot) reserves n count i
+Inv-loop reserves n slot sum₀ i₀ sum i = Summed (ringTicks slot) reserves n sum i
 
 abbrev μ-loop : tie.MeasureT-loop
-μ-loop reserves n slot count₀ i₀ count i = n - i
+μ-loop reserves n slot sum₀ i₀ sum i = n - i
 
 loop-holds : tie.Need-loop-holds Inv-loop μ-loop
-loop-holds c = summed-none (wholes-nil _)
+loop-holds c = summed-none (ring-nil _)
 
 mul-reserve : tie.Need-mul-reserve Inv-loop μ-loop
 mul-reserve c = search needs
@@ -25,10 +25,11 @@ mul-reserve c = search needs
 shared-slice-read-reserve : tie.Need-shared-slice-read-reserve Inv-loop μ-loop
 shared-slice-read-reserve c = search needs
 
-add-count : tie.Need-add-count Inv-loop μ-loop
-add-count c =
+add-sum : tie.Need-add-sum Inv-loop μ-loop
+add-sum c =
     let at = c .before .before .before in
-    omega (arith, count-room (at .before .pre) (at .loop .inv))
+    let laid = at .before .pre in
+    omega (arith, laid .slot-below, laid .within (at .loop .i) (c .before .before .loop-test .taken), ticks-room laid (at .loop .inv))
 
 add-i : tie.Need-add-i Inv-loop μ-loop
 add-i c = search needs
@@ -41,15 +42,15 @@ loop-again c =
     let at = c .before .before .before in
     let h = c .before .before .loop-test .taken in
     ⊎-elim
-    (λ w. count-more (at .before .pre) (at .loop .inv) h (omega (arith, w .0 .taken)) (w .1))
-    (λ w. count-same (at .before .pre) (at .loop .inv) h (omega (arith, w .0 .left)) (w .1))
+    (λ w. ticks-more (at .before .pre) (at .loop .inv) h (omega (arith, w .0 .taken)) (w .1))
+    (λ w. ticks-same (at .before .pre) (at .loop .inv) h (omega (arith, w .0 .left)) (w .1))
     (c .if1 .came)
 
 returns : tie.Need-returns Inv-loop μ-loop
 returns c = summed-all (c .before .loop .inv) (c .loop-test .left)
 
-pub whole-count-spec : {M : Type 1} → statement M
-whole-count-spec =
+pub ring-ticks-spec : {M : Type 1} → statement M
+ring-ticks-spec =
     tie.close
     (tie.spec
     Inv-loop
@@ -57,7 +58,7 @@ whole-count-spec =
     loop-holds
     mul-reserve
     shared-slice-read-reserve
-    add-count
+    add-sum
     add-i
     loop-less
     loop-again

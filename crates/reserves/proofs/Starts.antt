@@ -13,8 +13,8 @@ use lib.Seq.{take-suc, take-add, take-take, length-take-le, getD-take}
 use Rattle.laws.proofs.Orders.{le-or-lt}
 use Rattle.laws.proofs.Choices.{cond-ltb, cond-ltb-not}
 use Rattle.wholes.proofs.CeilingLaws.{ceiling-least}
-use Rattle.ring.specs.Slotted.{SlottedFirst}
-use Rattle.ring.specs.Reserves.{ringTicks, wholes, ringProcessors, ringLength}
+use Rattle.reserves.specs.Slotted.{SlottedFirst}
+use Rattle.reserves.specs.Reserves.{ringTicks, wholes, ringProcessors, ringLength}
 
 -- ---- a sum over a list, by the first element and the rest
 
