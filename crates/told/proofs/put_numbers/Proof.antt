@@ -1,9 +1,9 @@
--- `rack::status::put_numbers` meets its contract: ROOM, or the numbers stored at the answer's start. Assumes nothing.
+-- `told::put_numbers` meets its contract: ROOM, or the numbers stored at the answer's start. Assumes nothing.
 use borrow.Author.Needs.{needs}
 use native.Mathlib.Omega.{arith}
-use Rattle.rack.proofs.RackLaws.{told-room, told-stored}
-use Rattle.rack.proofs.status.put_numbers.Statement.{statement}
-use Rattle.rack.proofs.status.put_numbers.Tie as tie
+use Rattle.told.proofs.ToldLaws.{told-room, told-stored}
+use Rattle.told.proofs.put_numbers.Statement.{statement}
+use Rattle.told.proofs.put_numbers.Tie as tie
 
 code-requires : tie.Need-code-requires
 code-requires c κs = search needs

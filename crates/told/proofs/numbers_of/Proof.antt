@@ -1,11 +1,11 @@
--- `rack::answers::numbers_of` meets its contract, by the verdict. Assumes nothing.
+-- `told::numbers_of` meets its contract, by the verdict. Assumes nothing.
 use borrow.Author.Needs.{needs}
 use mathlib.Core.Path.{sym, ap}
-use Rattle.rack.specs.Rack.{verdictNumbers}
-use Rattle.rack.proofs.answers.numbers_of.Statement.{statement}
-use Rattle.rack.proofs.answers.numbers_of.Tie as tie
-use Rattle.rack.proofs.answers.numbers_of.Reads as reads
-use Rattle.rack.proofs.answers.numbers_of.Lts as lts
+use Rattle.told.specs.Told.{verdictNumbers}
+use Rattle.told.proofs.numbers_of.Statement.{statement}
+use Rattle.told.proofs.numbers_of.Tie as tie
+use Rattle.told.proofs.numbers_of.Reads as reads
+use Rattle.told.proofs.numbers_of.Lts as lts
 
 enum-told : tie.Need-enum-told
 enum-told c = search needs

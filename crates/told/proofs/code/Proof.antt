@@ -1,10 +1,10 @@
--- `rack::status::code` meets its contract: a refusal's number is at most 12, and its place a byte. Assumes nothing.
+-- `told::code` meets its contract: a refusal's number is at most 12, and its place a byte. Assumes nothing.
 use Prim.Native.Nat.{_≤_, _<_}
 use native.Mathlib.Omega.{arith}
-use Rattle.rack.proofs.RackLaws.{number-row}
+use Rattle.told.proofs.ToldLaws.{number-row}
 use borrow.Author.Needs.{needs}
-use Rattle.rack.proofs.status.code.Statement.{statement}
-use Rattle.rack.proofs.status.code.Tie as tie
+use Rattle.told.proofs.code.Statement.{statement}
+use Rattle.told.proofs.code.Tie as tie
 
 number-requires : tie.Need-number-requires
 number-requires c κs = search needs

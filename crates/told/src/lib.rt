@@ -1,11 +1,13 @@
-// The status of an answer, 0 or a refusal as one number, and the numbers of an answer in lent memory.
+// An answer told in numbers: its status, 0 or a refusal as one number; the numbers of a verdict; numbers into lent memory.
+// What they are stands in specs/Told.antt.
 use framewrite::figures::put_figures;
 use refusals::Refusal;
 use refusals::number;
 use refusals::place;
+use verdict::answer::Verdict;
 ghost use mathlib.Core.Path.{_≡_};
 ghost use Rattle.refusals.specs.declared.Outcome.the-variants.{Done, Refused};
-ghost use Rattle.rack.specs.Rack.{statusOf, toldOf, leavesNumbers};
+ghost use Rattle.told.specs.Told.{statusOf, toldOf, leavesNumbers, verdictNumbers};
 
 // number · 256 + place
 pub fn code(refusal: Refusal) -> u64
@@ -26,4 +28,14 @@ pub fn put_numbers(answer: &mut [u64], numbers: &[u64]) -> u64
     }
     put_figures(answer, 0, numbers);
     0
+}
+
+// 1 and three zeros for yes; 0, the smallest failing length, the demand and the supply there for no.
+pub fn numbers_of(verdict: Verdict) -> [u64; 4]
+    ensures { λ r. ⌜ r ≡ verdictNumbers verdict ⌝ }
+{
+    match verdict {
+        Verdict::Yes(_) => [1, 0, 0, 0],
+        Verdict::No(reading) => [0, reading.length, reading.demand, reading.supply],
+    }
 }
