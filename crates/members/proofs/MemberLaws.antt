@@ -8,9 +8,9 @@ use Rattle.wholes.specs.Multiple.{Positive}
 use Rattle.demand.specs.Load.{Load, Sound, loadAt, loadsOf}
 use Rattle.demand.proofs.Demand.{every-at}
 use Rattle.tasks.specs.Set.{mostTasks}
-use Rattle.members.specs.Padded.{padded}
+use Rattle.places.specs.Padded.{padded}
 use Rattle.members.specs.Members.{membersOf, memberLoads, withLoad, Bounded}
-use Rattle.members.proofs.PaddedLaws.{padded-more}
+use Rattle.places.proofs.PaddedLaws.{padded-more}
 
 -- ---- three slices
 

@@ -14,13 +14,14 @@ use Rattle.verdict.specs.Verdict.{ownHorizon, Horizon, Testable}
 use Rattle.verdict.specs.Claims.{Asked}
 use Rattle.verdict.proofs.Verdict.{own-horizon}
 use Rattle.tasks.specs.Set.{mostTasks}
-use Rattle.members.specs.Padded.{padded}
+use Rattle.places.specs.Padded.{padded}
 use Rattle.members.specs.Members.{membersOf, memberLoads, withLoad, Bounded, Sized}
 use Rattle.members.specs.Loads.{loadsIn}
 use Rattle.members.specs.declared.Members.{Members}
-use Rattle.members.proofs.PaddedLaws.{padded-length}
+use Rattle.places.proofs.PaddedLaws.{padded-length}
 use Rattle.members.proofs.MemberLaws.{members-back, members-more}
-use Rattle.members.proofs.LoadLaws.{every-in, in-few}
+use Rattle.members.proofs.LoadLaws.{every-in}
+use Rattle.places.proofs.PlacesLaws.{in-few}
 
 -- two things that hold of every load hold together
 every-both : (P Q : Load → Type 0) (ls : List Load) → Every P ls → Every Q ls → Every (λ (l : Load). P l × Q l) ls

@@ -1,3 +1,2 @@
-pub mod Padded
 pub mod Members
 pub mod Loads

@@ -1,17 +1,10 @@
--- The loads of one server among those of all tasks. A placement is the list of each task's server, in file order.
+-- The loads of one server among those of all tasks.
 -- Document 01, "From tasks to servers to ring", rule 1.
 use Prim.Native.Nat.{ℕ}
-use mathlib.Core.List.{List, [], _∷_}
-use mathlib.Core.Bool.{Bool, true, false}
-use lib.Dec.{eqb}
+use mathlib.Core.List.{List}
 use Rattle.demand.specs.Load.{Load}
+use Rattle.places.specs.Places.{chosen}
 
-abbrev pub keep : Bool → Load → List Load → List Load
-keep true l ls = l ∷ ls
-keep false l ls = ls
-
--- the loads of server q, in file order; a task past the placement's end is in no server yet
-unfoldable pub loadsIn : List Load → (placement : List ℕ) → ℕ → List Load
-loadsIn [] placement q = []
-loadsIn (l ∷ ls) [] q = []
-loadsIn (l ∷ ls) (a ∷ placement) q = keep (eqb a q) l (loadsIn ls placement q)
+-- the loads of server q, in file order
+abbrev pub loadsIn : List Load → (placement : List ℕ) → (q : ℕ) → List Load
+loadsIn ls placement q = chosen ls placement q

@@ -6,7 +6,7 @@ use lib.ListN.{length, set}
 use Rattle.demand.specs.Load.{Load, Loaded, loadsOf}
 use Rattle.verdict.specs.Verdict.{Horizon}
 use Rattle.tasks.specs.Set.{mostTasks}
-use Rattle.members.specs.Padded.{padded}
+use Rattle.places.specs.Padded.{padded}
 use Rattle.members.specs.declared.Members.{Members}
 
 unfoldable pub membersOf : List Load → Members

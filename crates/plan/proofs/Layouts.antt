@@ -9,7 +9,7 @@ use borrow.Author.Tests.{lt-ltb, le-ltb}
 use lib.ListN.{length, take}
 use Rattle.laws.proofs.Orders.{le-or-lt}
 use Rattle.wholes.proofs.CeilingLaws.{ceiling-least}
-use Rattle.members.specs.Padded.{padded, upTo}
+use Rattle.places.specs.Padded.{padded, upTo}
 use Rattle.members.specs.Members.{memberLoads}
 use Rattle.members.specs.Loads.{loadsIn}
 use Rattle.servers.specs.declared.Servers.{Servers}

@@ -4,7 +4,7 @@ use Prim.Native.Nat.{ℕ, _≤_}
 use mathlib.Core.Path.{_≡_}
 use lib.ListN.{take}
 use Rattle.tasks.specs.Set.{mostTasks}
-use Rattle.members.specs.Padded.{padded}
+use Rattle.places.specs.Padded.{padded}
 use Rattle.servers.specs.declared.Servers.{Servers}
 use Rattle.members.specs.declared.Members.{Members}
 use Rattle.reserves.specs.Slotted.{SlottedFirst}

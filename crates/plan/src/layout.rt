@@ -13,7 +13,7 @@ ghost use mathlib.Core.Path.{_≡_};
 ghost use Prim.Native.Nat.{ℕ, _≤_};
 ghost use lib.ListN.{length, take};
 ghost use Rattle.tasks.specs.Set.{mostTasks};
-ghost use Rattle.members.specs.Padded.{padded, upTo};
+ghost use Rattle.places.specs.Padded.{padded, upTo};
 ghost use Rattle.members.specs.Members.{memberLoads};
 ghost use Rattle.members.specs.Loads.{loadsIn};
 ghost use Rattle.reserves.specs.Slotted.{SlottedFirst};

@@ -12,7 +12,8 @@ use Rattle.verdict.specs.Claims.{Asked}
 use Rattle.verdict.specs.Reserve.{Smallest}
 use Rattle.servers.specs.Placement.{serversIn, placementOf}
 use Rattle.servers.specs.Reserve.{reservesOf}
-use Rattle.members.proofs.LoadLaws.{every-in, in-some}
+use Rattle.members.proofs.LoadLaws.{every-in}
+use Rattle.places.proofs.PlacesLaws.{in-some}
 use Rattle.servers.proofs.PlacementLaws.{placement-length}
 use Rattle.servers.proofs.ReserveLaws.{reserves-count, reserves-range}
 use Rattle.servers.proofs.Claims.{each-in-one, smallest-reserves}

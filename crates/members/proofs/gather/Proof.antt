@@ -13,10 +13,11 @@ use Rattle.demand.specs.Load.{Load, loadAt, loadsOf}
 use Rattle.demand.proofs.Demand.{loads-next, loads-length}
 use Rattle.tasks.specs.Set.{mostTasks}
 use Rattle.members.specs.Members.{membersOf, withLoad, Gathered}
+use Rattle.places.specs.Places.{chosen}
 use Rattle.members.specs.Loads.{loadsIn}
 use Rattle.members.specs.declared.Members.{Members}
 use Rattle.members.proofs.MemberLaws.{members-more}
-use Rattle.members.proofs.LoadLaws.{in-joined, in-apart, in-few}
+use Rattle.places.proofs.PlacesLaws.{in-joined, in-apart, in-few}
 use Rattle.members.proofs.gather.Statement.{statement}
 use Rattle.members.proofs.gather.Tie as tie
 
@@ -62,7 +63,7 @@ module _ (costs deadlines periods server : List ℕ) (n : ℕ) (g : Gathered cos
       e ∙ ap membersOf (sym (next ∙ in-apart (loadsOf costs deadlines periods i) (take i server) (loadAt costs deadlines periods i) (getD server i 0) q even t))
 
 loop-holds : tie.Need-loop-holds Inv-loop μ-loop
-unfolding loadsOf loadsIn membersOf
+unfolding loadsOf chosen membersOf
 loop-holds c = (omega arith, refl)
 
 mul-if1 : tie.Need-mul-if1 Inv-loop μ-loop
