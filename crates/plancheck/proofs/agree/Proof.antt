@@ -1,4 +1,4 @@
--- `check::agree` meets its contract: the parts are compared in the definition's order.
+-- `agree` meets its contract: the parts are compared in the definition's order.
 -- Assumes nothing.
 use borrow.Author.Needs.{needs}
 use borrow.Author.Tests.{not-true, not-false}

@@ -79,18 +79,17 @@ module _ (ls : List Load) (S L : ℕ) (few : length ls ≤ mostTasks) (sound : E
         ∙ padded-take (placementOf ls S L) (length ls) (placement-length ls S L)
 
     -- the answer can be laid out
-    pub layable : Layable m sv S
+    pub layable : Layable sv (m .count) S
     layable = record {
       tasks-few = omega (arith, tasks-is);
       servers-few = omega (arith, count-is, count-few);
       laid = laid-by (sv .reserve) (sv .count) (ap length reserve-is ∙ padded-length (reservesOf ls S L) (omega (arith, reserves-count ls S L, count-few))) count-is front-reserves;
       reserve-room = ap padded front-reserves ∙ sym reserve-is;
-      server-room = ap padded front-servers ∙ sym server-is;
+      placement-room = ap padded front-servers ∙ sym server-is;
     }
 
     -- its layout is that of the placement and the reserves
-    pub laid-is : laidOut S (memberLoads m) (take (m .count) (sv .server)) (take (sv .count) (sv .reserve)) ≡ laidOut S ls (placementOf ls S L) (reservesOf ls S L)
-    laid-is =
-        ap (λ (k : List Load). laidOut S k (take (m .count) (sv .server)) (take (sv .count) (sv .reserve))) (members-loads ls few sound e)
-        ∙ ap (λ (p : List ℕ). laidOut S ls p (take (sv .count) (sv .reserve))) front-servers
-        ∙ ap (laidOut S ls (placementOf ls S L)) front-reserves
+    pub laid-is : (cache : ℕ) → laidOut S cache (take (m .count) (sv .server)) (take (sv .count) (sv .reserve)) ≡ laidOut S cache (placementOf ls S L) (reservesOf ls S L)
+    laid-is cache =
+        ap (λ (p : List ℕ). laidOut S cache p (take (sv .count) (sv .reserve))) front-servers
+        ∙ ap (laidOut S cache (placementOf ls S L)) front-reserves

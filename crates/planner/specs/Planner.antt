@@ -11,10 +11,10 @@ use Rattle.tasks.specs.declared.set.TaskSet.{TaskSet}
 use Rattle.refusals.specs.First.{firstOf, when}
 use Rattle.tasks.specs.Rows.{askRow}
 use Rattle.reserves.specs.Reserves.{processorsOf}
 use Rattle.plan.specs.declared.plan.Plan.{Plan}
-use Rattle.plan.specs.declared.planner.PlanAnswer.{PlanAnswer}
+use Rattle.planner.specs.declared.PlanAnswer.{PlanAnswer}
 use Rattle.rows.specs.Rows.{chargedOutcome}
 use Rattle.plan.specs.Plan.{planMade, setReserves, zeroPlan}
 
 -- the processors that a set's plan needs: r + whole processors
 unfoldable pub needed : TaskSet → ℕ

@@ -1,12 +1,12 @@
--- `planner::make` meets its contract: row 11 first, then rows 5 to 9, then row 10.
+-- `make` meets its contract: row 11 first, then rows 5 to 9, then row 10.
 -- Assumes nothing.
 use mathlib.Core.Path.{sym, _∙_}
 use borrow.Author.Needs.{needs}
 use Rattle.tasks.proofs.Carried.{count-within, ask-count}
 use Rattle.rows.proofs.Clears.{rows-clear, rows-refused}
-use Rattle.plan.proofs.Made.{plan-ask, plan-charged}
-use Rattle.plan.proofs.planner.make.Statement.{statement}
-use Rattle.plan.proofs.planner.make.Tie as tie
+use Rattle.planner.proofs.Made.{plan-ask, plan-charged}
+use Rattle.planner.proofs.make.Statement.{statement}
+use Rattle.planner.proofs.make.Tie as tie
 
 asks-requires : tie.Need-asks-requires
 asks-requires c κs = search needs

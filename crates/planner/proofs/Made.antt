@@ -13,7 +13,7 @@ use Rattle.refusals.specs.declared.Outcome.the-variants.{Done, Refused}
 use Rattle.demand.specs.Load.{Sound, Every}
 use Rattle.members.specs.Members.{membersOf, memberLoads, Sized}
 use Rattle.servers.specs.Placement.{serversIn}
-use Rattle.servers.specs.Reserve.{serversOf}
+use Rattle.servers.specs.Reserve.{reservesOf, serversOf}
 use Rattle.servers.specs.declared.Servers.{Servers}
 use Rattle.members.specs.declared.Members.{Members}
 use Rattle.servers.proofs.ReserveLaws.{reserves-count}
@@ -22,16 +22,16 @@ use Rattle.tasks.specs.Set.{mostTasks}
 use Rattle.refusals.specs.First.{firstOf, when}
 use Rattle.tasks.specs.Rows.{askRow}
 use Rattle.tasks.proofs.Carried.{count-within, ask-count}
 use Rattle.plan.specs.declared.plan.Plan.{Plan}
 use Rattle.rows.specs.Charge.{loadsOfSet, lossOf}
 use Rattle.rows.specs.Rows.{chargedOutcome, horizonOf, Chargeable, RowsClear}
-use Rattle.plan.specs.Plan.{laidOut, setPlacement, setReserves, planMade, zeroPlan}
-use Rattle.plan.specs.Planner.{Clear, needed, fullRow, planOutcome, answer, planOf}
+use Rattle.plan.specs.Plan.{laidOut, reservesWith, planWith, setPlacement, setReserves, planMade, zeroPlan}
+use Rattle.planner.specs.Planner.{Clear, needed, fullRow, planOutcome, answer, planOf}
 use Rattle.plan.specs.Layable.{Layable}
 use Rattle.refusals.proofs.FirstLaws.{first-done, when-done}
 use Rattle.rows.proofs.Clears.{board-slot, charged-clear, loads-sound, loads-length, horizon-of-loads, horizon-short, slot-small, loss-small, members-sized}
 use Rattle.plan.proofs.Layouts.{processors-few}
-use Rattle.plan.proofs.Served.{count-few, layable, laid-is}
+use Rattle.planner.proofs.Served.{count-few, layable, laid-is}
 
 module _ (set : TaskSet) (full : length (set .tasks) ≡ mostTasks) (clear : Clear set) where
   pub rows-clear : RowsClear set
@@ -67,7 +67,7 @@ module _ (set : TaskSet) (full : length (set .tasks) ≡ mostTasks) (clear : Cle
 
   -- the reserves are as many as the servers
   pub set-count : length (setReserves set) ≡ serversIn (setPlacement set)
-  unfolding setReserves setPlacement
+  unfolding setReserves reservesWith reservesOf setPlacement
   set-count = reserves-count (loadsOfSet set) (set .header .slot) (lossOf (set .header))
 
   -- there are at most mostTasks servers
@@ -82,7 +82,7 @@ module _ (set : TaskSet) (full : length (set .tasks) ≡ mostTasks) (clear : Cle
 
   -- the same of the plan's figure
   pub made-servers : planMade set .servers ≤ mostTasks
-  unfolding planMade laidOut
+  unfolding planMade planWith laidOut setReserves
   made-servers = omega (arith, set-count, set-few)
 
   module _ {m : Members} (e : m ≡ membersOf (loadsOfSet set)) where
@@ -94,17 +94,17 @@ module _ (set : TaskSet) (full : length (set .tasks) ≡ mostTasks) (clear : Cle
 
     module _ {sv : Servers} (g : sv ≡ serversOf (memberLoads m) (set .header .slot) (lossOf (set .header))) where
       -- and then laid out: that is the set's plan
-      pub set-layable : Layable m sv (set .header .slot)
+      pub set-layable : Layable sv (m .count) (set .header .slot)
       set-layable = layable (loadsOfSet set) (set .header .slot) (lossOf (set .header)) few-loads sound slot-some slot-below e g
 
       -- its layout is the set's plan
-      pub set-laid : laidOut (set .header .slot) (memberLoads m) (take (m .count) (sv .server)) (take (sv .count) (sv .reserve)) ≡ planMade set
-      unfolding planMade setPlacement setReserves
-      set-laid = laid-is (loadsOfSet set) (set .header .slot) (lossOf (set .header)) few-loads sound slot-some slot-below e g
+      pub set-laid : laidOut (set .header .slot) (set .header .cpmdo) (take (m .count) (sv .server)) (take (sv .count) (sv .reserve)) ≡ planMade set
+      unfolding planMade planWith reservesWith reservesOf setPlacement
+      set-laid = laid-is (loadsOfSet set) (set .header .slot) (lossOf (set .header)) few-loads sound slot-some slot-below e g (set .header .cpmdo)
 
 -- the processors of the set's plan are those that it needs
 pub made-needs : (set : TaskSet) → planMade set .ring + planMade set .whole ≡ needed set
-unfolding planMade laidOut needed
+unfolding planMade planWith laidOut setReserves needed
 made-needs set = refl
 
 -- the same of any plan that is the set's

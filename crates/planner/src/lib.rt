@@ -1,7 +1,7 @@
 // The planner: the plan that document 01 describes, or the first refusal and the all-zero plan.
 // What it means stands in specs/Planner.antt.
-use crate::layout::lay_out;
-use crate::plan::Plan;
+use plan::layout::lay_out;
+use plan::plan::Plan;
 use refusals::Outcome;
 use refusals::Refusal;
 use rows::charge;
@@ -10,8 +10,8 @@ use rows::rows::charged;
 use tasks::set::TaskSet;
 ghost use mathlib.Core.Path.{_≡_};
 ghost use Rattle.rows.specs.Rows.{horizonOf};
 ghost use Rattle.plan.specs.Plan.{planMade, zeroPlan};
-ghost use Rattle.plan.specs.Planner.{Clear, answer, planOf};
+ghost use Rattle.planner.specs.Planner.{Clear, answer, planOf};
 
 pub struct PlanAnswer {
     pub outcome: Outcome,
@@ -37,7 +37,7 @@ fn lay(set: TaskSet, horizon: u64) -> Plan
         loss,
         horizon,
     );
-    lay_out(loads, served, slot)
+    lay_out(served, n, slot, header.cpmdo as u64)
 }
 
 fn refused(refusal: Refusal) -> PlanAnswer

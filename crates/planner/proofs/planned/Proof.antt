@@ -1,4 +1,4 @@
--- `planner::planned` meets its contract: the plan is laid, and row 10 is tried by its processors.
+-- `planned` meets its contract: the plan is laid, and row 10 is tried by its processors.
 -- Assumes nothing.
 use Prim.Native.Nat.{_+_, _≤_, _<_}
 use mathlib.Core.Path.{_≡_, sym, _∙_}
@@ -6,10 +6,10 @@ use native.Mathlib.Omega.{arith}
 use borrow.Author.Needs.{needs}
 use lib.ListN.{length, length-map}
 use Rattle.tasks.specs.Set.{mostTasks}
-use Rattle.plan.specs.Planner.{needed}
-use Rattle.plan.proofs.Made.{needed-few, made-sum, full-holds, full-clear, plan-full, plan-done}
-use Rattle.plan.proofs.planner.planned.Statement.{statement}
-use Rattle.plan.proofs.planner.planned.Tie as tie
+use Rattle.planner.specs.Planner.{needed}
+use Rattle.planner.proofs.Made.{needed-few, made-sum, full-holds, full-clear, plan-full, plan-done}
+use Rattle.planner.proofs.planned.Statement.{statement}
+use Rattle.planner.proofs.planned.Tie as tie
 
 -- a set's tasks have their places
 full : (c : tie.Start) → length (c .args .set .tasks) ≡ mostTasks

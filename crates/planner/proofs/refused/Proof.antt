@@ -1,8 +1,8 @@
--- `planner::refused` meets its contract: the plan is the all-zero plan.
+-- `refused` meets its contract: the plan is the all-zero plan.
 -- Assumes nothing.
 use borrow.Author.Needs.{needs}
-use Rattle.plan.proofs.planner.refused.Statement.{statement}
-use Rattle.plan.proofs.planner.refused.Tie as tie
+use Rattle.planner.proofs.refused.Statement.{statement}
+use Rattle.planner.proofs.refused.Tie as tie
 
 zero-requires : tie.Need-zero-requires
 zero-requires c κs = search needs
