@@ -1,4 +1,4 @@
--- Loads in a slice of which other places change: the loads stay, and three numbers stored are the load that they say.
+-- Loads in a slice that changes: what is stored past them leaves them, and a load stored behind them is one more.
 -- Assumes nothing.
 use Prim.Native.Nat.{ℕ, zero, suc, _+_, _*_, _≤_, _<_}
 use mathlib.Core.Path.{_≡_, refl, ap, ap₂, _∙_}
@@ -8,10 +8,6 @@ use lib.ListN.{length, set, getD, length-set}
 use lib.Seq.{getD-set-same, getD-set-other}
 use Rattle.demand.specs.Load.{Load, Sound, Small, Loaded, loadAt, loadsOf}
 use Rattle.demand.proofs.Demand.{loads-next, every-first}
-
--- a load of three numbers
-abbrev pub loadOf : (c d T : ℕ) → Load
-loadOf c d T = record { cost = c; deadline = d; period = T }
 
 -- slices that agree at a load's three places have the same load there
 pub load-same : (xs ys : List ℕ) (i : ℕ) → ((j : ℕ) → j < 3 * i + 3 → getD xs j 0 ≡ getD ys j 0) → loadAt xs i ≡ loadAt ys i
@@ -32,41 +28,42 @@ pub loads-kept : (numbers : List ℕ) (n : ℕ) {at : ℕ} (v : ℕ) → 3 * n �
 loads-kept numbers n {at} v h =
     loads-same (set numbers at v) numbers n (λ j p. getD-set-other numbers at j v 0 (λ (e : j ≡ at). omega arith))
 
--- a load's three numbers stored at its places
-abbrev pub withLoad : (numbers : List ℕ) → (i c d T : ℕ) → List ℕ
-withLoad numbers i c d T = set (set (set numbers (3 * i) c) (3 * i + 1) d) (3 * i + 2) T
+-- the numbers with a load stored at its three places
+abbrev pub putLoad : (numbers : List ℕ) → (i : ℕ) → Load → List ℕ
+putLoad numbers i l = set (set (set numbers (3 * i) (l .cost)) (3 * i + 1) (l .deadline)) (3 * i + 2) (l .period)
 
-module _ (numbers : List ℕ) (i c d T : ℕ) where
-  pub stored-long : length (withLoad numbers i c d T) ≡ length numbers
-  stored-long =
-      length-set (set (set numbers (3 * i) c) (3 * i + 1) d) (3 * i + 2) T ∙ length-set (set numbers (3 * i) c) (3 * i + 1) d ∙
-      length-set numbers (3 * i) c
+module _ (numbers : List ℕ) (i : ℕ) (l : Load) where
+  -- as many numbers as before
+  pub put-long : length (putLoad numbers i l) ≡ length numbers
+  put-long =
+      length-set (set (set numbers (3 * i) (l .cost)) (3 * i + 1) (l .deadline)) (3 * i + 2) (l .period) ∙
+      length-set (set numbers (3 * i) (l .cost)) (3 * i + 1) (l .deadline) ∙ length-set numbers (3 * i) (l .cost)
 
-  -- are that load
-  pub load-stored : 3 * i + 3 ≤ length numbers → loadAt (withLoad numbers i c d T) i ≡ loadOf c d T
-  load-stored h =
-      let one = set numbers (3 * i) c in
-      let two = set one (3 * i + 1) d in
+  -- the load stands there
+  pub put-there : 3 * i + 3 ≤ length numbers → loadAt (putLoad numbers i l) i ≡ l
+  put-there h =
+      let one = set numbers (3 * i) (l .cost) in
+      let two = set one (3 * i + 1) (l .deadline) in
       rw (
-        getD-set-other two (3 * i + 2) (3 * i) T 0 (λ (e : 3 * i ≡ 3 * i + 2). omega arith),
-        getD-set-other one (3 * i + 1) (3 * i) d 0 (λ (e : 3 * i ≡ 3 * i + 1). omega arith),
-        getD-set-same numbers (3 * i) c 0 (omega arith),
-        getD-set-other two (3 * i + 2) (3 * i + 1) T 0 (λ (e : 3 * i + 1 ≡ 3 * i + 2). omega arith),
-        getD-set-same one (3 * i + 1) d 0 (omega (arith, length-set numbers (3 * i) c)),
-        getD-set-same two (3 * i + 2) T 0 (omega (arith, length-set one (3 * i + 1) d, length-set numbers (3 * i) c)),
+        getD-set-other two (3 * i + 2) (3 * i) (l .period) 0 (λ (e : 3 * i ≡ 3 * i + 2). omega arith),
+        getD-set-other one (3 * i + 1) (3 * i) (l .deadline) 0 (λ (e : 3 * i ≡ 3 * i + 1). omega arith),
+        getD-set-same numbers (3 * i) (l .cost) 0 (omega arith),
+        getD-set-other two (3 * i + 2) (3 * i + 1) (l .period) 0 (λ (e : 3 * i + 1 ≡ 3 * i + 2). omega arith),
+        getD-set-same one (3 * i + 1) (l .deadline) 0 (omega (arith, length-set numbers (3 * i) (l .cost))),
+        getD-set-same two (3 * i + 2) (l .period) 0 (omega (arith, length-set one (3 * i + 1) (l .deadline), length-set numbers (3 * i) (l .cost))),
       )
 
-  -- and leave the loads before it
-  pub stored-keeps : {n : ℕ} → n ≤ i → loadsOf (withLoad numbers i c d T) n ≡ loadsOf numbers n
-  stored-keeps {n} h =
-      loads-kept (set (set numbers (3 * i) c) (3 * i + 1) d) n T (omega arith) ∙
-      loads-kept (set numbers (3 * i) c) n d (omega arith) ∙ loads-kept numbers n c (omega arith)
+  -- the loads before it stay
+  pub put-keeps : {n : ℕ} → n ≤ i → loadsOf (putLoad numbers i l) n ≡ loadsOf numbers n
+  put-keeps {n} h =
+      loads-kept (set (set numbers (3 * i) (l .cost)) (3 * i + 1) (l .deadline)) n (l .period) (omega arith) ∙
+      loads-kept (set numbers (3 * i) (l .cost)) n (l .deadline) (omega arith) ∙ loads-kept numbers n (l .cost) (omega arith)
 
-  -- so they are one load more
-  pub loads-stored : 3 * i + 3 ≤ length numbers → loadsOf (withLoad numbers i c d T) (i + 1) ≡ loadsOf numbers i ++ (loadOf c d T ∷ [])
-  loads-stored h =
-      loads-next (withLoad numbers i c d T) i ∙
-      ap₂ (λ (ls : List Load) (l : Load). ls ++ (l ∷ [])) (stored-keeps (omega arith)) (load-stored h)
+  -- so there is one load more
+  pub put-next : 3 * i + 3 ≤ length numbers → loadsOf (putLoad numbers i l) (i + 1) ≡ loadsOf numbers i ++ (l ∷ [])
+  put-next h =
+      loads-next (putLoad numbers i l) i ∙
+      ap₂ (λ (ls : List Load) (k : Load). ls ++ (k ∷ [])) (put-keeps (omega arith)) (put-there h)
 
 -- of a slice of loads the first i are one too
 pub loaded-first : (numbers : List ℕ) (n : ℕ) {i : ℕ} → i ≤ n → Loaded numbers n → Loaded numbers i
