@@ -1,4 +1,2 @@
 pub mod PaddedLaws
-pub mod MemberLaws
 pub mod LoadLaws
-pub mod PartLaws

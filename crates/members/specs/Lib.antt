@@ -1,3 +1,4 @@
 pub mod Padded
-pub mod Members
 pub mod Loads
+pub mod Charge
+pub mod Server
