@@ -1,5 +1,5 @@
 -- What is claimed of the definitions of this crate, each claim as a type. They are proved in proofs/Claims.antt.
-use Prim.Native.Nat.{ℕ, _-_, _≤_, _<_, _∣_}
+use Prim.Native.Nat.{ℕ, _-_, _≤_, _<_}
 use mathlib.Core.Path.{_≡_}
 use mathlib.Core.Logic.{_↔_}
 use mathlib.Core.Bool.{Bool, true, false}
@@ -9,8 +9,8 @@ use Rattle.demand.specs.Lawful.{Lawful}
 use Rattle.demand.specs.Demand.{demand}
 use Rattle.demand.specs.Supply.{Allowed, supply}
 use Rattle.demand.specs.Passes.{Passes}
-use Rattle.verdict.specs.Search.{lastUpTo, firstUpTo, firstAfter, NoneIn, Last, First}
-use Rattle.verdict.specs.Verdict.{failing, firstFailing, verdictOf, passing, ownHorizon}
+use Rattle.verdict.specs.Search.{lastUpTo, firstUpTo, firstAfter, NoneIn, Last, First, Next}
+use Rattle.verdict.specs.Verdict.{firstFailing, verdictOf, passing, ownHorizon}
 use Rattle.verdict.specs.Reserve.{smallestReserve, Smallest}
 use Rattle.verdict.specs.declared.answer.Verdict.the-variants.{Yes, No}
 
@@ -26,12 +26,11 @@ FirstMeans =
     (p : ℕ → Bool) (n : ℕ)
     → ((t : ℕ) → 1 ≤ t → (firstUpTo p n ≡ t) ↔ ((t ≤ n) × First p t)) × ((firstUpTo p n ≡ 0) ↔ NoneIn p 0 n)
 
--- firstAfter answers t exactly when t is the smallest above lo that has p, and is within n; and 0 exactly when there is none
+-- firstAfter answers t exactly when t is the smallest above lo and within n, and 0 exactly when there is none
 abbrev pub FirstAfterMeans : Type 0
 FirstAfterMeans =
     (p : ℕ → Bool) (lo n : ℕ)
-    → ((t : ℕ) → 1 ≤ t → (firstAfter p lo n ≡ t) ↔ ((t ≤ n) × (lo < t) × (p t ≡ true) × ((x : ℕ) → lo < x → x < t → p x ≡ false)))
-    × ((firstAfter p lo n ≡ 0) ↔ NoneIn p lo n)
+    → ((t : ℕ) → 1 ≤ t → (firstAfter p lo n ≡ t) ↔ ((t ≤ n) × Next p lo t)) × ((firstAfter p lo n ≡ 0) ↔ NoneIn p lo n)
 
 -- a lawful demand is passing exactly when demand ≤ supply at every length, with no bound on the length
 abbrev pub PassingMeans : Type 0
@@ -67,7 +66,7 @@ OwnHorizon = (ls : List Load) (S : ℕ) → Every Sound ls → 1 ≤ S → Lawfu
 -- a larger allowed reserve never turns yes into no, whatever the demand and the horizon
 abbrev pub PassingStays : Type 0
 PassingStays =
-    (g : ℕ → ℕ) (H S L R R′ : ℕ) → 1 ≤ S → Allowed S L R → Allowed S L R′ → R ≤ R′
+    (g : ℕ → ℕ) (H S L R R′ : ℕ) → Allowed S L R → Allowed S L R′ → R ≤ R′
     → passing g H S L R ≡ true → passing g H S L R′ ≡ true
 
 -- a lawful demand that passes on a whole processor has its smallest reserve

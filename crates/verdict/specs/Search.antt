@@ -42,6 +42,12 @@ pub record First (p : ℕ → Bool) (t : ℕ) : Type 0 where
   pub has : p t ≡ true
   pub before : (x : ℕ) → 1 ≤ x → x < t → p x ≡ false
 
+-- t is the smallest number above lo that has p
+pub record Next (p : ℕ → Bool) (lo t : ℕ) : Type 0 where
+  pub above : lo < t
+  pub has : p t ≡ true
+  pub before : (x : ℕ) → lo < x → x < t → p x ≡ false
+
 -- at length t the demand, with extra added, exceeds the supply past a gap of f
 unfoldable pub short : (g : ℕ → ℕ) → (S f extra : ℕ) → ℕ → Bool
 short g S f extra t = ltb (supplyPast S f t) (g t + extra)
