@@ -1,0 +1,5 @@
+pub mod CountLaws
+pub mod StandLaws
+pub mod StandingLaws
+pub mod WindowLaws
+pub mod Claims
