@@ -1,2 +1,7 @@
 pub mod PaddedLaws
 pub mod LoadLaws
+pub mod NumberLaws
+pub mod HorizonLaws
+pub mod ChargeLaws
+pub mod ServerLaws
+pub mod FiledLaws
