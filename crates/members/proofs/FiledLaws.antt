@@ -4,19 +4,24 @@
 use Prim.Native.Nat.{ℕ, zero, suc, _+_, _*_, _^_, _≤_, _<_, _∣_, suc-le-suc}
 use native.Mathlib.Omega.{arith}
 use native.Mathlib.Nat.{le-of-dvd}
-use mathlib.Core.Path.{_≡_, sym, ap, subst, _∙_}
-use mathlib.Core.List.{List, [], _∷_, map}
-use lib.ListN.{length, take, getD}
-use lib.Seq.{getD-take, length-take-le}
+use native.Mathlib.Decide.{decLt}
+use mathlib.Core.Path.{_≡_, refl, sym, ap, ap₂, subst, _∙_}
+use mathlib.Core.Bool.{Bool, true, false}
+use mathlib.Core.List.{List, [], _∷_, _++_, map}
+use lib.Dec.{eqb}
+use lib.ListN.{length, take, drop, getD, List·getD-append}
+use lib.Seq.{getD-take, length-take-le, getD-append-seam, take-at}
 use Rattle.digits.specs.Stored.{stored}
 use Rattle.digits.proofs.Stored.{stored-length}
 use Rattle.wholes.specs.Multiple.{within}
 use Rattle.wholes.specs.declared.Multiple.the-variants.{Within}
 use Rattle.wholes.proofs.WithinLaws.{within-is}
 use Rattle.demand.specs.Load.{Load, Sound, Small, Every, Loaded, loadAt, loadsOf}
-use Rattle.demand.proofs.Demand.{every-first, every-at}
+use Rattle.demand.proofs.Demand.{loads-length, every-first, every-at}
 use Rattle.verdict.specs.Verdict.{ownHorizon, Testable}
 use Rattle.tasks.specs.declared.set.Header.{Header}
+use Rattle.places.specs.Places.{keep, placesIn, chosen}
+use Rattle.places.proofs.PlacesLaws.{places-read, places-below}
 use Rattle.members.specs.Charge.{numbersOf, cacheOf, chargedIn, serverLoads, serverLoss, membersAt, Member, Overheads, Charging, Timed}
 use Rattle.members.specs.Server.{serverHorizon, Filed}
 use Rattle.members.proofs.NumberLaws.{numbers-length, loads-stored}
@@ -46,6 +51,50 @@ pub every-placed : (P : Load → Type 0) (figures : List ℕ) (n : ℕ) (places 
 every-placed P figures n [] e b = tt
 every-placed P figures n (p ∷ places) e b =
     (every-at figures P n (b 0 (omega arith)) e, every-placed P figures n places e (λ i h. b (suc i) (suc-le-suc h)))
+
+-- what holds of all holds of those of a server
+pub every-chosen : (P : Load → Type 0) (ls : List Load) (placement : List ℕ) (q : ℕ) → Every P ls → Every P (chosen ls placement q)
+unfolding chosen
+every-chosen P [] placement q e = tt
+every-chosen P (l ∷ ls) [] q e = tt
+every-chosen P (l ∷ ls) (a ∷ placement) q e = kept (eqb a q) (every-chosen P ls placement q (e .1))
+  where
+    kept : (b : Bool) → Every P (chosen ls placement q) → Every P (keep b l (chosen ls placement q))
+    kept true rest = (e .0, rest)
+    kept false rest = rest
+
+-- load i of the first n
+loads-at : (figures : List ℕ) (n i : ℕ) (d : Load) → i < n → getD (loadsOf figures n) i d ≡ loadAt figures i
+unfolding loadsOf
+loads-at figures zero i d h = absurd (omega arith)
+loads-at figures (suc n) i d h =
+    elim (decLt i n) [
+      | yes before ↦ List·getD-append (loadsOf figures n) (loadAt figures n ∷ []) d i (omega (arith, loads-length figures n)) ∙ loads-at figures n i d before
+      | no past ↦
+          let here : i ≡ n = omega (arith, past, h) in
+          ap (λ (k : ℕ). getD (loadsOf figures n ++ (loadAt figures n ∷ [])) k d) (here ∙ sym (loads-length figures n))
+          ∙ getD-append-seam (loadsOf figures n) (loadAt figures n) [] d
+          ∙ ap (loadAt figures) (sym here)
+    ]
+
+map-below : {A : Type 0} (f g : ℕ → A) (n : ℕ) (places : List ℕ) → ((i : ℕ) → i < n → f i ≡ g i) → Below n places → map f places ≡ map g places
+map-below f g n [] e b = refl
+map-below f g n (p ∷ places) e b = ap₂ _∷_ (e p (b 0 (omega arith))) (map-below f g n places e (λ i h. b (suc i) (suc-le-suc h)))
+
+-- the members at the places of a server are those chosen for it
+pub placed-chosen : (figures : List ℕ) (n : ℕ) (placement : List ℕ) (q : ℕ) → length placement ≤ n →
+    membersAt figures (placesIn placement q) ≡ chosen (loadsOf figures n) placement q
+placed-chosen figures n placement q h =
+    map-below (loadAt figures) (λ (i : ℕ). getD (loadsOf figures n) i none) n (placesIn placement q) (λ i l. sym (loads-at figures n i none l)) (λ i l. omega (arith, places-below placement q i l)) ∙
+    places-read none (loadsOf figures n) placement q (omega (arith, loads-length figures n))
+  where
+    none : Load
+    none = record { cost = 0; deadline = 0; period = 0 }
+
+-- what is stored at the start is read there
+pub front-stored : (b x : List ℕ) {n : ℕ} → length x ≡ n → take n (stored b 0 x) ≡ x
+unfolding stored
+front-stored b x {n} e = take-at x (drop (0 + length x) b) n e
 
 module _ {h : Header} {figures : List ℕ} {n H : ℕ} (f : Filed h figures n H) where
   -- the members at such places may be charged, and their periods divide H
@@ -113,12 +162,8 @@ module _ (h : Header) (figures places : List ℕ) (k cache : ℕ) (b : List ℕ)
     left-timed slot = record {
       there = omega (arith, left-long room);
       slot = slot;
-      periods = rw left-loads (timed (serverLoads h ms) (loads-sound h ms ok));
+      sound = rw left-loads (loads-sound h ms ok);
     }
-      where
-        timed : (ls : List Load) → Every Sound ls → Every (λ (l : Load). 1 ≤ l .period) ls
-        timed [] e = tt
-        timed (l ∷ ls) e = (omega (arith, e .0 .due, e .0 .constrained), timed ls (e .1))
 
     -- its horizon, within every positive multiple of the slot and the periods
     pub left-horizon : (H : ℕ) → 1 ≤ H → h .slot ∣ H → Every (λ (l : Load). l .period ∣ H) ms →

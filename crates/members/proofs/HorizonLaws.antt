@@ -1,34 +1,25 @@
--- The horizon of loads with a slot: what divides it, what it divides, one load more, and that it only grows.
+-- The horizon of loads with a slot: what it divides, and how it grows load by load up to a limit.
 -- Assumes nothing.
-use Prim.Native.Nat.{ℕ, zero, suc, _+_, _≤_, _<_, _∣_, suc-le-suc}
+use Prim.Native.Nat.{ℕ, zero, suc, _+_, _≤_, _<_, _∣_}
 use native.Mathlib.Omega.{arith}
 use native.Mathlib.Nat.{le-of-suc-le-suc, le-of-dvd}
 use mathlib.Core.Path.{_≡_, sym, ap, _∙_}
-use mathlib.Core.List.{List, [], _∷_, _++_, map, map-append}
-use lib.ListN.{length}
-use Rattle.wholes.specs.Multiple.{Divide, AllPositive, leastMultiple, leastMultipleOf, within}
+use mathlib.Core.List.{List, [], _∷_, map}
+use Rattle.wholes.specs.Multiple.{Divide, leastMultiple, within}
 use Rattle.wholes.specs.declared.Multiple.the-variants.{Within, Past}
-use Rattle.wholes.proofs.MultipleLaws.{multiple-of-pos, multiple-of-divides, multiple-of-append, first-divides-of, others-divide-of}
+use Rattle.wholes.proofs.MultipleLaws.{multiple-of-divides, first-divides-of}
 use Rattle.wholes.proofs.WithinLaws.{within-is, past-is, within-value, past-value}
 use Rattle.demand.specs.Load.{Load, Every, loadAt, loadsOf}
 use Rattle.demand.proofs.Demand.{loads-next, every-first}
 use Rattle.verdict.specs.Verdict.{ownHorizon}
+use Rattle.verdict.proofs.Horizons.{own-periods, own-some, own-more}
 use Rattle.members.specs.Charge.{Timed}
 
--- what divides load by load divides as a list, and the other way round
+-- what divides load by load divides as a list
 divides : (ls : List Load) (H : ℕ) → Every (λ (l : Load). l .period ∣ H) ls → Divide (map (λ (l : Load). l .period) ls) H
 divides [] H e i h = absurd (omega arith)
 divides (l ∷ ls) H e zero h = e .0
 divides (l ∷ ls) H e (suc i) h = divides ls H (e .1) i (le-of-suc-le-suc h)
-
-every-divides : (ls : List Load) (H : ℕ) → Divide (map (λ (l : Load). l .period) ls) H → Every (λ (l : Load). l .period ∣ H) ls
-every-divides [] H d = tt
-every-divides (l ∷ ls) H d = (d 0 (omega arith), every-divides ls H (λ i h. d (suc i) (suc-le-suc h)))
-
-periods-some : (ls : List Load) → Every (λ (l : Load). 1 ≤ l .period) ls → AllPositive (map (λ (l : Load). l .period) ls)
-periods-some [] e i h = absurd (omega arith)
-periods-some (l ∷ ls) e zero h = e .0
-periods-some (l ∷ ls) e (suc i) h = periods-some ls (e .1) i (le-of-suc-le-suc h)
 
 module _ (S : ℕ) where
   -- the horizon divides every multiple of the slot and the periods
@@ -36,26 +27,10 @@ module _ (S : ℕ) where
   unfolding ownHorizon
   own-divides ls H s e = multiple-of-divides S (map (λ (l : Load). l .period) ls) H s (divides ls H e)
 
-  -- the slot divides it, and so does every period
+  -- the slot divides it
   pub slot-divides : (ls : List Load) → S ∣ ownHorizon S ls
   unfolding ownHorizon
   slot-divides ls = first-divides-of S (map (λ (l : Load). l .period) ls)
-
-  pub periods-divide : (ls : List Load) → Every (λ (l : Load). l .period ∣ ownHorizon S ls) ls
-  unfolding ownHorizon
-  periods-divide ls = every-divides ls (leastMultipleOf S (map (λ (l : Load). l .period) ls)) (others-divide-of S (map (λ (l : Load). l .period) ls))
-
-  -- of a slot and periods of at least 1 it is at least 1
-  pub own-some : (ls : List Load) → 1 ≤ S → Every (λ (l : Load). 1 ≤ l .period) ls → 1 ≤ ownHorizon S ls
-  unfolding ownHorizon
-  own-some ls h e = multiple-of-pos S (map (λ (l : Load). l .period) ls) h (periods-some ls e)
-
-  -- one load more
-  pub own-more : (ls : List Load) (l : Load) → ownHorizon S (ls ++ (l ∷ [])) ≡ leastMultiple (ownHorizon S ls) (l .period)
-  unfolding ownHorizon leastMultipleOf
-  own-more ls l =
-      ap (leastMultipleOf S) (map-append (λ (k : Load). k .period) ls (l ∷ [])) ∙
-      multiple-of-append S (map (λ (k : Load). k .period) ls) (l .period ∷ [])
 
 -- ---- the first loads of a slice
 
@@ -63,9 +38,9 @@ module _ {numbers : List ℕ} {n S : ℕ} (t : Timed numbers n S) (limit : ℕ) 
   -- with more loads the horizon does not fall
   own-grows : {k : ℕ} → k ≤ n → ownHorizon S (loadsOf numbers k) ≤ ownHorizon S (loadsOf numbers n)
   own-grows {k} h =
-      le-of-dvd (own-some S (loadsOf numbers n) (t .slot) (t .periods))
+      le-of-dvd (own-some (loadsOf numbers n) S (t .sound) (t .slot))
       (own-divides S (loadsOf numbers k) (ownHorizon S (loadsOf numbers n)) (slot-divides S (loadsOf numbers n))
-      (every-first numbers (λ (l : Load). l .period ∣ ownHorizon S (loadsOf numbers n)) n h (periods-divide S (loadsOf numbers n))))
+      (every-first numbers (λ (l : Load). l .period ∣ ownHorizon S (loadsOf numbers n)) n h (own-periods (loadsOf numbers n) S)))
 
   -- past the limit after some loads is past it after all
   pub stays-past : {k : ℕ} → k ≤ n → limit < ownHorizon S (loadsOf numbers k) → Past ≡ within limit (ownHorizon S (loadsOf numbers n))
@@ -75,7 +50,7 @@ module _ {numbers : List ℕ} {n S : ℕ} (t : Timed numbers n S) (limit : ℕ) 
     step : leastMultiple m (loadAt numbers i .period) ≡ ownHorizon S (loadsOf numbers (i + 1))
     step =
         ap (λ (k : ℕ). leastMultiple k (loadAt numbers i .period)) e ∙
-        sym (ap (ownHorizon S) (loads-next numbers i) ∙ own-more S (loadsOf numbers i) (loadAt numbers i))
+        sym (ap (ownHorizon S) (loads-next numbers i) ∙ own-more (loadsOf numbers i) S (loadAt numbers i))
 
     -- the next multiple is within the limit: one load on
     pub goes-on : {next : ℕ} → within limit (leastMultiple m (loadAt numbers i .period)) ≡ Within next →

@@ -1,5 +1,3 @@
-pub mod PaddedLaws
-pub mod LoadLaws
 pub mod NumberLaws
 pub mod HorizonLaws
 pub mod ChargeLaws

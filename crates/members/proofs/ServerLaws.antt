@@ -4,7 +4,7 @@ use Prim.Native.Nat.{ℕ, _+_, _*_, _≤_, _<_, _∣_}
 use native.Mathlib.Omega.{arith}
 use native.Mathlib.Nat.{le-of-dvd}
 use mathlib.Core.Path.{_≡_, refl, ap₂}
-use mathlib.Core.Bool.{Bool, true, false}
+use mathlib.Core.Bool.{true, false}
 use mathlib.Core.List.{List, [], _∷_}
 use Rattle.laws.proofs.Tests.{never-true}
 use Rattle.demand.specs.Load.{Load, Sound, Meets, Every}
@@ -14,17 +14,13 @@ use Rattle.demand.specs.Passes.{Passes}
 use Rattle.demand.proofs.Demand.{jobs-full}
 use Rattle.demand.proofs.Supply.{supply-all}
 use Rattle.demand.proofs.Claims.{loads-lawful, alone-passes}
-use Rattle.verdict.proofs.Claims.{own-horizon, passing-means}
+use Rattle.verdict.proofs.Horizons.{own-lawful}
+use Rattle.verdict.proofs.Verdict.{passing-passes, passes-passing}
 use Rattle.tasks.specs.declared.set.Header.{Header}
 use Rattle.members.specs.Charge.{cacheOf, chargedIn, serverLoads, serverLoss, Member}
 use Rattle.members.specs.Server.{serverDemand, serverHorizon, passesWith, fits, totalOf}
 use Rattle.members.proofs.HorizonLaws.{own-divides}
 use Rattle.members.proofs.ChargeLaws.{charged-sound, loads-sound, loads-period}
-
--- a test that cannot fail passes
-never-false : (t : Bool) → (t ≡ false → ⊥) → t ≡ true
-never-false true h = refl
-never-false false h = absurd (h refl)
 
 -- ---- what loads ask of a common multiple of their periods
 
@@ -50,17 +46,16 @@ module _ (h : Header) (ms : List Load) (ok : Every (Member h) ms) where
   module _ (slot : 1 ≤ h .slot) where
     -- and under its own horizon
     pub server-lawful : Lawful (serverDemand h ms) (serverHorizon h ms)
-    server-lawful = own-horizon (serverLoads h ms) (h .slot) (loads-sound h ms ok) slot
+    server-lawful = own-lawful (serverLoads h ms) (h .slot) (loads-sound h ms ok) slot
 
     -- the test with a reserve is whether demand ≤ supply at every length
     pub with-passes : (R : ℕ) → passesWith h ms R ≡ true → Passes (serverDemand h ms) (h .slot) (serverLoss h ms) R
     unfolding passesWith
-    with-passes R e = passing-means (serverDemand h ms) (serverHorizon h ms) (h .slot) (serverLoss h ms) R server-lawful slot .0 e
+    with-passes R e = passing-passes (serverDemand h ms) (serverHorizon h ms) (h .slot) (serverLoss h ms) R server-lawful slot e
 
     pub passes-with : (R : ℕ) → Passes (serverDemand h ms) (h .slot) (serverLoss h ms) R → passesWith h ms R ≡ true
     unfolding passesWith
-    passes-with R p =
-        never-false _ (λ e. passing-means (serverDemand h ms) (serverHorizon h ms) (h .slot) (serverLoss h ms) R server-lawful slot .1 e p)
+    passes-with R p = passes-passing (serverDemand h ms) (serverHorizon h ms) (h .slot) (serverLoss h ms) R p
 
     pub fits-passes : fits h ms ≡ true → Passes (serverDemand h ms) (h .slot) (serverLoss h ms) (h .slot)
     unfolding fits

@@ -4,7 +4,7 @@ use Prim.Native.Nat.{ℕ, zero, suc, _+_, _*_, _^_, _≤_, _<_}
 use mathlib.Core.List.{List, [], _∷_, map}
 use lib.ListN.{length, getD}
 use Rattle.demand.specs.Charging.{effectiveDeadline, effectiveCost, entryLoss}
-use Rattle.demand.specs.Load.{Load, Every, loadAt, loadsOf}
+use Rattle.demand.specs.Load.{Load, Sound, Every, loadAt, loadsOf}
 use Rattle.tasks.specs.declared.set.Header.{Header}
 use Rattle.tasks.specs.declared.set.Task.{Task}
 use Rattle.tasks.specs.Set.{longestPeriod}
@@ -69,8 +69,8 @@ pub record Charging (h : Header) (cache : ℕ) (figures places : List ℕ) (n : 
   pub there : (i : ℕ) → i < n → 3 * getD places i 0 + 2 < length figures
   pub members : (i : ℕ) → i < n → Member h (loadAt figures (getD places i 0))
 
--- what the horizon of the first n loads asks: a slot, and periods of at least 1
+-- what the horizon of the first n loads asks: a slot, and sound loads
 pub record Timed (numbers : List ℕ) (n S : ℕ) : Type 0 where
   pub there : 3 * n ≤ length numbers
   pub slot : 1 ≤ S
-  pub periods : Every (λ (l : Load). 1 ≤ l .period) (loadsOf numbers n)
+  pub sound : Every Sound (loadsOf numbers n)

@@ -1,4 +1,2 @@
-pub mod Padded
-pub mod Loads
 pub mod Charge
 pub mod Server

@@ -9,15 +9,15 @@ use borrow.Author.Tests.{lt-ltb, le-ltb}
 use lib.ListN.{length, take}
 use Rattle.laws.proofs.Orders.{le-or-lt}
 use Rattle.wholes.proofs.CeilingLaws.{ceiling-least}
-use Rattle.members.specs.Padded.{padded, upTo}
+use Rattle.places.specs.Padded.{padded, upTo}
 use Rattle.members.specs.Members.{memberLoads}
 use Rattle.members.specs.Loads.{loadsIn}
 use Rattle.servers.specs.declared.Servers.{Servers}
 use Rattle.members.specs.declared.Members.{Members}
-use Rattle.ring.specs.Slotted.{SlottedFirst}
-use Rattle.ring.specs.Reserves.{ringTicks, wholes, ringProcessors, processorsOf}
+use Rattle.reserves.specs.Slotted.{SlottedFirst}
+use Rattle.reserves.specs.Reserves.{ringTicks, wholes, ringProcessors, processorsOf}
 use Rattle.ring.specs.Who.{firstReserve}
-use Rattle.ring.proofs.Starts.{wholes-below, ring-holds, taken-length, length-room}
+use Rattle.reserves.proofs.Starts.{wholes-below, ring-holds, taken-length, length-room}
 use Rattle.plan.specs.declared.plan.Plan.{Plan}
 use Rattle.plan.specs.Plan.{ringStart, laidOut}
 use Rattle.plan.specs.Layable.{Layable}

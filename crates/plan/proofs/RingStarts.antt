@@ -9,7 +9,7 @@ use borrow.Author.Tests.{lt-ltb, le-ltb}
 use lib.Dec.{ltb}
 use lib.ListN.{take, getD}
 use lib.Seq.{getD-take}
-use Rattle.ring.specs.Reserves.{reserveOf, startOf}
+use Rattle.reserves.specs.Reserves.{reserveOf, startOf}
 use Rattle.plan.specs.Plan.{ringStart}
 
 -- the reserve of server q stands at place q − 1

@@ -9,17 +9,17 @@ use lib.Seq.{getD-take}
 use Rattle.demand.specs.Load.{Load, Sound, Every}
 use Rattle.verdict.specs.Claims.{Asked}
 use Rattle.tasks.specs.Set.{mostTasks}
-use Rattle.members.specs.Padded.{padded}
+use Rattle.places.specs.Padded.{padded}
 use Rattle.members.specs.Members.{membersOf, memberLoads}
 use Rattle.servers.specs.Placement.{serversIn, placementOf}
 use Rattle.servers.specs.Reserve.{reservesOf, serversOf}
 use Rattle.servers.specs.declared.Servers.{Servers}
 use Rattle.members.specs.declared.Members.{Members}
-use Rattle.members.proofs.PaddedLaws.{padded-length, padded-take}
+use Rattle.places.proofs.PaddedLaws.{padded-length, padded-take}
 use Rattle.servers.proofs.PlacementLaws.{placement-length}
 use Rattle.servers.proofs.Claims.{servers-few}
 use Rattle.servers.proofs.ReserveLaws.{reserves-count, reserves-range}
-use Rattle.ring.specs.Slotted.{SlottedFirst}
+use Rattle.reserves.specs.Slotted.{SlottedFirst}
 use Rattle.plan.specs.Plan.{laidOut}
 use Rattle.plan.specs.Layable.{Layable}
 use Rattle.rows.proofs.Clears.{members-count, members-loads}

@@ -4,10 +4,10 @@ use Prim.Native.Nat.{ℕ, _≤_}
 use mathlib.Core.Path.{_≡_}
 use lib.ListN.{take}
 use Rattle.tasks.specs.Set.{mostTasks}
-use Rattle.members.specs.Padded.{padded}
+use Rattle.places.specs.Padded.{padded}
 use Rattle.servers.specs.declared.Servers.{Servers}
 use Rattle.members.specs.declared.Members.{Members}
-use Rattle.ring.specs.Slotted.{SlottedFirst}
+use Rattle.reserves.specs.Slotted.{SlottedFirst}
 
 pub record Layable (m : Members) (served : Servers) (S : ℕ) : Type 0 where
   pub tasks-few : m .count ≤ mostTasks

@@ -10,9 +10,9 @@ use Rattle.tasks.specs.declared.set.TaskSet.{TaskSet}
 use Rattle.tasks.specs.Set.{mostTasks}
 use Rattle.members.specs.Loads.{loadsIn}
 use Rattle.servers.specs.Placement.{placementOf}
-use Rattle.members.specs.Padded.{padded, upTo}
+use Rattle.places.specs.Padded.{padded, upTo}
 use Rattle.servers.specs.Reserve.{reservesOf}
-use Rattle.ring.specs.Reserves.{reserveOf, wholes, startOf, ringProcessors, idlePositions, processorsOf}
+use Rattle.reserves.specs.Reserves.{reserveOf, wholes, startOf, ringProcessors, idlePositions, processorsOf}
 use Rattle.ring.specs.Who.{firstReserve}
 use Rattle.plan.specs.declared.plan.Plan.{Plan}
 use Rattle.rows.specs.Charge.{loadsOfSet, lossOf}

@@ -10,7 +10,7 @@ use Rattle.refusals.specs.declared.Outcome.the-variants.{Done, Refused}
 use Rattle.tasks.specs.declared.set.TaskSet.{TaskSet}
 use Rattle.refusals.specs.First.{firstOf, when}
 use Rattle.tasks.specs.Rows.{askRow}
-use Rattle.ring.specs.Reserves.{processorsOf}
+use Rattle.reserves.specs.Reserves.{processorsOf}
 use Rattle.plan.specs.declared.plan.Plan.{Plan}
 use Rattle.plan.specs.declared.planner.PlanAnswer.{PlanAnswer}
 use Rattle.rows.specs.Rows.{chargedOutcome}

@@ -25,7 +25,7 @@ use Rattle.servers.proofs.Claims.{each-in-one, every-passes, smallest-reserves}
 use Rattle.members.proofs.LoadLaws.{every-in}
 use Rattle.ring.specs.declared.clock.Tick.{Tick}
 use Rattle.ring.specs.Who.{whoOf}
-use Rattle.ring.specs.Reserves.{ringProcessors, wholes, processorsOf}
+use Rattle.reserves.specs.Reserves.{ringProcessors, wholes, processorsOf}
 use Rattle.ring_claims.proofs.Claims.{who-serves, who-stays}
 use Rattle.tasks.specs.declared.set.TaskSet.{TaskSet}
 use Rattle.plan.specs.declared.plan.Plan.{Plan}

@@ -15,7 +15,7 @@ use Rattle.verdict.specs.Reserve.{Smallest}
 use Rattle.verdict.specs.Claims.{FailsFirst}
 use Rattle.members.specs.Loads.{loadsIn}
 use Rattle.ring.specs.declared.clock.Tick.{Tick}
-use Rattle.ring.specs.Reserves.{ringProcessors, wholes}
+use Rattle.reserves.specs.Reserves.{ringProcessors, wholes}
 use Rattle.ring_claims.specs.Serves.{Serves}
 use Rattle.ring_claims.specs.Held.{later}
 use Rattle.tasks.specs.declared.set.Task.{Task}

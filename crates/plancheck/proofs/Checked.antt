@@ -10,11 +10,11 @@ use Rattle.laws.proofs.Tests.{and-left, and-right, true-false}
 use Rattle.refusals.specs.declared.Refusal.{Refusal}
 use Rattle.refusals.specs.declared.Outcome.{Outcome}
 use Rattle.refusals.specs.declared.Outcome.the-variants.{Done, Refused}
-use Rattle.members.specs.Padded.{padded}
+use Rattle.places.specs.Padded.{padded}
 use Rattle.servers.specs.Placement.{serversIn}
-use Rattle.members.proofs.PaddedLaws.{padded-take}
+use Rattle.places.proofs.PaddedLaws.{padded-take}
 use Rattle.servers.proofs.PlacementLaws.{placement-length}
-use Rattle.ring.specs.Slotted.{SlottedFirst}
+use Rattle.reserves.specs.Slotted.{SlottedFirst}
 use Rattle.tasks.specs.declared.set.TaskSet.{TaskSet}
 use Rattle.plan.specs.declared.plan.Plan.{Plan}
 use Rattle.rows.specs.Charge.{loadsOfSet, lossOf}

@@ -19,13 +19,13 @@ use Rattle.tasks.specs.declared.set.Header.{Header}
 use Rattle.tasks.specs.declared.set.TaskSet.{TaskSet}
 use Rattle.tasks.specs.Set.{mostTasks}
 use Rattle.tasks.proofs.Carried.{ask-header, header-fits}
-use Rattle.members.specs.Padded.{padded, upTo}
+use Rattle.places.specs.Padded.{padded, upTo}
 use Rattle.members.specs.Loads.{loadsIn}
-use Rattle.members.proofs.LoadLaws.{in-few}
-use Rattle.ring.specs.Reserves.{reserveOf, wholes, startOf, ringProcessors, ringLength, processorsOf}
+use Rattle.places.proofs.PlacesLaws.{in-few}
+use Rattle.reserves.specs.Reserves.{reserveOf, wholes, startOf, ringProcessors, ringLength, processorsOf}
 use Rattle.ring.specs.Who.{firstReserve}
 use Rattle.ring.specs.declared.cover.Stand.{Stand}
-use Rattle.ring.proofs.Starts.{ring-part, ring-holds}
+use Rattle.reserves.proofs.Starts.{ring-part, ring-holds}
 use Rattle.ring_claims.proofs.Claims.{first-reserve}
 use Rattle.ring.proofs.WhoLaws.{first-whole}
 use Rattle.ring_claims.proofs.OwnLaws.{whole-at}
@@ -38,7 +38,7 @@ use Rattle.plancheck.proofs.AgreeLaws.{agree-same}
 use Rattle.plancheck.proofs.Checked.{OfSet, of-set, makes-agrees}
 use Rattle.plan.proofs.Made.{set-count, slot-some, few-loads}
 use Rattle.plan_claims.proofs.Claims.{plan-checked}
-use Rattle.members.proofs.PaddedLaws.{up-length, up-at}
+use Rattle.places.proofs.PaddedLaws.{up-length, up-at}
 use Rattle.plantext.specs.Fit.{CountsFit}
 use Rattle.planfile_claims.specs.Claims.{FitFields}
 use Rattle.planfile.proofs.AcceptLaws.{makes-counted}

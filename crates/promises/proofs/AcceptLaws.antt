@@ -12,12 +12,13 @@ use Rattle.verdict.specs.Claims.{Asked}
 use Rattle.verdict.specs.Reserve.{Smallest}
 use Rattle.servers.specs.Placement.{serversIn, placementOf}
 use Rattle.servers.specs.Reserve.{reservesOf}
-use Rattle.members.proofs.LoadLaws.{every-in, in-some}
+use Rattle.members.proofs.LoadLaws.{every-in}
+use Rattle.places.proofs.PlacesLaws.{in-some}
 use Rattle.servers.proofs.PlacementLaws.{placement-length}
 use Rattle.servers.proofs.ReserveLaws.{reserves-count, reserves-range}
 use Rattle.servers.proofs.Claims.{each-in-one, smallest-reserves}
 use Rattle.ring_claims.specs.Slotted.{Slotted}
-use Rattle.ring.specs.Reserves.{reserveOf}
+use Rattle.reserves.specs.Reserves.{reserveOf}
 use Rattle.ring_claims.specs.Serves.{RingServer, WholeProcessor}
 use Rattle.tasks.specs.declared.set.TaskSet.{TaskSet}
 use Rattle.tasks.proofs.Carried.{count-within, ask-count}

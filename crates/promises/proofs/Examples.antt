@@ -29,16 +29,18 @@ use Rattle.demand.specs.Supply.{gap, supplyPast, supply}
 use Rattle.verdict.specs.Reserve.{enough, smallestReserve}
 use Rattle.verdict.specs.Search.{lastUpTo, firstUpTo, short}
 use Rattle.verdict.specs.Verdict.{failing, ownHorizon, firstFailing, verdictAt, verdictOf, passing}
+use Rattle.places.specs.Places.{chosen}
 use Rattle.members.specs.Loads.{loadsIn}
 use Rattle.servers.specs.Placement.{serversIn, takes, fit, placeFrom, placementOf}
 use Rattle.servers.specs.Reserve.{reservesOf}
 use Rattle.ring.specs.Cover.{covers, covererUpTo, standAt}
 use Rattle.ring.specs.Phase.{phase}
-use Rattle.ring.specs.Reserves.{ringTicks, wholes}
-use Rattle.ring.specs.Who.{wholeFrom, whoOf, firstReserve}
+use Rattle.reserves.specs.Reserves.{ringTicks, wholes}
+use Rattle.reserves.specs.Whole.{wholeFrom}
+use Rattle.ring.specs.Who.{whoOf, firstReserve}
 use Rattle.rows.specs.Charge.{loadOf, loadsOfSet, lossOf}
 use Rattle.rows.specs.Rows.{slotRow, tightRow, horizonOf, horizonRow, chargedOutcome}
-use Rattle.members.specs.Padded.{upTo}
+use Rattle.places.specs.Padded.{upTo}
 use Rattle.plan.specs.Plan.{laidOut, setPlacement, setReserves, planMade}
 use Rattle.plancheck.specs.Agrees.{sameFigures, sameServers, sameProcessors, agrees, makes}
 use Rattle.plan.specs.Planner.{needed, fullRow, planOutcome, planOf}
@@ -97,5 +99,5 @@ examples =
     ∷ []
 
 pub examples-answered : map (λ (e : Example). answerOf (e .asked)) examples ≡ map (λ (e : Example). e .given) examples
-unfolding legal valueOf digitOf allLegal numberFrom hex kindOf widthsOf sum line after closed same formed fieldOf fields lineOf setOf some firstFrom countRow twiceRow boardRow rangeRow figuresOutcome headerOverflows taskOverflows lineOverflows someTooLarge askRow past tasksAmong lineRow orderRow countLineRow twiceLineRow lineOutcome till headerAt taskAt fileSet readOutcome readOf ceilingOf measureIn commonMeasure leastMultiple leastMultipleOf effectiveDeadline effectiveCost entryLoss jobs demand gap supplyPast supply enough smallestReserve lastUpTo firstUpTo short failing ownHorizon firstFailing verdictAt verdictOf passing loadsIn serversIn takes fit placeFrom placementOf reservesOf covers covererUpTo standAt phase ringTicks wholes wholeFrom whoOf firstReserve loadOf loadsOfSet lossOf slotRow tightRow horizonOf horizonRow chargedOutcome upTo laidOut setPlacement setReserves planMade sameFigures sameServers sameProcessors agrees needed fullRow planOutcome planOf makes allowed isProcessor isServer whoRuns doesPass joined serverFigures placedFigures processorFigures planLine serverLine placedLine processorLine planText refusalText plannedSet filedOf answered whoIn passIn
+unfolding legal valueOf digitOf allLegal numberFrom hex kindOf widthsOf sum line after closed same formed fieldOf fields lineOf setOf some firstFrom countRow twiceRow boardRow rangeRow figuresOutcome headerOverflows taskOverflows lineOverflows someTooLarge askRow past tasksAmong lineRow orderRow countLineRow twiceLineRow lineOutcome till headerAt taskAt fileSet readOutcome readOf ceilingOf measureIn commonMeasure leastMultiple leastMultipleOf effectiveDeadline effectiveCost entryLoss jobs demand gap supplyPast supply enough smallestReserve lastUpTo firstUpTo short failing ownHorizon firstFailing verdictAt verdictOf passing chosen serversIn takes fit placeFrom placementOf reservesOf covers covererUpTo standAt phase ringTicks wholes wholeFrom whoOf firstReserve loadOf loadsOfSet lossOf slotRow tightRow horizonOf horizonRow chargedOutcome upTo laidOut setPlacement setReserves planMade sameFigures sameServers sameProcessors agrees needed fullRow planOutcome planOf makes allowed isProcessor isServer whoRuns doesPass joined serverFigures placedFigures processorFigures planLine serverLine placedLine processorLine planText refusalText plannedSet filedOf answered whoIn passIn
 examples-answered = refl

@@ -9,9 +9,9 @@ use native.Mathlib.Omega.{arith}
 use borrow.Author.Tests.{lt-ltb}
 use lib.ListN.{length, getD, take}
 use lib.Seq.{getD-take}
-use Rattle.members.specs.Padded.{padded, upTo}
-use Rattle.members.proofs.PaddedLaws.{padded-take, up-length, up-at}
-use Rattle.ring.specs.Reserves.{reserveOf, startOf, processorsOf}
+use Rattle.places.specs.Padded.{padded, upTo}
+use Rattle.places.proofs.PaddedLaws.{padded-take, up-length, up-at}
+use Rattle.reserves.specs.Reserves.{reserveOf, startOf, processorsOf}
 use Rattle.ring.specs.Who.{firstReserve}
 use Rattle.ring_claims.specs.Serves.{RingServer}
 use Rattle.tasks.specs.declared.set.TaskSet.{TaskSet}

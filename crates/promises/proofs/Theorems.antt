@@ -16,7 +16,7 @@ use Rattle.demand.proofs.Supply.{supply-all}
 use Rattle.verdict.proofs.Claims.{one-less}
 use Rattle.tasks.specs.declared.set.TaskSet.{TaskSet}
 use Rattle.ring.specs.declared.clock.Tick.{Tick}
-use Rattle.ring.specs.Reserves.{reserveOf, startOf}
+use Rattle.reserves.specs.Reserves.{reserveOf, startOf}
 use Rattle.ring_claims.specs.Serves.{RingServer, WholeProcessor, OnBoard, UsableOnRing, Usable}
 use Rattle.ring_claims.proofs.Claims.{one-server, one-processor, on-board-when, usable-when, held-in-slot}
 use Rattle.windows.specs.Window.{usableAt, usableIn, FallsShort}

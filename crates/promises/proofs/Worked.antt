@@ -13,11 +13,12 @@ use Rattle.demand.specs.Supply.{supplyPast, supply}
 use Rattle.verdict.specs.Search.{firstUpTo}
 use Rattle.verdict.specs.Verdict.{failing, ownHorizon, firstFailing, verdictAt, verdictOf, passing}
 use Rattle.verdict.specs.Reserve.{enough, smallestReserve}
+use Rattle.places.specs.Places.{chosen}
 use Rattle.members.specs.Loads.{loadsIn}
 use Rattle.servers.specs.Placement.{serversIn, takes, fit, placeFrom, placementOf}
-use Rattle.members.specs.Padded.{upTo}
+use Rattle.places.specs.Padded.{upTo}
 use Rattle.servers.specs.Reserve.{reservesOf}
-use Rattle.ring.specs.Reserves.{ringTicks, wholes}
+use Rattle.reserves.specs.Reserves.{ringTicks, wholes}
 use Rattle.ring_claims.specs.Serves.{RingServer, WholeProcessor}
 use Rattle.tasks.specs.declared.set.Task.{Task}
 use Rattle.tasks.specs.declared.set.TaskSet.{TaskSet}
@@ -47,11 +48,11 @@ pub record WorkedD : Type 0 where
 
 -- each by computing
 accepted-D : Accepted setD
-unfolding setOf planOf planOutcome askRow countRow twiceRow some firstFrom boardRow rangeRow figuresOutcome headerOverflows taskOverflows lineOverflows someTooLarge widthsOf chargedOutcome slotRow tightRow horizonRow horizonOf loadOf loadsOfSet lossOf setReserves needed fullRow reservesOf upTo placementOf placeFrom fit takes serversIn loadsIn smallestReserve enough passing verdictOf verdictAt firstFailing firstUpTo failing ownHorizon leastMultipleOf leastMultiple commonMeasure measureIn demand jobs supply supplyPast effectiveDeadline effectiveCost entryLoss ceilingOf ringTicks wholes
+unfolding setOf planOf planOutcome askRow countRow twiceRow some firstFrom boardRow rangeRow figuresOutcome headerOverflows taskOverflows lineOverflows someTooLarge widthsOf chargedOutcome slotRow tightRow horizonRow horizonOf loadOf loadsOfSet lossOf setReserves needed fullRow reservesOf upTo placementOf placeFrom fit takes serversIn chosen smallestReserve enough passing verdictOf verdictAt firstFailing firstUpTo failing ownHorizon leastMultipleOf leastMultiple commonMeasure measureIn demand jobs supply supplyPast effectiveDeadline effectiveCost entryLoss ceilingOf ringTicks wholes
 accepted-D = refl
 
 reserves-D : setReserves setD ≡ 10 ∷ 1 ∷ []
-unfolding setOf loadOf loadsOfSet lossOf setReserves reservesOf upTo placementOf placeFrom fit takes serversIn loadsIn smallestReserve enough passing verdictOf verdictAt firstFailing firstUpTo failing ownHorizon leastMultipleOf leastMultiple commonMeasure measureIn demand jobs supply supplyPast effectiveDeadline effectiveCost entryLoss
+unfolding setOf loadOf loadsOfSet lossOf setReserves reservesOf upTo placementOf placeFrom fit takes serversIn chosen smallestReserve enough passing verdictOf verdictAt firstFailing firstUpTo failing ownHorizon leastMultipleOf leastMultiple commonMeasure measureIn demand jobs supply supplyPast effectiveDeadline effectiveCost entryLoss
 reserves-D = refl
 
 pub worked-D : WorkedD

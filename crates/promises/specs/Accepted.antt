@@ -8,7 +8,7 @@ use Rattle.refusals.specs.declared.Outcome.the-variants.{Done}
 use Rattle.demand.specs.Load.{Load}
 use Rattle.tasks.specs.declared.set.TaskSet.{TaskSet}
 use Rattle.members.specs.Loads.{loadsIn}
-use Rattle.ring.specs.Reserves.{startOf, ringProcessors, wholes, processorsOf}
+use Rattle.reserves.specs.Reserves.{startOf, ringProcessors, wholes, processorsOf}
 use Rattle.ring.specs.Who.{firstReserve}
 use Rattle.ring_claims.specs.Serves.{RingServer}
 use Rattle.plan.specs.declared.plan.Plan.{Plan}

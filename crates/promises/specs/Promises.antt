@@ -9,7 +9,7 @@ use Rattle.demand.specs.Demand.{demand}
 use Rattle.demand.specs.Passes.{Passes}
 use Rattle.tasks.specs.declared.set.TaskSet.{TaskSet}
 use Rattle.ring.specs.declared.clock.Tick.{Tick}
-use Rattle.ring.specs.Reserves.{reserveOf}
+use Rattle.reserves.specs.Reserves.{reserveOf}
 use Rattle.ring_claims.specs.Serves.{Serves, Usable, RingServer, WholeProcessor, OnBoard}
 use Rattle.ring_claims.specs.Held.{held}
 use Rattle.plan.specs.declared.plan.Plan.{Plan}

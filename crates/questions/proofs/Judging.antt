@@ -17,7 +17,8 @@ use Rattle.members.specs.Members.{membersOf, memberLoads, Sized}
 use Rattle.members.specs.Loads.{loadsIn}
 use Rattle.members.specs.declared.Members.{Members}
 use Rattle.members.proofs.MemberLaws.{members-back}
-use Rattle.members.proofs.LoadLaws.{every-in, in-few}
+use Rattle.members.proofs.LoadLaws.{every-in}
+use Rattle.places.proofs.PlacesLaws.{in-few}
 use Rattle.members.proofs.PartLaws.{Fine, all-fine, holds-sized}
 use Rattle.tasks.specs.declared.set.TaskSet.{TaskSet}
 use Rattle.plan.specs.declared.plan.Plan.{Plan}

@@ -9,7 +9,7 @@ use borrow.Author.Tests.{leb-true}
 use lib.Dec.{leb}
 use lib.ListN.{length, take}
 use Rattle.laws.proofs.Tests.{and-left, and-right}
-use Rattle.ring.specs.Slotted.{SlottedFirst}
+use Rattle.reserves.specs.Slotted.{SlottedFirst}
 use Rattle.ring.specs.declared.clock.Tick.{Tick}
 use Rattle.ring.specs.Who.{whoOf}
 use Rattle.tasks.specs.Set.{mostTasks}

@@ -12,8 +12,8 @@ use Rattle.verdict.specs.declared.answer.Verdict.the-variants.{Yes}
 use Rattle.verdict.specs.Verdict.{verdictOf}
 use Rattle.ring.specs.declared.clock.Tick.{Tick}
 use Rattle.ring.specs.declared.cover.Stand.{Stand}
-use Rattle.ring.specs.Slotted.{SlottedFirst}
-use Rattle.ring.specs.Reserves.{processorsOf}
+use Rattle.reserves.specs.Slotted.{SlottedFirst}
+use Rattle.reserves.specs.Reserves.{processorsOf}
 use Rattle.ring.specs.Who.{whoOf}
 use Rattle.members.specs.Loads.{loadsIn}
 use Rattle.tasks.specs.declared.set.TaskSet.{TaskSet}

@@ -1,14 +1,15 @@
 // The two questions of a task file, answered by numbers in lent memory.
 // A status of 0 says that the answer stands there; any other is the refusal, and the memory is as before.
-use crate::status::code;
-use crate::status::put_numbers;
 use planfile::of_file::pass_in;
 use planfile::of_file::who_in;
 use refusals::Outcome;
 use ring::clock::Tick;
-use verdict::answer::Verdict;
+use told::code;
+use told::numbers_of;
+use told::put_numbers;
 ghost use mathlib.Core.Path.{_≡_};
-ghost use Rattle.rack.specs.Rack.{statusOf, leavesNumbers, whoNumbers, whoTold, verdictNumbers, passNumbers, passTold};
+ghost use Rattle.told.specs.Told.{statusOf, leavesNumbers};
+ghost use Rattle.rack.specs.Rack.{whoNumbers, whoTold, passNumbers, passTold};
 
 // Who runs on a processor at a tick: the server, 0 for idle, and the ticks left.
 #[no_mangle]
@@ -22,16 +23,6 @@ pub extern "C" fn rack_who(tasks: &[u8], processor: u64, tick: u64, answer: &mut
     match outcome {
         Outcome::Done => put_numbers(answer, &numbers),
         Outcome::Refused(refusal) => code(refusal),
-    }
-}
-
-// 1 and three zeros for yes; 0, the smallest failing length, the demand and the supply there for no.
-pub fn numbers_of(verdict: Verdict) -> [u64; 4]
-    ensures { λ r. ⌜ r ≡ verdictNumbers verdict ⌝ }
-{
-    match verdict {
-        Verdict::Yes(_) => [1, 0, 0, 0],
-        Verdict::No(reading) => [0, reading.length, reading.demand, reading.supply],
     }
 }
 

@@ -1,5 +1,4 @@
 // The rack tool for programs in C and Rust: three functions on lent memory, declared for C in include/rack.h.
 // Each answers every input; what it answers stands in specs/Rack.antt.
 pub mod answers; // answers.rt: who runs, and does a server pass
-pub mod status; // status.rt: a refusal as one number, and numbers into a lent answer
 pub mod text; // text.rt: the text of a plan

@@ -11,7 +11,7 @@ use Rattle.refusals.specs.Leaves.{leaves}
 use Rattle.planfile.specs.Tool.{answered}
 use Rattle.planfile_claims.proofs.Claims.{text-exact, answered-short}
 use Rattle.rack.specs.Rack.{bytesOf, planBytes, planLeaves}
-use Rattle.rack.proofs.RackLaws.{number-row}
+use Rattle.told.proofs.ToldLaws.{number-row}
 use Rattle.rack_claims.specs.Claims.{PlanSuffices, PlanTooShort, Determined, ZeroIsDone}
 
 pub plan-suffices : PlanSuffices

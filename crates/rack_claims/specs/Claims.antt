@@ -8,7 +8,8 @@ use Rattle.refusals.specs.declared.Outcome.{Outcome}
 use Rattle.refusals.specs.declared.Outcome.the-variants.{Done}
 use Rattle.plantext.specs.Text.{longestText}
 use Rattle.planfile.specs.Tool.{answered}
-use Rattle.rack.specs.Rack.{planBytes, planLeaves, statusOf, leavesNumbers, whoNumbers, whoTold, passNumbers, passTold}
+use Rattle.told.specs.Told.{statusOf, leavesNumbers}
+use Rattle.rack.specs.Rack.{planBytes, planLeaves, whoNumbers, whoTold, passNumbers, passTold}
 
 -- A caller who lends as many bytes as the longest text has gets the whole text: a plan, or a 1F line.
 pub record PlanSuffices : Type 0 where

@@ -13,9 +13,9 @@ use lib.ListN.{length, getD, take, List·getD-eq-default}
 use Rattle.laws.proofs.Tests.{and-parts, true-false}
 use Rattle.laws.proofs.Orders.{eq-by-cases, le-or-lt}
 use Rattle.ring.specs.declared.clock.Position.{Position}
-use Rattle.ring.specs.Reserves.{reserveOf, ringTicks, startOf}
+use Rattle.reserves.specs.Reserves.{reserveOf, ringTicks, startOf}
 use Rattle.ring.specs.Cover.{covers, covererUpTo}
-use Rattle.ring.proofs.Starts.{ring-more, ring-same, ring-mono, ring-part}
+use Rattle.reserves.proofs.Starts.{ring-more, ring-same, ring-mono, ring-part}
 
 -- what the test `covers` tests
 pub record Covers (S : ℕ) (rs : List ℕ) (q π : ℕ) : Type 0 where

@@ -1,8 +1,5 @@
--- The laws of the ring that the functions' proofs need: starts, cover, the phase rule and who runs.
-pub mod Starts
-pub mod SummedLaws
+-- The laws of the ring that the functions' proofs need: cover, the phase rule and who runs.
 pub mod CoverLaws
 pub mod StandLaws
-pub mod WholeLaws
 pub mod PhaseLaws
 pub mod WhoLaws

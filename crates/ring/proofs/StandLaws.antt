@@ -9,8 +9,8 @@ use lib.ListN.{length, getD, take}
 use lib.Seq.{take-take, getD-take}
 use Rattle.ring.specs.declared.clock.Position.{Position}
 use Rattle.ring.specs.declared.cover.Stand.{Stand}
-use Rattle.ring.specs.Slotted.{SlottedFirst}
-use Rattle.ring.specs.Reserves.{reserveOf, ringTicks, startOf, ringProcessors, ringLength}
+use Rattle.reserves.specs.Slotted.{SlottedFirst}
+use Rattle.reserves.specs.Reserves.{reserveOf, ringTicks, startOf, ringProcessors, ringLength}
 use Rattle.ring.specs.Cover.{covererUpTo, leftFrom, standAt}
 use Rattle.ring.proofs.CoverLaws.{Covers, covers-there, coverer-is, coverer-none}
 

@@ -12,12 +12,13 @@ use Rattle.laws.proofs.Orders.{le-or-lt}
 use Rattle.ring.specs.declared.clock.Tick.{Tick}
 use Rattle.ring.specs.declared.clock.Position.{Position}
 use Rattle.ring.specs.declared.cover.Stand.{Stand}
-use Rattle.ring.specs.Slotted.{SlottedFirst}
-use Rattle.ring.specs.Reserves.{ringProcessors, ringLength}
+use Rattle.reserves.specs.Slotted.{SlottedFirst}
+use Rattle.reserves.specs.Reserves.{ringProcessors, ringLength}
 use Rattle.ring.specs.Phase.{phase}
 use Rattle.ring.specs.Cover.{standAt}
-use Rattle.ring.specs.Who.{wholeServer, whoOf, firstReserve}
-use Rattle.ring.proofs.Starts.{length-room}
+use Rattle.reserves.specs.Whole.{wholeServer}
+use Rattle.ring.specs.Who.{whoOf, firstReserve}
+use Rattle.reserves.proofs.Starts.{length-room}
 use Rattle.ring.proofs.PhaseLaws.{phase-below, phase-first}
 
 module _ (S : ℕ) (rs : List ℕ) (p : ℕ) where

@@ -7,7 +7,7 @@ use lib.ListN.{length}
 use lib.Dec.{leb, ltb}
 use Rattle.ring.specs.declared.clock.Position.{Position}
 use Rattle.ring.specs.declared.cover.Stand.{Stand}
-use Rattle.ring.specs.Reserves.{reserveOf, startOf, ringLength}
+use Rattle.reserves.specs.Reserves.{reserveOf, startOf, ringLength}
 
 -- the reserve of ring server q covers the positions from its start on, as many as its ticks
 unfoldable pub covers : (S : ℕ) (reserves : List ℕ) (q : ℕ) → Position → Bool

@@ -1,5 +1,3 @@
-pub mod Slotted
-pub mod Reserves
 pub mod Phase
 pub mod Cover
 pub mod Who

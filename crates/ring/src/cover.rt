@@ -3,8 +3,8 @@
 ghost use mathlib.Core.Path.{_≡_};
 ghost use Prim.Native.Nat.{_<_};
 ghost use lib.ListN.{take};
-ghost use Rattle.ring.specs.Slotted.{SlottedFirst};
-ghost use Rattle.ring.specs.Reserves.{ringLength};
+ghost use Rattle.reserves.specs.Slotted.{SlottedFirst};
+ghost use Rattle.reserves.specs.Reserves.{ringLength};
 ghost use Rattle.ring.specs.Cover.{standAt};
 use crate::clock::Position;
 

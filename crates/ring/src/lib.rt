@@ -2,5 +2,4 @@
 pub mod clock;
 pub mod cover;
 pub mod phase;
-pub mod reserves;
 pub mod who;

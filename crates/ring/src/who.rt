@@ -3,34 +3,15 @@
 ghost use mathlib.Core.Path.{_≡_};
 ghost use Prim.Native.Nat.{_≤_};
 ghost use lib.ListN.{take};
-ghost use Rattle.ring.specs.Slotted.{SlottedFirst};
-ghost use Rattle.ring.specs.Reserves.{processorsOf};
-ghost use Rattle.ring.specs.Who.{wholeServer, whoOf, firstReserve};
+ghost use Rattle.reserves.specs.Slotted.{SlottedFirst};
+ghost use Rattle.reserves.specs.Reserves.{processorsOf};
+ghost use Rattle.ring.specs.Who.{whoOf, firstReserve};
 use crate::clock::Tick;
 use crate::cover::Stand;
 use crate::cover::stand_at;
 use crate::phase::position;
-use crate::reserves::ring_processors;
-
-// The k-th server, from 0, that has a whole processor; 0 where there is none.
-pub fn whole_server(reserves: &[u64], n: usize, slot: u64, k: u64) -> u64
-    requires { ⌜ SlottedFirst slot (now reserves) n ⌝ }
-    ensures { λ r. ⌜ r ≡ wholeServer slot (take n (now (reserves .entry))) k ⌝ }
-{
-    let mut more = k;
-    let mut i: usize = 0;
-    while i < n {
-        let reserve = reserves[i];
-        if slot <= reserve {
-            if more == 0 {
-                return i as u64 + 1;
-            }
-            more -= 1;
-        }
-        i += 1;
-    }
-    0
-}
+use reserves::sums::ring_processors;
+use reserves::whole::whole_server;
 
 pub fn who(reserves: &[u64], n: usize, slot: u64, processor: u64, tick: Tick) -> Stand
     requires { ⌜ SlottedFirst slot (now reserves) n × (1 ≤ processor) × (processor ≤ processorsOf slot (take n (now reserves))) ⌝ }

@@ -8,12 +8,12 @@ use native.Mathlib.Nat.{le-trans, le-of-eq}
 use native.Mathlib.Omega.{arith}
 use Rattle.laws.proofs.Orders.{le-or-lt}
 use Rattle.ring.specs.declared.clock.Tick.{Tick}
-use Rattle.ring.specs.Reserves.{reserveOf, ringTicks, startOf, ringProcessors, ringLength}
+use Rattle.reserves.specs.Reserves.{reserveOf, ringTicks, startOf, ringProcessors, ringLength}
 use Rattle.ring.specs.Phase.{phase}
-use Rattle.ring.specs.Who.{wholeServer}
+use Rattle.reserves.specs.Whole.{wholeServer}
 use Rattle.ring_claims.specs.Serves.{RingServer, WholeProcessor, ServesOnRing, ServesWhole, OnBoard, UsableOnRing, Usable, sinceStart}
 use Rattle.ring_claims.specs.Claims.{Board}
-use Rattle.ring.proofs.Starts.{ring-holds}
+use Rattle.reserves.proofs.Starts.{ring-holds}
 use Rattle.ring.proofs.CoverLaws.{Covers, covers-is, none-past}
 use Rattle.ring_claims.proofs.OwnLaws.{whole-has}
 use Rattle.ring_claims.proofs.TurnLaws.{since-back}

@@ -11,12 +11,12 @@ use lib.Seq.{take-length}
 use Rattle.laws.proofs.Orders.{le-or-lt}
 use Rattle.ring.specs.declared.clock.Position.{Position}
 use Rattle.ring.specs.declared.cover.Stand.{Stand}
-use Rattle.ring.specs.Reserves.{reserveOf, ringTicks, startOf, ringProcessors, ringLength, idlePositions}
+use Rattle.reserves.specs.Reserves.{reserveOf, ringTicks, startOf, ringProcessors, ringLength, idlePositions}
 use Rattle.ring.specs.Cover.{covererUpTo}
 use Rattle.ring.specs.Who.{firstReserve}
 use Rattle.ring_claims.specs.Serves.{RingServer}
 use Rattle.ring_claims.specs.Claims.{CoveredOnce, CoveredNever, FilledRing, First}
-use Rattle.ring.proofs.Starts.{ring-more, ring-mono, ring-holds, ring-least, ring-tight}
+use Rattle.reserves.proofs.Starts.{ring-more, ring-mono, ring-holds, ring-least, ring-tight}
 use Rattle.ring.proofs.CoverLaws.{Covers, covers-told, covers-is, covers-there, covers-before, no-overlap, none-past, found, coverer-is, coverer-none}
 use Rattle.ring.proofs.StandLaws.{stand-covered}
 use Rattle.ring.proofs.WhoLaws.{first-ring}

@@ -14,7 +14,7 @@ use Rattle.laws.proofs.Tests.{never-true}
 use Rattle.laws.proofs.Orders.{le-or-lt}
 use Rattle.laws.proofs.Choices.{cond-ltb, cond-ltb-not}
 use Rattle.ring.specs.declared.clock.Tick.{Tick}
-use Rattle.ring.specs.Reserves.{reserveOf, startOf, processorsOf}
+use Rattle.reserves.specs.Reserves.{reserveOf, startOf, processorsOf}
 use Rattle.ring.specs.Who.{whoOf}
 use Rattle.ring_claims.specs.Serves.{RingServer, WholeProcessor, ServesOnRing, ServesWhole, Serves, OnBoard, sinceStart}
 use Rattle.ring_claims.specs.Held.{later, countTo, heldAt, held}

@@ -8,10 +8,10 @@ use native.Mathlib.Omega.{arith}
 use lib.ListN.{length, getD}
 use Rattle.laws.proofs.Orders.{le-or-lt}
 use Rattle.laws.proofs.Choices.{cond-ltb, cond-ltb-not}
-use Rattle.ring.specs.Reserves.{wholes}
-use Rattle.ring.specs.Who.{wholeFrom}
-use Rattle.ring.proofs.Starts.{wholes-cons, wholes-nil}
-use Rattle.ring.proofs.WholeLaws.{whole-past, whole-here, whole-next}
+use Rattle.reserves.specs.Reserves.{wholes}
+use Rattle.reserves.specs.Whole.{wholeFrom}
+use Rattle.reserves.proofs.Starts.{wholes-cons, wholes-nil}
+use Rattle.reserves.proofs.WholeLaws.{whole-past, whole-here, whole-next}
 
 module _ (S : ℕ) where
   -- each whole processor has a server that is there and has a slot

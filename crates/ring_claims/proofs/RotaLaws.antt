@@ -15,13 +15,14 @@ use Rattle.laws.proofs.Choices.{cond-ltb, cond-ltb-not}
 use Rattle.ring.specs.declared.clock.Tick.{Tick}
 use Rattle.ring.specs.declared.cover.Stand.{Stand}
 use Rattle.ring_claims.specs.Slotted.{Slotted}
-use Rattle.ring.specs.Reserves.{reserveOf, ringTicks, startOf, ringProcessors, idlePositions}
+use Rattle.reserves.specs.Reserves.{reserveOf, ringTicks, startOf, ringProcessors, idlePositions}
 use Rattle.ring.specs.Phase.{phase}
 use Rattle.ring.specs.Cover.{standAt}
-use Rattle.ring.specs.Who.{wholeServer, whoOf}
+use Rattle.reserves.specs.Whole.{wholeServer}
+use Rattle.ring.specs.Who.{whoOf}
 use Rattle.ring_claims.specs.Held.{later}
 use Rattle.ring_claims.specs.Rota.{ringFrom, fresh, afterLast, following, nextTick, unrolled}
-use Rattle.ring.proofs.Starts.{ring-nil, ring-cons, ring-more, ring-part, ring-split, ring-between, ring-holds, ring-least}
+use Rattle.reserves.proofs.Starts.{ring-nil, ring-cons, ring-more, ring-part, ring-split, ring-between, ring-holds, ring-least}
 use Rattle.ring.proofs.CoverLaws.{Covers, covers-there}
 use Rattle.ring.proofs.StandLaws.{stand-covered, stand-idle}
 use Rattle.ring.proofs.PhaseLaws.{phase-below}

@@ -13,14 +13,15 @@ use Rattle.laws.proofs.Orders.{le-or-lt}
 use Rattle.ring.specs.declared.clock.Tick.{Tick}
 use Rattle.ring.specs.declared.clock.Position.{Position}
 use Rattle.ring.specs.declared.cover.Stand.{Stand}
-use Rattle.ring.specs.Reserves.{reserveOf, ringTicks, startOf, wholes, ringProcessors, ringLength, processorsOf}
+use Rattle.reserves.specs.Reserves.{reserveOf, ringTicks, startOf, wholes, ringProcessors, ringLength, processorsOf}
 use Rattle.ring.specs.Phase.{phase}
 use Rattle.ring.specs.Cover.{covererUpTo, standAt}
-use Rattle.ring.specs.Who.{wholeServer, whoOf}
+use Rattle.reserves.specs.Whole.{wholeServer}
+use Rattle.ring.specs.Who.{whoOf}
 use Rattle.ring_claims.specs.Serves.{ServesOnRing, ServesWhole, Serves}
 use Rattle.ring_claims.specs.Held.{later}
 use Rattle.ring_claims.specs.Claims.{Answers, Stays}
-use Rattle.ring.proofs.Starts.{ring-more, ring-part, ring-holds}
+use Rattle.reserves.proofs.Starts.{ring-more, ring-part, ring-holds}
 use Rattle.ring.proofs.CoverLaws.{Covers, covers-told, covers-is, covers-there, no-overlap, found, coverer-is, coverer-covers}
 use Rattle.ring.proofs.StandLaws.{stand-covered, stand-idle, stand-server}
 use Rattle.ring_claims.proofs.OwnLaws.{whole-at, whole-once}

@@ -9,7 +9,7 @@ use lib.ListN.{length}
 use Rattle.ring.specs.declared.clock.Tick.{Tick}
 use Rattle.ring.specs.declared.clock.Position.{Position}
 use Rattle.ring_claims.specs.Slotted.{Slotted}
-use Rattle.ring.specs.Reserves.{reserveOf, startOf, ringTicks, ringProcessors, ringLength, idlePositions, processorsOf}
+use Rattle.reserves.specs.Reserves.{reserveOf, startOf, ringTicks, ringProcessors, ringLength, idlePositions, processorsOf}
 use Rattle.ring.specs.Phase.{phase}
 use Rattle.ring.specs.Cover.{covers, covererUpTo}
 use Rattle.ring.specs.Who.{whoOf, firstReserve}

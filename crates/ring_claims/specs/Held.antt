@@ -5,7 +5,7 @@ use mathlib.Core.List.{List}
 use mathlib.Core.Bool.{Bool, cond}
 use lib.Dec.{eqb}
 use Rattle.ring.specs.declared.clock.Tick.{Tick}
-use Rattle.ring.specs.Reserves.{processorsOf}
+use Rattle.reserves.specs.Reserves.{processorsOf}
 use Rattle.ring.specs.Who.{whoOf}
 
 -- j ticks later

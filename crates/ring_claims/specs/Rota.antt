@@ -6,7 +6,7 @@ use mathlib.Core.Bool.{cond}
 use lib.ListN.{drop}
 use lib.Dec.{leb, ltb}
 use Rattle.ring.specs.declared.cover.Stand.{Stand}
-use Rattle.ring.specs.Reserves.{reserveOf, ringProcessors, idlePositions}
+use Rattle.reserves.specs.Reserves.{reserveOf, ringProcessors, idlePositions}
 use Rattle.ring.specs.Who.{firstReserve}
 
 -- the first server on the ring, where these reserves begin with server q; 0 where there is none

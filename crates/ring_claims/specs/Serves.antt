@@ -7,10 +7,10 @@ use mathlib.Core.Bool.{true}
 use mathlib.Core.Logic.{_⊎_}
 use lib.ListN.{length}
 use Rattle.ring.specs.declared.clock.Tick.{Tick}
-use Rattle.ring.specs.Reserves.{reserveOf, startOf, ringProcessors, processorsOf}
+use Rattle.reserves.specs.Reserves.{reserveOf, startOf, ringProcessors, processorsOf}
 use Rattle.ring.specs.Phase.{phase}
 use Rattle.ring.specs.Cover.{covers}
-use Rattle.ring.specs.Who.{wholeServer}
+use Rattle.reserves.specs.Whole.{wholeServer}
 
 -- server q is there, and stands on the ring
 pub record RingServer (S : ℕ) (reserves : List ℕ) (q : ℕ) : Type 0 where

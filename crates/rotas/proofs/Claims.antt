@@ -8,7 +8,7 @@ use native.Mathlib.Omega.{arith}
 use Rattle.demand.specs.Supply.{Ring, Allowed}
 use Rattle.demand.specs.Passes.{Passes}
 use Rattle.verdict.proofs.Claims.{one-less}
-use Rattle.ring.specs.Reserves.{reserveOf, startOf}
+use Rattle.reserves.specs.Reserves.{reserveOf, startOf}
 use Rattle.ring_claims.specs.Serves.{RingServer, WholeProcessor, OnBoard, UsableOnRing, Usable, Serves}
 use Rattle.ring_claims.proofs.Claims.{one-server, one-processor, on-board-when, usable-when, held-in-slot}
 use Rattle.windows.proofs.Claims.{in-any-slot}

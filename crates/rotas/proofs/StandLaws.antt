@@ -8,7 +8,7 @@ use mathlib.Core.Logic.{⊎-elim, _↔_}
 use native.Mathlib.Nat.{le-trans, add-comm}
 use native.Mathlib.Omega.{arith}
 use Rattle.ring.specs.declared.clock.Tick.{Tick}
-use Rattle.ring.specs.Reserves.{reserveOf, startOf, ringProcessors}
+use Rattle.reserves.specs.Reserves.{reserveOf, startOf, ringProcessors}
 use Rattle.ring.specs.Phase.{phase}
 use Rattle.ring_claims.specs.Serves.{RingServer, WholeProcessor, OnBoard, UsableOnRing, Usable, sinceStart}
 use Rattle.ring_claims.proofs.TurnLaws.{since-form, since-is}

@@ -9,7 +9,7 @@ use lib.ListN.{length, getD}
 use Rattle.demand.specs.Supply.{Ring}
 use Rattle.verdict.specs.Reserve.{Smallest}
 use Rattle.ring.specs.declared.clock.Tick.{Tick}
-use Rattle.ring.specs.Reserves.{reserveOf}
+use Rattle.reserves.specs.Reserves.{reserveOf}
 use Rattle.ring.proofs.CoverLaws.{Covers}
 use Rattle.ring_claims.specs.Slotted.{Slotted}
 use Rattle.ring_claims.specs.Serves.{RingServer, WholeProcessor, ServesOnRing, ServesWhole, Serves}

@@ -6,7 +6,7 @@ use mathlib.Core.Path.{_≡_}
 use mathlib.Core.Logic.{_↔_}
 use Rattle.demand.specs.Passes.{Passes}
 use Rattle.ring.specs.declared.clock.Tick.{Tick}
-use Rattle.ring.specs.Reserves.{reserveOf}
+use Rattle.reserves.specs.Reserves.{reserveOf}
 use Rattle.ring_claims.specs.Slotted.{Slotted}
 use Rattle.ring_claims.specs.Serves.{Serves, Usable, RingServer, WholeProcessor, OnBoard}
 use Rattle.ring_claims.specs.Held.{held}

@@ -4,7 +4,7 @@ use Prim.Native.Nat.{ℕ, zero, suc, _+_, _%_, _≤_, _<_}
 use mathlib.Core.Path.{_≡_}
 use mathlib.Core.List.{List}
 use Rattle.ring.specs.declared.clock.Tick.{Tick}
-use Rattle.ring.specs.Reserves.{startOf, ringProcessors}
+use Rattle.reserves.specs.Reserves.{startOf, ringProcessors}
 use Rattle.ring.specs.Phase.{phase}
 
 -- n of the t ticks from a on have P

@@ -5,7 +5,7 @@ use mathlib.Core.List.{List}
 use lib.ListN.{length}
 use Rattle.demand.specs.Lawful.{Lawful}
 use Rattle.verdict.specs.Reserve.{Smallest}
-use Rattle.ring.specs.Reserves.{reserveOf}
+use Rattle.reserves.specs.Reserves.{reserveOf}
 
 pub record Rota : Type 0 where
   pub slot : ℕ

@@ -22,10 +22,10 @@ use Rattle.demand.specs.Load.{Load, Sound, Every, Loaded, loadAt}
 use Rattle.demand.proofs.Demand.{every-at}
 use Rattle.verdict.specs.Verdict.{ownHorizon}
 use Rattle.verdict.proofs.Verdict.{own-horizon}
-use Rattle.members.specs.Padded.{padded}
+use Rattle.places.specs.Padded.{padded}
 use Rattle.members.specs.Members.{membersOf, memberLoads, Sized}
 use Rattle.members.specs.declared.Members.{Members}
-use Rattle.members.proofs.PaddedLaws.{padded-length, padded-take}
+use Rattle.places.proofs.PaddedLaws.{padded-length, padded-take}
 use Rattle.members.proofs.MemberLaws.{members-back}
 use Rattle.members.proofs.PartLaws.{slot-divides}
 use Rattle.tasks.specs.declared.set.Header.{Header}

@@ -23,7 +23,7 @@ use Rattle.members.proofs.PartLaws.{own-in-divides}
 use Rattle.servers.proofs.FitLaws.{fit-view}
 use Rattle.servers.proofs.PlacementLaws.{placement-length, placement-more, by-last, placement-grows}
 use Rattle.servers.proofs.StandingLaws.{OldOrNew, TakesOrNew, old-or-new, AllPass, parted-more, few-more, all-pass-more}
-use Rattle.members.proofs.PaddedLaws.{up-length, up-at}
+use Rattle.places.proofs.PaddedLaws.{up-length, up-at}
 
 -- first fit picks a server that takes the task, or a new one
 fit-takes-or-new : (ls : List Load) (S L : ℕ) (placement : List ℕ) (l : Load) → TakesOrNew ls S L placement l (fit ls S L placement l)

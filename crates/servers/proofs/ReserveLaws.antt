@@ -10,7 +10,7 @@ use Rattle.demand.specs.Supply.{Ring, Allowed}
 use Rattle.verdict.specs.Claims.{Asked}
 use Rattle.servers.specs.Placement.{serversIn, placementOf}
 use Rattle.servers.specs.Reserve.{reserveIn, reservesOf}
-use Rattle.members.proofs.PaddedLaws.{up-length}
+use Rattle.places.proofs.PaddedLaws.{up-length}
 use Rattle.servers.proofs.Claims.{smallest-reserves}
 
 -- an allowed reserve is from 1 to the slot

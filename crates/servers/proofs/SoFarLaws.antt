@@ -7,10 +7,10 @@ use mathlib.Core.List.{List, [], _∷_, _++_}
 use lib.ListN.{length, set, take, replicate, length-append}
 use Rattle.demand.specs.Load.{Load}
 use Rattle.tasks.specs.Set.{mostTasks}
-use Rattle.members.specs.Padded.{padded}
+use Rattle.places.specs.Padded.{padded}
 use Rattle.servers.specs.Placement.{serversIn, fit, placeFrom, placementOf, placed}
 use Rattle.servers.specs.declared.placement.Placed.{Placed}
-use Rattle.members.proofs.PaddedLaws.{padded-length, padded-take, padded-more}
+use Rattle.places.proofs.PaddedLaws.{padded-length, padded-take, padded-more}
 use Rattle.servers.proofs.PlacementLaws.{servers-more, placement-length, placement-more}
 use Rattle.servers.proofs.Claims.{servers-few}
 

@@ -13,15 +13,16 @@ use Rattle.demand.specs.Load.{Load, Sound}
 use Rattle.demand.proofs.Claims.{alone-passes}
 use Rattle.verdict.specs.Verdict.{passing}
 use Rattle.verdict.proofs.Verdict.{passes-passing}
-use Rattle.members.specs.Loads.{keep, loadsIn}
+use Rattle.members.specs.Loads.{loadsIn}
+use Rattle.places.specs.Places.{keep, chosen}
 use Rattle.servers.specs.Placement.{serversIn, takes}
 use Rattle.servers.specs.Claims.{Parted}
-use Rattle.members.proofs.LoadLaws.{in-joined, in-apart}
+use Rattle.places.proofs.PlacesLaws.{in-joined, in-apart}
 use Rattle.servers.proofs.PlacementLaws.{servers-more}
 
 -- a server past the last has no load
 in-none : (ls : List Load) (placement : List ℕ) (q : ℕ) → serversIn placement < q → loadsIn ls placement q ≡ []
-unfolding loadsIn serversIn
+unfolding chosen serversIn
 in-none [] placement q h = refl
 in-none (l ∷ ls) [] q h = refl
 in-none (l ∷ ls) (a ∷ placement) q h =

@@ -8,6 +8,7 @@ use Rattle.demand.specs.Demand.{jobs, demand}
 use Rattle.demand.specs.Supply.{supplyPast, supply}
 use Rattle.verdict.specs.Search.{firstUpTo}
 use Rattle.verdict.specs.Verdict.{failing, ownHorizon, firstFailing, verdictAt, verdictOf, passing}
+use Rattle.places.specs.Places.{chosen}
 use Rattle.members.specs.Loads.{loadsIn}
 use Rattle.servers.specs.Placement.{serversIn, takes, fit, placeFrom, placementOf}
 
@@ -17,5 +18,5 @@ pub goes-back :
     (record { cost = 6; deadline = 10; period = 10 } ∷ record { cost = 6; deadline = 10; period = 10 } ∷ record { cost = 4; deadline = 10; period = 10 } ∷ [])
     10 0
     ≡ 1 ∷ 2 ∷ 1 ∷ []
-unfolding placementOf placeFrom fit takes serversIn loadsIn passing verdictOf verdictAt firstFailing firstUpTo failing ownHorizon leastMultipleOf leastMultiple commonMeasure measureIn demand jobs supply supplyPast
+unfolding placementOf placeFrom fit takes serversIn chosen passing verdictOf verdictAt firstFailing firstUpTo failing ownHorizon leastMultipleOf leastMultiple commonMeasure measureIn demand jobs supply supplyPast
 goes-back = refl

@@ -6,7 +6,7 @@ use mathlib.Core.Bool.{Bool}
 use Rattle.demand.specs.Load.{Load}
 use Rattle.verdict.specs.Search.{firstUpTo, orElse}
 use Rattle.verdict.specs.Verdict.{passing}
-use Rattle.members.specs.Padded.{padded}
+use Rattle.places.specs.Padded.{padded}
 use Rattle.members.specs.Loads.{loadsIn}
 use Rattle.servers.specs.declared.placement.Placed.{Placed}
 

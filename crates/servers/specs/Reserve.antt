@@ -4,7 +4,7 @@ use Prim.Native.Nat.{ℕ}
 use mathlib.Core.List.{List}
 use Rattle.demand.specs.Load.{Load}
 use Rattle.verdict.specs.Reserve.{smallestReserve}
-use Rattle.members.specs.Padded.{padded, upTo}
+use Rattle.places.specs.Padded.{padded, upTo}
 use Rattle.members.specs.Loads.{loadsIn}
 use Rattle.servers.specs.Placement.{serversIn, placementOf}
 use Rattle.servers.specs.declared.Servers.{Servers}

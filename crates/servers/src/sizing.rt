@@ -7,7 +7,7 @@ ghost use mathlib.Core.Path.{_≡_};
 ghost use Prim.Native.Nat.{_≤_};
 ghost use lib.ListN.{length, take};
 ghost use Rattle.demand.specs.Load.{loadsOf};
-ghost use Rattle.members.specs.Padded.{padded, upTo};
+ghost use Rattle.places.specs.Padded.{padded, upTo};
 ghost use Rattle.tasks.specs.Set.{mostTasks};
 ghost use Rattle.members.specs.Members.{Sized};
 ghost use Rattle.servers.specs.Reserve.{reserveIn};

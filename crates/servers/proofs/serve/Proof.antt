@@ -6,7 +6,7 @@ use native.Mathlib.Omega.{arith}
 use lib.ListN.{take}
 use Rattle.demand.specs.Load.{Load, loadsOf}
 use Rattle.demand.proofs.Demand.{loads-length}
-use Rattle.members.specs.Padded.{padded, upTo}
+use Rattle.places.specs.Padded.{padded, upTo}
 use Rattle.servers.specs.Reserve.{reserveIn, reservesOf, serversOf}
 use Rattle.servers.proofs.SoFarLaws.{SoFar, so-far-room, so-far-front, so-far-few, placed-so-far}
 use Rattle.servers.proofs.serve.Statement.{statement}

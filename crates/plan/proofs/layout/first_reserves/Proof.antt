@@ -5,7 +5,7 @@ use mathlib.Core.Path.{refl, ap}
 use native.Mathlib.Omega.{arith}
 use lib.ListN.{take}
 use Rattle.ring.specs.Who.{firstReserve}
-use Rattle.members.proofs.PaddedLaws.{Filled, filled-none, filled-next, filled-all}
+use Rattle.places.proofs.PaddedLaws.{Filled, filled-none, filled-next, filled-all}
 use Rattle.ring.specs.declared.cover.Stand.{Stand}
 use Rattle.plan.proofs.layout.first_reserves.Statement.{statement}
 use Rattle.plan.proofs.layout.first_reserves.Tie as tie

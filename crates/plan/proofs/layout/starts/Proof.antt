@@ -5,7 +5,7 @@ use mathlib.Core.Path.{refl}
 use native.Mathlib.Omega.{arith}
 use lib.ListN.{take}
 use Rattle.plan.specs.Plan.{ringStart}
-use Rattle.members.proofs.PaddedLaws.{Filled, filled-none, filled-next, filled-all}
+use Rattle.places.proofs.PaddedLaws.{Filled, filled-none, filled-next, filled-all}
 use Rattle.plan.proofs.layout.starts.Statement.{statement}
 use Rattle.plan.proofs.layout.starts.Tie as tie
 

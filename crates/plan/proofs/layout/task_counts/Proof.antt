@@ -6,7 +6,7 @@ use native.Mathlib.Omega.{arith}
 use lib.ListN.{length, take}
 use Rattle.members.specs.Members.{memberLoads}
 use Rattle.members.specs.Loads.{loadsIn}
-use Rattle.members.proofs.PaddedLaws.{Filled, filled-none, filled-next, filled-all}
+use Rattle.places.proofs.PaddedLaws.{Filled, filled-none, filled-next, filled-all}
 use borrow.Author.Needs.{needs}
 use Rattle.plan.proofs.layout.task_counts.Statement.{statement}
 use Rattle.plan.proofs.layout.task_counts.Tie as tie

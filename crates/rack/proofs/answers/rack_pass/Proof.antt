@@ -5,8 +5,9 @@ use mathlib.Core.List.{List}
 use Rattle.refusals.specs.declared.Outcome.{Outcome}
 use Rattle.questions.specs.declared.question.PassAnswer.{PassAnswer}
 use Rattle.planfile.specs.OfFile.{passIn}
-use Rattle.rack.specs.Rack.{statusOf, leavesNumbers, verdictNumbers, passNumbers, passTold}
-use Rattle.rack.proofs.RackLaws.{Told, told-by, told-refused}
+use Rattle.told.specs.Told.{statusOf, leavesNumbers, verdictNumbers}
+use Rattle.rack.specs.Rack.{passNumbers, passTold}
+use Rattle.told.proofs.ToldLaws.{Told, told-by, told-refused}
 use borrow.Author.Needs.{needs}
 use Rattle.rack.proofs.answers.rack_pass.Statement.{statement}
 use Rattle.rack.proofs.answers.rack_pass.Tie as tie

@@ -5,8 +5,9 @@ use mathlib.Core.List.{List, [], _∷_}
 use Rattle.refusals.specs.declared.Outcome.{Outcome}
 use Rattle.questions.specs.declared.question.WhoAnswer.{WhoAnswer}
 use Rattle.planfile.specs.OfFile.{whoIn}
-use Rattle.rack.specs.Rack.{statusOf, leavesNumbers, whoNumbers, whoTold}
-use Rattle.rack.proofs.RackLaws.{Told, told-by, told-refused}
+use Rattle.told.specs.Told.{statusOf, leavesNumbers}
+use Rattle.rack.specs.Rack.{whoNumbers, whoTold}
+use Rattle.told.proofs.ToldLaws.{Told, told-by, told-refused}
 use borrow.Author.Needs.{needs}
 use Rattle.rack.proofs.answers.rack_who.Statement.{statement}
 use Rattle.rack.proofs.answers.rack_who.Tie as tie

@@ -6,10 +6,10 @@ use mathlib.Core.Logic.{⊎-elim}
 use borrow.Author.Needs.{needs}
 use native.Mathlib.Omega.{arith}
 use lib.ListN.{getD, take}
-use Rattle.ring.specs.Reserves.{ringTicks, ringProcessors, ringLength}
+use Rattle.reserves.specs.Reserves.{ringTicks, ringProcessors, ringLength}
 use Rattle.wholes.specs.Ceiling.{ceilingOf}
-use Rattle.ring.proofs.Starts.{ring-nil, length-room}
-use Rattle.ring.proofs.SummedLaws.{Summed, summed-none, summed-all, ticks-more, ticks-same, ticks-room}
+use Rattle.reserves.proofs.Starts.{ring-nil, length-room}
+use Rattle.reserves.proofs.SummedLaws.{Summed, summed-none, summed-all, ticks-more, ticks-same, ticks-room}
 use Rattle.ring.proofs.StandLaws.{stand-found, stand-past}
 use Rattle.ring.proofs.cover.stand_at.Statement.{statement}
 use Rattle.ring.proofs.cover.stand_at.Tie as tie

@@ -15,7 +15,7 @@ use Rattle.members.specs.Members.{membersOf, withLoad, Sized}
 use Rattle.members.specs.Loads.{loadsIn}
 use Rattle.servers.specs.Placement.{takes}
 use Rattle.members.specs.declared.Members.{Members}
-use Rattle.members.proofs.LoadLaws.{in-few}
+use Rattle.places.proofs.PlacesLaws.{in-few}
 use Rattle.members.proofs.PartLaws.{Holds, holds-sized, holds-gathered, holds-with, holds-loads, testable}
 use Rattle.servers.proofs.placement.passes_with.Statement.{statement}
 use Rattle.servers.proofs.placement.passes_with.Tie as tie

@@ -7,7 +7,7 @@ use native.Mathlib.Omega.{arith}
 use lib.ListN.{take}
 use Rattle.demand.specs.Load.{loadsOf}
 use Rattle.servers.specs.Reserve.{reserveIn}
-use Rattle.members.proofs.PaddedLaws.{Filled, filled-none, filled-next, filled-all}
+use Rattle.places.proofs.PaddedLaws.{Filled, filled-none, filled-next, filled-all}
 use Rattle.servers.proofs.sizing.size.Statement.{statement}
 use Rattle.servers.proofs.sizing.size.Tie as tie
 

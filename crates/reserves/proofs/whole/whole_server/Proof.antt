@@ -1,0 +1,70 @@
+-- `whole::whole_server` meets its contract. The loop's invariant: the server asked for is the `more`-th from the i-th reserve on.
+-- The measure is what is left of n. Assumes nothing.
+use Prim.Native.Nat.{_-_}
+use mathlib.Core.Logic.{⊎-elim}
+use borrow.Author.Needs.{needs}
+use native.Mathlib.Omega.{arith}
+use Rattle.reserves.proofs.WholeLaws.{Walked, walked-none, walked-here, walked-past, walked-next, walked-all}
+use Rattle.reserves.proofs.whole.whole_server.Statement.{statement}
+use Rattle.reserves.proofs.whole.whole_server.Tie as tie
+
+abbrev Inv-loop : tie.InvT-loop
+Inv-loop reserves n slot k more₀ i₀ more i = Walked slot reserves n k more i
+
+abbrev μ-loop : tie.MeasureT-loop
+μ-loop reserves n slot k more₀ i₀ more i = n - i
+
+loop-holds : tie.Need-loop-holds Inv-loop μ-loop
+loop-holds c = walked-none
+
+mul-reserve : tie.Need-mul-reserve Inv-loop μ-loop
+mul-reserve c = search needs
+
+shared-slice-read-reserve : tie.Need-shared-slice-read-reserve Inv-loop μ-loop
+shared-slice-read-reserve c = search needs
+
+add-result : tie.Need-add-result Inv-loop μ-loop
+add-result c = omega (arith, c .before .before .before .before .before .pre .few)
+
+returns : tie.Need-returns Inv-loop μ-loop
+returns c =
+    let at = c .before .before .before .before in
+    walked-here (at .before .pre) (at .loop .inv) (c .before .before .before .loop-test .taken) (omega (arith, c .before .if1 .taken)) (omega (arith, c .if2 .taken))
+
+sub-more : tie.Need-sub-more Inv-loop μ-loop
+sub-more c = search needs
+
+add-i : tie.Need-add-i Inv-loop μ-loop
+add-i c = search needs
+
+loop-less : tie.Need-loop-less Inv-loop μ-loop
+loop-less c = search needs
+
+loop-again : tie.Need-loop-again Inv-loop μ-loop
+loop-again c =
+    let at = c .before .before .before in
+    let h = c .before .before .loop-test .taken in
+    ⊎-elim
+    (λ w. walked-next (at .before .pre) (at .loop .inv) h (omega (arith, w .0 .taken)) (omega (arith, w .1 .left)) (w .2))
+    (λ w. walked-past (at .before .pre) (at .loop .inv) h (omega (arith, w .0 .left)) (w .1))
+    (c .if1 .came)
+
+returns-2 : tie.Need-returns-2 Inv-loop μ-loop
+returns-2 c = let at = c .before in walked-all (at .before .pre) (at .loop .inv) (c .loop-test .left)
+
+pub whole-server-spec : {M : Type 1} → statement M
+whole-server-spec =
+    tie.close
+    (tie.spec
+    Inv-loop
+    μ-loop
+    loop-holds
+    mul-reserve
+    shared-slice-read-reserve
+    add-result
+    returns
+    sub-more
+    add-i
+    loop-less
+    loop-again
+    returns-2)

@@ -1,0 +1,3 @@
+pub mod Slotted
+pub mod Reserves
+pub mod Whole

@@ -1,0 +1,41 @@
+// An answer told in numbers: its status, 0 or a refusal as one number; the numbers of a verdict; numbers into lent memory.
+// What they are stands in specs/Told.antt.
+use framewrite::figures::put_figures;
+use refusals::Refusal;
+use refusals::number;
+use refusals::place;
+use verdict::answer::Verdict;
+ghost use mathlib.Core.Path.{_≡_};
+ghost use Rattle.refusals.specs.declared.Outcome.the-variants.{Done, Refused};
+ghost use Rattle.told.specs.Told.{statusOf, toldOf, leavesNumbers, verdictNumbers};
+
+// number · 256 + place
+pub fn code(refusal: Refusal) -> u64
+    ensures { λ r. ⌜ r ≡ statusOf (Refused refusal) ⌝ }
+{
+    let row = number(refusal);
+    let at = place(refusal) as u64;
+    row * 256 + at
+}
+
+// Puts the numbers at the answer's start; ROOM and nothing stored where it has fewer places.
+pub fn put_numbers(answer: &mut [u64], numbers: &[u64]) -> u64
+    ensures { λ r. ⌜ r ≡ statusOf (toldOf Done (now (numbers .entry)) (now (answer .entry))) ⌝ }
+    ensures { λ r. ⌜ now (answer .exit) ≡ leavesNumbers (toldOf Done (now (numbers .entry)) (now (answer .entry))) (now (numbers .entry)) (now (answer .entry)) ⌝ }
+{
+    if answer.len() < numbers.len() {
+        return code(Refusal::Room);
+    }
+    put_figures(answer, 0, numbers);
+    0
+}
+
+// 1 and three zeros for yes; 0, the smallest failing length, the demand and the supply there for no.
+pub fn numbers_of(verdict: Verdict) -> [u64; 4]
+    ensures { λ r. ⌜ r ≡ verdictNumbers verdict ⌝ }
+{
+    match verdict {
+        Verdict::Yes(_) => [1, 0, 0, 0],
+        Verdict::No(reading) => [0, reading.length, reading.demand, reading.supply],
+    }
+}
