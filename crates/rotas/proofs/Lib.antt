@@ -3,3 +3,4 @@ pub mod StandLaws
 pub mod StandingLaws
 pub mod WindowLaws
 pub mod Claims
+pub mod Worked
