@@ -29,7 +29,8 @@ module _ (h : Header) (cache : ℕ) (figures places : List ℕ) where
 
   to-more : (i : ℕ) → i < length places → chargedTo i ++ (chargedIn h cache (loadAt figures (getD places i 0)) ∷ []) ≡ chargedTo (i + 1)
   to-more i l =
-      sym (ap (map (chargedIn h cache)) (taken-more (loadAt figures) places i l) ∙ map-append (chargedIn h cache) (membersAt figures (take i places)) (loadAt figures (getD places i 0) ∷ []))
+      sym (map-append (chargedIn h cache) (membersAt figures (take i places)) (loadAt figures (getD places i 0) ∷ []))
+      ∙ ap (map (chargedIn h cache)) (taken-more (loadAt figures) places i 0 l)
 
   -- the charged figures of place i stored behind those before it
   pub charge-step : (i : ℕ) (b : List ℕ) {loads : List ℕ} {cost due : ℕ} → i < length places → 3 * i + 3 ≤ length b →

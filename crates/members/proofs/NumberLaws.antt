@@ -87,12 +87,12 @@ unfolding stored
 loads-stored b ls {n} e =
     ap (loadsOf (stored b 0 (numbersOf ls))) (sym e) ∙ loads-back ls (drop (0 + length (numbersOf ls)) b)
 
--- ---- what is made of the first places, one place more
+-- ---- what is made of the first elements, one more
 
-pub taken-length : {A : Type 0} (f : ℕ → A) (places : List ℕ) (i : ℕ) → i ≤ length places → length (map f (take i places)) ≡ i
-taken-length f places i h = length-map (take i places) f ∙ length-take-le i places h
+module _ {A B : Type 0} (f : A → B) (xs : List A) (i : ℕ) where
+  pub taken-length : i ≤ length xs → length (map f (take i xs)) ≡ i
+  taken-length h = length-map (take i xs) f ∙ length-take-le i xs h
 
-pub taken-more : {A : Type 0} (f : ℕ → A) (places : List ℕ) (i : ℕ) → i < length places →
-    map f (take (i + 1) places) ≡ map f (take i places) ++ (f (getD places i 0) ∷ [])
-taken-more f places i h =
-    ap (λ (k : ℕ). map f (take k places)) (add-one i) ∙ ap (map f) (take-suc places i 0 h) ∙ map-append f (take i places) (getD places i 0 ∷ [])
+  pub taken-more : (d : A) → i < length xs → map f (take i xs) ++ (f (getD xs i d) ∷ []) ≡ map f (take (i + 1) xs)
+  taken-more d h =
+      sym (ap (λ (k : ℕ). map f (take k xs)) (add-one i) ∙ ap (map f) (take-suc xs i d h) ∙ map-append f (take i xs) (getD xs i d ∷ []))

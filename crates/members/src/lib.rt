@@ -60,7 +60,7 @@ pub fn horizon_of(loads: &[u64], n: usize, slot: u64, limit: u64) -> Multiple
         return Multiple::Past;
     }
     let mut m = slot;
-    let mut i: usize = 0;
+    let mut i = 0;
     while i < n {
         let at = 3 * i + 2;
         let Multiple::Within(next) = wholes::least_multiple(m, loads[at], limit) else {
