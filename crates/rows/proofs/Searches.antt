@@ -8,7 +8,7 @@ use lib.ListN.{length, drop, getD}
 use Rattle.tasks.specs.declared.set.Task.{Task}
 use Rattle.tasks.specs.declared.set.TaskSet.{TaskSet}
 use Rattle.tasks.specs.Set.{members, zeroTask}
-use Rattle.tasks.specs.Rows.{firstTask, firstFrom}
+use Rattle.tasks.specs.Search.{firstTask, firstFrom}
 use Rattle.tasks.proofs.Firsts.{first-here, first-more, first-end}
 use Rattle.tasks.proofs.SetLaws.{members-length, member-at}
 

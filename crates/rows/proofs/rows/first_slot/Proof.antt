@@ -3,7 +3,7 @@
 use Prim.Native.Nat.{_+_, _-_, _≤_}
 use native.Mathlib.Omega.{arith}
 use Rattle.tasks.specs.Set.{members}
-use Rattle.tasks.specs.Rows.{firstTask, firstFrom}
+use Rattle.tasks.specs.Search.{firstTask, firstFrom}
 use Rattle.rows.specs.Rows.{slotRow}
 use mathlib.Core.Path.{_≡_, refl, sym, _∙_}
 use lib.ListN.{length, drop, length-map}
