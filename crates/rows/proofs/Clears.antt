@@ -28,8 +28,10 @@ use Rattle.refusals.specs.First.{firstOf, when}
 use Rattle.frames.specs.Table.{widthsOf, widthOf, fieldsIn}
 use Rattle.frames.specs.declared.table.Frame.{Frame}
 use Rattle.tasks.specs.Values.{headerValues}
-use Rattle.tasks.proofs.Carried.{ask-header, header-fits}
-use Rattle.tasks.specs.Rows.{firstTask, atTask, boardRow, rangeRow, askRow, figuresOutcome}
+use Rattle.taskask.proofs.Carried.{ask-header, header-fits}
+use Rattle.tasks.specs.Search.{firstTask, atTask}
+use Rattle.taskrows.specs.Rows.{boardRow, rangeRow, figuresOutcome}
+use Rattle.taskask.specs.Ask.{askRow}
 use Rattle.tasks.proofs.FirstLaws.{first-none}
 use Rattle.tasks.proofs.Firsts.{at-some}
 use Rattle.members.specs.Charge.{figuresOf, chargedIn, Member, Overheads, Timed}

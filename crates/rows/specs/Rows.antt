@@ -14,7 +14,8 @@ use Rattle.tasks.specs.declared.set.Task.{Task}
 use Rattle.tasks.specs.declared.set.TaskSet.{TaskSet}
 use Rattle.tasks.specs.Set.{mostTasks, members, longestHorizon}
 use Rattle.refusals.specs.First.{firstOf, when}
-use Rattle.tasks.specs.Rows.{firstTask, atTask, boardRow, rangeRow, figuresOutcome}
+use Rattle.tasks.specs.Search.{firstTask, atTask}
+use Rattle.taskrows.specs.Rows.{boardRow, rangeRow, figuresOutcome}
 use Rattle.members.specs.Charge.{figuresOf, chargedIn}
 use Rattle.rows.specs.declared.rows.TaskRow.{TaskRow}
 use Rattle.rows.specs.declared.rows.Rows.{Rows}

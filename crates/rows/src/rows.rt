@@ -13,7 +13,7 @@ ghost use mathlib.Core.Bool.{false};
 ghost use Prim.Native.Nat.{_≤_};
 ghost use Rattle.wholes.specs.Multiple.{within};
 ghost use Rattle.tasks.specs.Set.{members, mostTasks, longestHorizon};
-ghost use Rattle.tasks.specs.Rows.{firstTask};
+ghost use Rattle.tasks.specs.Search.{firstTask};
 ghost use Rattle.rows.specs.Rows.{tightRow, rowOf, horizonOf, horizonRow, rowsOf, Chargeable};
 
 // A row that is tried on each task: 7 SLOT or 8 TIGHT.
@@ -100,7 +100,7 @@ pub fn charged(set: TaskSet) -> Rows
     requires { ⌜ set .count ≤ mostTasks ⌝ }
     ensures { λ r. ⌜ r ≡ rowsOf set ⌝ }
 {
-    let outcome = tasks::rows::figures(set);
+    let outcome = taskrows::figures(set);
     if let Outcome::Refused(refusal) = outcome {
         return Rows::Refused(refusal);
     }

@@ -1,7 +1,7 @@
 -- The halving of `first_short`, over any property of lengths: what holds at each turn.
 use Prim.Native.Nat.{ℕ, _+_, _≤_, _<_}
 use native.Mathlib.Omega.{arith}
-use mathlib.Core.Path.{_≡_, sym, subst}
+use mathlib.Core.Path.{_≡_, sym}
 use mathlib.Core.Logic.{⊎-elim}
 use mathlib.Core.Bool.{Bool, true}
 use Rattle.laws.proofs.Orders.{le-or-lt}

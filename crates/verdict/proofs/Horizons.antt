@@ -1,10 +1,9 @@
 -- The own horizon of a server: the periods divide it, the loads' demand is lawful under it, and how it grows load by load.
-use Prim.Native.Nat.{ℕ, zero, suc, _+_, _*_, _≤_, _∣_, suc-le-suc}
+use Prim.Native.Nat.{ℕ, zero, suc, _≤_, _∣_, suc-le-suc}
 use native.Mathlib.Omega.{arith}
 use native.Mathlib.Nat.{le-of-suc-le-suc}
-use mathlib.Core.Path.{_≡_, refl, sym, ap, _∙_}
+use mathlib.Core.Path.{_≡_, ap, _∙_}
 use mathlib.Core.List.{List, [], _∷_, _++_, map, map-append}
-use lib.ListN.{getD}
 use Rattle.wholes.specs.Multiple.{leastMultiple, leastMultipleOf, Divide, AllPositive}
 use Rattle.wholes.proofs.MultipleLaws.{multiple-of-pos, others-divide-of, multiple-of-append}
 use Rattle.demand.specs.Load.{Load, Sound, Every}

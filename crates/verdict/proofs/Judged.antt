@@ -21,7 +21,7 @@ unfolding short failing
 short-failing g S L R f some e = fun-ext (λ (t : ℕ). rw (supply-gap S L R t some, e, add-zero))
 
 -- an allowed reserve is at most the slot
-pub allowed-within : {S L R : ℕ} → Allowed S L R → R ≤ S
+allowed-within : {S L R : ℕ} → Allowed S L R → R ≤ S
 allowed-within {S} {L} {R} a = ⊎-elim (λ (r : Ring S L R). omega (arith, r .parts)) (λ (e : R ≡ S). omega arith) a
 
 -- what a test knows of its numbers: R allowed, f its gap

@@ -11,7 +11,7 @@ use Rattle.demand.specs.Supply.{Allowed, supply}
 use Rattle.demand.specs.Passes.{Passes}
 use Rattle.demand.proofs.Claims.{demand-decides}
 use Rattle.demand.proofs.Reserve.{supply-rises}
-use Rattle.verdict.specs.Search.{firstUpTo, NoneIn, First}
+use Rattle.verdict.specs.Search.{NoneIn, First}
 use Rattle.verdict.specs.Verdict.{failing, firstFailing, verdictAt, verdictOf, isYes, passing}
 use Rattle.verdict.specs.Claims.{FailsFirst}
 use Rattle.verdict.specs.declared.answer.Reading.{Reading}
@@ -68,7 +68,7 @@ module _ (g : ℕ → ℕ) (H S L R : ℕ) (lawful : Lawful g H) (slot : 1 ≤ S
   zero-passes : firstFailing g H S L R ≡ 0 → Passes g S L R
   zero-passes e = none-passes (zero-none g H S L R e)
 
-  pub first-fails : (t : ℕ) → First (failing g S L R) t → firstFailing g H S L R ≡ t
+  first-fails : (t : ℕ) → First (failing g S L R) t → firstFailing g H S L R ≡ t
   unfolding firstFailing
   first-fails t f =
       ⊎-elim (λ v. passes-first g S L R (none-passes (v .1)) f) (λ v. first-same (v .1) f) (first-view (failing g S L R) H)

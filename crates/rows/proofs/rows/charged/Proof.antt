@@ -7,7 +7,8 @@ use native.Mathlib.Omega.{arith}
 use lib.ListN.{length, length-map}
 use Rattle.refusals.specs.declared.Outcome.the-variants.{Done}
 use Rattle.tasks.specs.Set.{mostTasks, members}
-use Rattle.tasks.specs.Rows.{firstTask, figuresOutcome}
+use Rattle.tasks.specs.Search.{firstTask}
+use Rattle.taskrows.specs.Rows.{figuresOutcome}
 use Rattle.tasks.proofs.Firsts.{first-within}
 use Rattle.tasks.proofs.SetLaws.{members-length}
 use Rattle.rows.specs.Rows.{slotRow, tightRow}

@@ -30,7 +30,9 @@ passes-requires : tie.Need-passes-requires Inv-loop μ-loop
 passes-requires c κs =
     let s = c .before .before .before in
     let l = c .before .loop in
-    (s .pre .0, (s .pre .1, sizing-ring (l .inv) (l .lo + (l .hi - l .lo) / 2) (omega arith) (omega arith)))
+    let t = s .pre .1 in
+    let ring = sizing-ring (l .inv) (l .lo + (l .hi - l .lo) / 2) (omega arith) (omega arith) in
+    (s .pre .0, (record { slot-some = t .slot-some; slot-small = t .slot-small; loss-small = t .loss-small; horizon-small = omega (arith, t) }, ring))
 
 loop-less : tie.Need-loop-less Inv-loop μ-loop
 loop-less c = omega arith
