@@ -1,0 +1,8 @@
+-- The laws of placing and of sizing.
+pub mod PlacementLaws
+pub mod JoinLaws
+pub mod FittingLaws
+pub mod Claims
+pub mod TotalLaws
+pub mod ChargedLaws
+pub mod SoFarLaws
