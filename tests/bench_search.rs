@@ -7,28 +7,33 @@ use std::collections::BTreeSet;
 use std::time::Instant;
 
 extern "C" {
-    fn probe_last_short(
-        costs: *const u64, costs_len: usize, deadlines: *const u64, deadlines_len: usize,
-        periods: *const u64, periods_len: usize, n: usize, slot: u64, gap: u64, hi: u64,
-    ) -> u64;
+    fn probe_last_short(loads: *const u64, loads_len: usize, n: usize, slot: u64, gap: u64, hi: u64) -> u64;
 }
 
+// The loads stand in one row of numbers, as the search takes them: cost, deadline, period.
 #[derive(Clone)]
 struct Server {
     name: &'static str,
-    costs: Vec<u64>,
-    deadlines: Vec<u64>,
-    periods: Vec<u64>,
+    loads: Vec<u64>,
     slot: u64,
     gap: u64,
     horizon: u64,
 }
 
 impl Server {
+    fn new(name: &'static str, slot: u64, gap: u64, horizon: u64) -> Server {
+        Server { name, loads: vec![], slot, gap, horizon }
+    }
+
+    fn add(&mut self, cost: u64, deadline: u64, period: u64) {
+        self.loads.extend([cost, deadline, period]);
+    }
+
     fn demand(&self, t: u64) -> u64 {
-        (0..self.costs.len())
-            .filter(|i| self.deadlines[*i] <= t)
-            .map(|i| self.costs[i] * ((t - self.deadlines[i]) / self.periods[i] + 1))
+        self.loads
+            .chunks_exact(3)
+            .filter(|load| load[1] <= t)
+            .map(|load| load[0] * ((t - load[1]) / load[2] + 1))
             .sum()
     }
 
@@ -38,11 +43,11 @@ impl Server {
 
     fn steps(&self) -> BTreeSet<u64> {
         let mut steps = BTreeSet::new();
-        for i in 0..self.costs.len() {
-            let mut t = self.deadlines[i];
+        for load in self.loads.chunks_exact(3) {
+            let mut t = load[1];
             while t <= self.horizon {
                 steps.insert(t);
-                t += self.periods[i];
+                t += load[2];
             }
         }
         steps
@@ -79,12 +84,11 @@ impl Server {
     }
 
     fn proved(&self) -> u64 {
-        let n = self.costs.len();
-        // The contract's conditions hold of every server made below: sound loads, at most 256, gap below the slot, short lengths.
+        // The contract's conditions hold of every server made below: sound and small loads, at most 256, gap below the slot,
+        // short lengths.
         unsafe {
             probe_last_short(
-                self.costs.as_ptr(), n, self.deadlines.as_ptr(), n, self.periods.as_ptr(), n,
-                n, self.slot, self.gap, self.horizon,
+                self.loads.as_ptr(), self.loads.len(), self.loads.len() / 3, self.slot, self.gap, self.horizon,
             )
         }
     }
@@ -99,13 +103,11 @@ const H: u64 = 9_979_200;
 // n loads with periods from the divisors of H, that use about `share` thousandths of the processor.
 fn server(random: &mut Random, name: &'static str, n: usize, share: u64, slot: u64, gap: u64) -> Server {
     let periods_of = divisors(H, 2_000, 1_000_000);
-    let mut s = Server { name, costs: vec![], deadlines: vec![], periods: vec![], slot, gap, horizon: H };
+    let mut s = Server::new(name, slot, gap, H);
     for _ in 0..n {
         let period = random.one(&periods_of);
         let cost = (period * share / 1000 / n as u64).max(1);
-        s.periods.push(period);
-        s.costs.push(cost);
-        s.deadlines.push(random.within(cost.max(period / 2), period));
+        s.add(cost, random.within(cost.max(period / 2), period), period);
     }
     s
 }
@@ -123,26 +125,20 @@ fn servers() -> Vec<Server> {
         all.push(server(&mut random, "just under the reserve's share, 749 of 750", 64, 749, 1440, 360));
     }
     // Utilisation exactly 1: 64 loads of T/64, deadlines at the period.
-    let mut full = Server { name: "utilisation exactly 1", costs: vec![], deadlines: vec![], periods: vec![], slot: 1440, gap: 0, horizon: H };
+    let mut full = Server::new("utilisation exactly 1", 1440, 0, H);
     for i in 0..64u64 {
         let period = 64 * [45, 63, 75, 105, 135, 165, 225, 315][i as usize % 8];
-        full.periods.push(period);
-        full.deadlines.push(period);
-        full.costs.push(period / 64);
+        assert!(H % period == 0);
+        full.add(period / 64, period, period);
     }
-    assert!(full.periods.iter().all(|p| H % p == 0));
     all.push(full);
     // 63 loads of short periods, and one of 78,125, which shares no factor with them.
-    let mut long = Server { name: "one long coprime period", costs: vec![], deadlines: vec![], periods: vec![], slot: 128, gap: 32, horizon: 10_000_000 };
+    let mut long = Server::new("one long coprime period", 128, 32, 10_000_000);
     for i in 0..63u64 {
         let period = 128 << (i % 3);
-        long.periods.push(period);
-        long.deadlines.push(period);
-        long.costs.push(1);
+        long.add(1, period, period);
     }
-    long.periods.push(78_125);
-    long.deadlines.push(78_125);
-    long.costs.push(20_000);
+    long.add(20_000, 78_125, 78_125);
     all.push(long);
     all
 }

@@ -1,6 +1,6 @@
 -- Laws of demand: it grows with the length, turns with every common multiple of the periods, and stays between steps.
 -- Assumes nothing.
-use Prim.Native.Nat.{ℕ, zero, suc, _+_, _*_, _-_, _/_, _≤_, _<_, _∣_}
+use Prim.Native.Nat.{ℕ, zero, suc, _+_, _*_, _-_, _/_, _^_, _≤_, _<_, _∣_}
 use mathlib.Core.Path.{_≡_, refl, ap, ap₂, subst, sym, _∙_}
 use mathlib.Core.List.{List, [], _∷_, _++_}
 use mathlib.Core.Logic.{inl, inr, ⊎-elim}
@@ -11,7 +11,7 @@ use lib.Arith.{le-zero}
 use lib.ListN.{length, getD, length-append}
 use Rattle.laws.proofs.Orders.{le-or-lt}
 use Rattle.laws.proofs.Choices.{cond-leb, cond-leb-not}
-use Rattle.demand.specs.Load.{Load, Sound, Every, Loaded, loadAt, loadsOf}
+use Rattle.demand.specs.Load.{Load, Sound, Meets, Small, Every, Loaded, loadAt, loadsOf}
 use Rattle.demand.specs.Demand.{jobs, demand}
 use Rattle.demand.specs.Steps.{Step}
 
@@ -68,14 +68,41 @@ within-sums c d T q t hc hd ht hq =
     let m : c * q ≤ T * q = mul-le-mul {m₁ = q} (le-trans hc hd) (le-refl q) in
     omega arith
 
--- a sound load never asks more than the length
-pub term-within : (l : Load) (t : ℕ) → Sound l → l .cost * jobs (l .deadline) (l .period) t ≤ t
-term-within l t s =
+-- a sound load whose cost is no more than its deadline never asks more than the length
+pub term-within : (l : Load) (t : ℕ) → Sound l → Meets l → l .cost * jobs (l .deadline) (l .period) t ≤ t
+term-within l t s m =
     ⊎-elim
     (λ (p : l .deadline ≤ t).
     rw (jobs-due (l .period) p)
-    (within-sums (l .cost) (l .deadline) (l .period) ((t - l .deadline) / l .period) t (s .meets) (s .constrained) p (div-mul-le-self (t - l .deadline) (l .period))))
+    (within-sums (l .cost) (l .deadline) (l .period) ((t - l .deadline) / l .period) t m (s .constrained) p (div-mul-le-self (t - l .deadline) (l .period))))
     (λ (p : t < l .deadline). rw (jobs-none (l .period) p) (omega (arith, mul-zero (l .cost))))
+    (le-or-lt (l .deadline) t)
+
+-- before its deadline a load asks nothing
+pub term-none : (l : Load) {t : ℕ} → t < l .deadline → l .cost * jobs (l .deadline) (l .period) t ≡ 0
+term-none l h = rw (jobs-none (l .period) h) (mul-zero (l .cost))
+
+-- c (q + 1) ≤ (T + k) (q + 1) ≤ t + T + k (t + 1)
+room-sums : (k c d T q t : ℕ) → 1 ≤ T → c ≤ T + k → q * T ≤ t - d → c * (q + 1) ≤ t + T + k * (t + 1)
+room-sums k c d T q t hT hc hq =
+    let all : c * (q + 1) ≤ (T + k) * (q + 1) = mul-le-mul-right (q + 1) hc in
+    let times : q * 1 ≤ q * T = mul-le-mul-left q hT in
+    let more : k * q ≤ k * t = mul-le-mul-left k (omega arith) in
+    omega arith
+
+-- what a small load asks at most, at a length below 2 ^ 36
+abbrev pub mostTerm : ℕ
+mostTerm = 2 ^ 54 + 2 ^ 37
+
+pub term-room : (l : Load) (t : ℕ) → Sound l → Small l → t < 2 ^ 36 → l .cost * jobs (l .deadline) (l .period) t ≤ mostTerm
+term-room l t s m h =
+    ⊎-elim
+    (λ (p : l .deadline ≤ t).
+    rw (jobs-due (l .period) p)
+    (le-trans
+    (room-sums (2 ^ 18) (l .cost) (l .deadline) (l .period) ((t - l .deadline) / l .period) t (omega arith) (m .cost-small) (div-mul-le-self (t - l .deadline) (l .period)))
+    (omega arith)))
+    (λ (p : t < l .deadline). omega (arith, term-none l p))
     (le-or-lt (l .deadline) t)
 
 -- ---- lists of loads
@@ -83,6 +110,10 @@ term-within l t s =
 pub every-snoc : (P : Load → Type 0) (ls : List Load) (l : Load) → Every P ls → P l → Every P (ls ++ (l ∷ []))
 every-snoc P [] l e p = (p, tt)
 every-snoc P (x ∷ ls) l e p = (e .0, every-snoc P ls l (e .1) p)
+
+pub every-append : (P : Load → Type 0) (ls ks : List Load) → Every P ls → Every P ks → Every P (ls ++ ks)
+every-append P [] ks e f = f
+every-append P (x ∷ ls) ks e f = (e .0, every-append P ls ks (e .1) f)
 
 pub every-front : (P : Load → Type 0) (ls : List Load) (l : Load) → Every P (ls ++ (l ∷ [])) → Every P ls
 every-front P [] l e = tt
@@ -118,13 +149,13 @@ demand-mono (l ∷ ls) e h =
 pub demand-zero : (ls : List Load) → Every Sound ls → demand ls 0 ≡ 0
 unfolding demand
 demand-zero [] e = refl
-demand-zero (l ∷ ls) e = omega (arith, term-within l 0 (e .0), demand-zero ls (e .1))
+demand-zero (l ∷ ls) e = omega (arith, term-none l {t = 0} (e .0 .due), demand-zero ls (e .1))
 
--- each load asks at most the length
-pub demand-within : (ls : List Load) (t : ℕ) → Every Sound ls → demand ls t ≤ length ls * t
+-- so many small loads ask at most so much
+pub demand-small : (ls : List Load) (t : ℕ) → Every Sound ls → Every Small ls → t < 2 ^ 36 → demand ls t ≤ length ls * mostTerm
 unfolding demand
-demand-within [] t e = omega arith
-demand-within (l ∷ ls) t e = omega (arith, term-within l t (e .0), demand-within ls t (e .1))
+demand-small [] t e m h = omega arith
+demand-small (l ∷ ls) t e m h = omega (arith, term-room l t (e .0) (m .0) h, demand-small ls t (e .1) (m .1) h)
 
 turn-sums : (c j k a b : ℕ) {x y : ℕ} → x ≡ j + k → y ≡ a + b → c * x + y ≡ c * j + a + (c * k + b)
 turn-sums c j k a b e g = rw (e, g) (omega arith)
@@ -175,55 +206,57 @@ demand-first l ls s =
     let e : jobs (l .deadline) (l .period) (l .deadline) ≡ q + 1 = jobs-due (l .period) (le-refl (l .deadline)) in
     rw e (omega arith)
 
--- ---- the loads that stand in three slices
+-- ---- the loads that stand in a slice
 
-module _ (costs deadlines periods : List ℕ) where
-  pub loads-next : (i : ℕ) → loadsOf costs deadlines periods (i + 1) ≡ loadsOf costs deadlines periods i ++ (loadAt costs deadlines periods i ∷ [])
+module _ (numbers : List ℕ) where
+  pub loads-next : (i : ℕ) → loadsOf numbers (i + 1) ≡ loadsOf numbers i ++ (loadAt numbers i ∷ [])
   unfolding loadsOf
-  loads-next i = rw add-one
+  loads-next i = rw (add-one i)
 
-  pub loads-length : (n : ℕ) → length (loadsOf costs deadlines periods n) ≡ n
+  pub loads-length : (n : ℕ) → length (loadsOf numbers n) ≡ n
   unfolding loadsOf
   loads-length zero = refl
   loads-length (suc n) =
-      length-append (loadsOf costs deadlines periods n) (loadAt costs deadlines periods n ∷ []) ∙ omega (arith, loads-length n)
+      length-append (loadsOf numbers n) (loadAt numbers n ∷ []) ∙ omega (arith, loads-length n)
 
   -- what holds of the first n loads holds of the first i, and of each
-  pub every-first : (P : Load → Type 0) (n : ℕ) {i : ℕ} → i ≤ n → Every P (loadsOf costs deadlines periods n) → Every P (loadsOf costs deadlines periods i)
+  pub every-first : (P : Load → Type 0) (n : ℕ) {i : ℕ} → i ≤ n → Every P (loadsOf numbers n) → Every P (loadsOf numbers i)
   unfolding loadsOf
-  every-first P zero h e = subst (λ (k : ℕ). Every P (loadsOf costs deadlines periods k)) (sym (le-zero h)) e
+  every-first P zero h e = subst (λ (k : ℕ). Every P (loadsOf numbers k)) (sym (le-zero h)) e
   every-first P (suc n) h e =
       ⊎-elim
-      (λ p. every-first P n p (every-front P (loadsOf costs deadlines periods n) (loadAt costs deadlines periods n) e))
-      (λ q. subst (λ (k : ℕ). Every P (loadsOf costs deadlines periods k)) (sym q) e)
+      (λ p. every-first P n p (every-front P (loadsOf numbers n) (loadAt numbers n) e))
+      (λ q. subst (λ (k : ℕ). Every P (loadsOf numbers k)) (sym q) e)
       (le-suc-iff .0 h)
 
-  pub every-at : (P : Load → Type 0) (n : ℕ) {i : ℕ} → i < n → Every P (loadsOf costs deadlines periods n) → P (loadAt costs deadlines periods i)
+  pub every-at : (P : Load → Type 0) (n : ℕ) {i : ℕ} → i < n → Every P (loadsOf numbers n) → P (loadAt numbers i)
   every-at P n {i} h e =
-      every-last P (loadsOf costs deadlines periods i) (loadAt costs deadlines periods i) (rw (loads-next i) at (every-first P n {i = i + 1} (omega arith) e))
+      every-last P (loadsOf numbers i) (loadAt numbers i) (rw (loads-next i) at (every-first P n {i = i + 1} (omega arith) e))
 
   -- the demand of one load more
   pub demand-next : (i t : ℕ) →
-      demand (loadsOf costs deadlines periods (i + 1)) t ≡ demand (loadsOf costs deadlines periods i) t + getD costs i 0 * jobs (getD deadlines i 0) (getD periods i 0) t
+      demand (loadsOf numbers (i + 1)) t ≡ demand (loadsOf numbers i) t + loadAt numbers i .cost * jobs (loadAt numbers i .deadline) (loadAt numbers i .period) t
   demand-next i t =
-      rw (loads-next i) (demand-snoc (loadsOf costs deadlines periods i) (loadAt costs deadlines periods i) t)
+      rw (loads-next i) (demand-snoc (loadsOf numbers i) (loadAt numbers i) t)
 
   -- it adds nothing before its deadline, and its term from there on
-  pub next-none : (i : ℕ) {t : ℕ} → t < getD deadlines i 0 → demand (loadsOf costs deadlines periods (i + 1)) t ≡ demand (loadsOf costs deadlines periods i) t
+  pub next-none : (i : ℕ) {t : ℕ} → t < loadAt numbers i .deadline → demand (loadsOf numbers (i + 1)) t ≡ demand (loadsOf numbers i) t
   next-none i {t} h =
       demand-next i t ∙
-      ap (λ (j : ℕ). demand (loadsOf costs deadlines periods i) t + getD costs i 0 * j) (jobs-none (getD periods i 0) h) ∙
-      omega (arith, mul-zero (getD costs i 0))
+      ap (λ (j : ℕ). demand (loadsOf numbers i) t + loadAt numbers i .cost * j) (jobs-none (loadAt numbers i .period) h) ∙
+      omega (arith, mul-zero (loadAt numbers i .cost))
 
-  pub next-due : (i : ℕ) {t : ℕ} → getD deadlines i 0 ≤ t →
-      demand (loadsOf costs deadlines periods (i + 1)) t ≡
-      demand (loadsOf costs deadlines periods i) t + getD costs i 0 * ((t - getD deadlines i 0) / getD periods i 0 + 1)
+  pub next-due : (i : ℕ) {t : ℕ} → loadAt numbers i .deadline ≤ t →
+      demand (loadsOf numbers (i + 1)) t ≡
+      demand (loadsOf numbers i) t + loadAt numbers i .cost * ((t - loadAt numbers i .deadline) / loadAt numbers i .period + 1)
   next-due i {t} h =
       demand-next i t ∙
-      ap (λ (j : ℕ). demand (loadsOf costs deadlines periods i) t + getD costs i 0 * j) (jobs-due (getD periods i 0) h)
+      ap (λ (j : ℕ). demand (loadsOf numbers i) t + loadAt numbers i .cost * j) (jobs-due (loadAt numbers i .period) h)
 
-  -- the demand of the first i of few loads
-  pub demand-room : (n i t : ℕ) → Loaded costs deadlines periods n → i ≤ n → demand (loadsOf costs deadlines periods i) t ≤ 256 * t
-  demand-room n i t h g =
-      le-trans (demand-within (loadsOf costs deadlines periods i) t (every-first Sound n g (h .sound)))
-      (rw (loads-length i) (mul-le-mul-right t (le-trans g (h .few))))
+  -- the demand of the first i of few loads leaves room in 64 bits
+  pub demand-room : (n i t : ℕ) → Loaded numbers n → i ≤ n → t < 2 ^ 36 → demand (loadsOf numbers i) t < 2 ^ 63
+  demand-room n i t h g p =
+      let all : demand (loadsOf numbers i) t ≤ i * mostTerm =
+      le-trans (demand-small (loadsOf numbers i) t (every-first Sound n g (h .sound)) (every-first Small n g (h .small)) p)
+      (rw (loads-length i) (le-refl (i * mostTerm))) in
+      omega (arith, h .few)

@@ -1,5 +1,6 @@
 pub mod Supply
 pub mod Demand
+pub mod Slices
 pub mod Horizon
 pub mod Steps
 pub mod Fake

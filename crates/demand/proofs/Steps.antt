@@ -1,4 +1,4 @@
--- The steps decide: between steps demand stays and supply does not fall, and before the first step demand is 0.
+-- The steps decide: between steps a demand does not rise and supply does not fall, and at length 0 it is 0.
 -- Assumes nothing.
 use Prim.Native.Nat.{ℕ, zero, suc, _+_, _*_, _-_, _/_, _%_, _≤_, _<_}
 use mathlib.Core.Path.{_≡_, ap, subst, sym, _∙_}
@@ -10,8 +10,9 @@ use Rattle.laws.proofs.Orders.{eq-or-ne, le-or-lt}
 use Rattle.demand.specs.Load.{Load, Sound, Every}
 use Rattle.demand.specs.Demand.{demand}
 use Rattle.demand.specs.Supply.{gap, supply}
+use Rattle.demand.specs.Lawful.{RisesAt}
 use Rattle.demand.specs.Steps.{StepOf, Some, Step}
-use Rattle.demand.proofs.Demand.{demand-zero, demand-stays}
+use Rattle.demand.proofs.Demand.{demand-stays}
 use Rattle.demand.proofs.Supply.{supply-gap, supply-mono}
 
 -- past a step the remainder by the period is 0
@@ -58,13 +59,21 @@ no-step ls t sound n =
 pub supply-grows : (S L R : ℕ) {t u : ℕ} → 1 ≤ S → t ≤ u → supply S L R t ≤ supply S L R u
 supply-grows S L R {t} {u} h g = rw (supply-gap S L R t h, supply-gap S L R u h) (supply-mono S (gap S L R) h g)
 
-module _ (ls : List Load) (S L R H : ℕ) (sound : Every Sound ls) (slot : 1 ≤ S)
-    (at-steps : (t : ℕ) → 1 ≤ t → t ≤ H → Step ls t → demand ls t ≤ supply S L R t) where
-  pub up-to : (t : ℕ) → t ≤ H → demand ls t ≤ supply S L R t
-  up-to zero h = omega (arith, demand-zero ls sound)
+-- the demand of sound loads rises at their steps only
+pub rises-at : (ls : List Load) → Every Sound ls → RisesAt (Step ls) (demand ls)
+rises-at ls sound t =
+    ⊎-elim
+    (λ (st : Step ls (suc t)). inl st)
+    (λ (n : Step ls (suc t) → ⊥). inr (le-of-eq (sym (no-step ls t sound n))))
+    (step-or-not ls (suc t) (omega arith))
+
+module _ (Step : ℕ → Type 0) (g : ℕ → ℕ) (S L R H : ℕ) (slot : 1 ≤ S) (none : g 0 ≡ 0) (rises : RisesAt Step g)
+    (at-steps : (t : ℕ) → 1 ≤ t → t ≤ H → Step t → g t ≤ supply S L R t) where
+  pub up-to : (t : ℕ) → t ≤ H → g t ≤ supply S L R t
+  up-to zero h = omega arith
   up-to (suc t) h =
-      let before : demand ls t ≤ supply S L R t = up-to t (omega arith) in
+      let before : g t ≤ supply S L R t = up-to t (omega arith) in
       ⊎-elim
-      (λ (st : Step ls (suc t)). at-steps (suc t) (omega arith) h st)
-      (λ (n : Step ls (suc t) → ⊥). le-trans (le-of-eq (sym (no-step ls t sound n))) (le-trans before (supply-grows S L R slot (omega arith))))
-      (step-or-not ls (suc t) (omega arith))
+      (λ (st : Step (suc t)). at-steps (suc t) (omega arith) h st)
+      (λ (n : g (suc t) ≤ g t). le-trans n (le-trans before (supply-grows S L R slot (omega arith))))
+      (rises t)

@@ -4,10 +4,11 @@ use Prim.Native.Nat.{ℕ, _+_, _-_, _/_, _≤_, _<_, _∣_}
 use mathlib.Core.Path.{_≡_}
 use mathlib.Core.Logic.{_↔_}
 use mathlib.Core.List.{List, [], _∷_}
-use Rattle.demand.specs.Load.{Load, Sound, Every}
+use Rattle.demand.specs.Load.{Load, Sound, Meets, Every}
 use Rattle.demand.specs.Demand.{jobs, demand}
 use Rattle.demand.specs.Supply.{Ring, Allowed, gap, supplyPast, supply}
 use Rattle.demand.specs.Passes.{Passes, fake, FakePasses}
+use Rattle.demand.specs.Lawful.{Rising, RisesAt, Lawful}
 use Rattle.demand.specs.Steps.{Step}
 
 -- The literal forms are the computed ones: jobs by one division, and supply by the gap, which is 0 for a whole processor.
@@ -23,24 +24,31 @@ HorizonDecides =
     ((t : ℕ) → 1 ≤ t → t ≤ H → g t ≤ s t) →
     (t : ℕ) → 1 ≤ t → g t ≤ s t
 
--- So for sound loads a common multiple H of their periods decides, the file's horizon or a server's own.
--- That S divides H is not needed.
-abbrev pub LoadsDecide : Type 0
-LoadsDecide =
-    (ls : List Load) (S L R H : ℕ) → Every Sound ls → 1 ≤ S → 1 ≤ H → Every (λ (l : Load). l .period ∣ H) ls →
-    ((t : ℕ) → 1 ≤ t → t ≤ H → demand ls t ≤ supply S L R t) →
-    Passes ls S L R
+-- So the lengths 1 to H decide whether a lawful demand passes. That S divides H is not needed.
+abbrev pub DemandDecides : Type 0
+DemandDecides =
+    (g : ℕ → ℕ) (S L R H : ℕ) → 1 ≤ S → Lawful g H →
+    ((t : ℕ) → 1 ≤ t → t ≤ H → g t ≤ supply S L R t) →
+    Passes g S L R
 
 -- Within 1 to H the lengths where a demand steps decide, in the supply form.
-abbrev pub StepsDecide : Type 0
+abbrev pub StepsDecide : Type 1
 StepsDecide =
-    (ls : List Load) (S L R H : ℕ) → Every Sound ls → 1 ≤ S →
-    ((t : ℕ) → 1 ≤ t → t ≤ H → Step ls t → demand ls t ≤ supply S L R t) →
-    (t : ℕ) → 1 ≤ t → t ≤ H → demand ls t ≤ supply S L R t
+    (Step : ℕ → Type 0) (g : ℕ → ℕ) (S L R H : ℕ) → 1 ≤ S → g 0 ≡ 0 → RisesAt Step g →
+    ((t : ℕ) → 1 ≤ t → t ≤ H → Step t → g t ≤ supply S L R t) →
+    (t : ℕ) → 1 ≤ t → t ≤ H → g t ≤ supply S L R t
+
+-- The demand of sound loads is lawful under every common multiple of their periods, the file's horizon or a server's own;
+-- it rises, at steps only, and it is there once a load is.
+pub record LoadsLawful : Type 0 where
+  pub lawful : (ls : List Load) (H : ℕ) → Every Sound ls → 1 ≤ H → Every (λ (l : Load). l .period ∣ H) ls → Lawful (demand ls) H
+  pub rising : (ls : List Load) → Every Sound ls → Rising (demand ls)
+  pub steps : (ls : List Load) → Every Sound ls → RisesAt (Step ls) (demand ls)
+  pub some : (l : Load) (ls : List Load) → Sound l → 1 ≤ demand (l ∷ ls) (l .deadline)
 
 -- Over all lengths the report's fake-task form gives the same yes or no.
 abbrev pub FakeAgrees : Type 0
-FakeAgrees = (ls : List Load) (S L R : ℕ) → Every Sound ls → Ring S L R → Passes ls S L R ↔ FakePasses ls S L R
+FakeAgrees = (g : ℕ → ℕ) (S L R : ℕ) → Rising g → Ring S L R → Passes g S L R ↔ FakePasses g S L R
 
 -- At single lengths the two forms differ: example F, S 4, load 2/5/8, L 0, R 1.
 -- At 5 demand exceeds supply, but the fake-task sum does not exceed the length. At 7 it does.
@@ -62,16 +70,16 @@ pub record FakeRises : Type 0 where
   pub sum-1 : demand (loadRising ∷ []) 6 + fake 4 (4 - 1 + 0) 6 ≡ 6
   pub sum-2 : demand (loadRising ∷ []) 6 + fake 4 (4 - 2 + 0) 6 ≡ 7
 
--- As R grows the verdict over all lengths never turns from yes to no.
+-- As R grows the verdict over all lengths never turns from yes to no, whatever the demand.
 abbrev pub NeverTurns : Type 0
 NeverTurns =
-    (ls : List Load) (S L R R′ : ℕ) → Allowed S L R → Allowed S L R′ → R ≤ R′ → Passes ls S L R → Passes ls S L R′
+    (g : ℕ → ℕ) (S L R R′ : ℕ) → Allowed S L R → Allowed S L R′ → R ≤ R′ → Passes g S L R → Passes g S L R′
 
--- A task alone passes on a whole processor.
+-- A task alone passes on a whole processor, where its cost is no more than its deadline.
 abbrev pub AlonePasses : Type 0
-AlonePasses = (l : Load) (S L : ℕ) → Sound l → Passes (l ∷ []) S L S
+AlonePasses = (l : Load) (S L : ℕ) → Sound l → Meets l → Passes (demand (l ∷ [])) S L S
 
--- A reserve that the entry loss eats up supplies nothing, so a server with a load falls short at that load's deadline.
+-- A reserve that the entry loss eats up supplies nothing, so a demand falls short wherever there is any.
 pub record LossNeverPasses : Type 0 where
   pub nothing : (S L R t : ℕ) → R < S → R ≤ L → supply S L R t ≡ 0
-  pub short : (l : Load) (ls : List Load) (S L R : ℕ) → Sound l → R < S → R ≤ L → supply S L R (l .deadline) < demand (l ∷ ls) (l .deadline)
+  pub short : (g : ℕ → ℕ) (S L R t : ℕ) → 1 ≤ g t → R < S → R ≤ L → supply S L R t < g t

@@ -1,6 +1,6 @@
--- A load is what a charged task asks of its server: cost c, deadline d and period T, in whole ticks.
--- A server's loads stand in three slices of numbers, of which the first n count.
-use Prim.Native.Nat.{ℕ, zero, suc, _≤_}
+-- A load is what a task asks of its server: a cost, a deadline and a period, in whole ticks; as the file has them, C, D and T,
+-- or as charged, c, d and T. Loads stand in one slice of numbers, three for each, one load behind the other.
+use Prim.Native.Nat.{ℕ, zero, suc, _+_, _*_, _^_, _≤_, _<_}
 use mathlib.Core.List.{List, [], _∷_, _++_}
 use lib.ListN.{length, getD}
 
@@ -9,29 +9,37 @@ pub record Load : Type 0 where
   pub deadline : ℕ
   pub period : ℕ
 
--- 1 ≤ c ≤ d ≤ T
+-- 1 ≤ c, and 1 ≤ d ≤ T
 pub record Sound (l : Load) : Type 0 where
   pub some : 1 ≤ l .cost
-  pub meets : l .cost ≤ l .deadline
+  pub due : 1 ≤ l .deadline
   pub constrained : l .deadline ≤ l .period
+
+-- c ≤ d: alone, the load can be met
+abbrev pub Meets : Load → Type 0
+Meets l = l .cost ≤ l .deadline
+
+-- small enough for the sums of 256 loads: overheads add less than 2 ^ 18 to a cost
+pub record Small (l : Load) : Type 0 where
+  pub cost-small : l .cost ≤ l .period + 2 ^ 18
+  pub period-small : l .period < 2 ^ 36
 
 abbrev pub Every : (Load → Type 0) → List Load → Type 0
 Every P [] = Unit {0}
 Every P (l ∷ ls) = P l × Every P ls
 
--- the i-th load of three slices
-abbrev pub loadAt : (costs deadlines periods : List ℕ) → ℕ → Load
-loadAt costs deadlines periods i = record { cost = getD costs i 0; deadline = getD deadlines i 0; period = getD periods i 0 }
+-- the i-th load of a slice, from 0
+abbrev pub loadAt : (numbers : List ℕ) → ℕ → Load
+loadAt numbers i = record { cost = getD numbers (3 * i) 0; deadline = getD numbers (3 * i + 1) 0; period = getD numbers (3 * i + 2) 0 }
 
--- the first n loads of three slices, in order
-unfoldable pub loadsOf : (costs deadlines periods : List ℕ) → ℕ → List Load
-loadsOf costs deadlines periods zero = []
-loadsOf costs deadlines periods (suc n) = loadsOf costs deadlines periods n ++ (loadAt costs deadlines periods n ∷ [])
+-- the first n loads of a slice, in order
+unfoldable pub loadsOf : (numbers : List ℕ) → ℕ → List Load
+loadsOf numbers zero = []
+loadsOf numbers (suc n) = loadsOf numbers n ++ (loadAt numbers n ∷ [])
 
--- what a function over three slices of loads asks of them
-pub record Loaded (costs deadlines periods : List ℕ) (n : ℕ) : Type 0 where
-  pub costs-there : n ≤ length costs
-  pub deadlines-there : n ≤ length deadlines
-  pub periods-there : n ≤ length periods
+-- what a function over a slice of loads asks of it
+pub record Loaded (numbers : List ℕ) (n : ℕ) : Type 0 where
+  pub there : 3 * n ≤ length numbers
   pub few : n ≤ 256
-  pub sound : Every Sound (loadsOf costs deadlines periods n)
+  pub sound : Every Sound (loadsOf numbers n)
+  pub small : Every Small (loadsOf numbers n)

@@ -1,19 +1,17 @@
--- When a server passes with a reserve: at every length, no tick bound. The report's fake-task form beside it.
+-- When a demand passes with a reserve: at every length, no tick bound. The report's fake-task form beside it.
 -- Document 01, "Demand, supply, and the report's test"; the report's Eq. 13 to 16.
 use Prim.Native.Nat.{ℕ, _+_, _*_, _-_, _≤_}
-use mathlib.Core.List.{List}
-use Rattle.demand.specs.Load.{Load}
-use Rattle.demand.specs.Demand.{jobs, demand}
+use Rattle.demand.specs.Demand.{jobs}
 use Rattle.demand.specs.Supply.{supply}
 
 -- demand ≤ supply at every t ≥ 1
-abbrev pub Passes : List Load → (S L R : ℕ) → Type 0
-Passes ls S L R = (t : ℕ) → 1 ≤ t → demand ls t ≤ supply S L R t
+abbrev pub Passes : (g : ℕ → ℕ) → (S L R : ℕ) → Type 0
+Passes g S L R = (t : ℕ) → 1 ≤ t → g t ≤ supply S L R t
 
 -- the demand of a task of cost f, deadline f and period S
 unfoldable pub fake : (S f t : ℕ) → ℕ
 fake S f t = f * jobs f S t
 
--- the tasks and the fake task of a ring reserve fit into every length
-abbrev pub FakePasses : List Load → (S L R : ℕ) → Type 0
-FakePasses ls S L R = (t : ℕ) → 1 ≤ t → demand ls t + fake S (S - R + L) t ≤ t
+-- the demand and the fake task of a ring reserve fit into every length
+abbrev pub FakePasses : (g : ℕ → ℕ) → (S L R : ℕ) → Type 0
+FakePasses g S L R = (t : ℕ) → 1 ≤ t → g t + fake S (S - R + L) t ≤ t

@@ -1,5 +1,5 @@
 // Demand and supply of a server at one length.
-// The loads of a server stand in three slices, of which the first n count.
+// The loads stand in one slice of numbers, three for each: cost, deadline, period.
 ghost use mathlib.Core.Path.{_≡_};
 ghost use Prim.Native.Nat.{_<_, _≤_, _^_};
 ghost use Rattle.demand.specs.Load.{Loaded, loadsOf};
@@ -9,22 +9,17 @@ ghost use Rattle.demand.specs.Supply.{Allowed, gap, supplyPast};
 pub mod charging; // charging.rt: what the board's overheads make of a task's figures
 
 // The ticks that the first n loads must have had in a window of length t.
-pub fn demand_at<'a>(
-    costs: &'a [u64],
-    deadlines: &'a [u64],
-    periods: &'a [u64],
-    n: usize,
-    t: u64,
-) -> u64
-    requires { ⌜ Loaded (now costs) (now deadlines) (now periods) n × (t < 2 ^ 48) ⌝ }
-    ensures { λ r. ⌜ r ≡ demand (loadsOf (now (costs .entry)) (now (deadlines .entry)) (now (periods .entry)) n) t ⌝ }
+pub fn demand_at(loads: &[u64], n: usize, t: u64) -> u64
+    requires { ⌜ Loaded (now loads) n × (t < 2 ^ 36) ⌝ }
+    ensures { λ r. ⌜ r ≡ demand (loadsOf (now (loads .entry)) n) t ⌝ }
 {
     let mut sum: u64 = 0;
     let mut i: usize = 0;
     while i < n {
-        let d = deadlines[i];
+        let at = 3 * i;
+        let d = loads[at + 1];
         if d <= t {
-            sum += costs[i] * ((t - d) / periods[i] + 1);
+            sum += loads[at] * ((t - d) / loads[at + 2] + 1);
         }
         i += 1;
     }
@@ -46,7 +41,7 @@ pub fn supply_at(slot: u64, gap: u64, t: u64) -> u64
 
 // The longest stretch of a slot with nothing usable: none for a whole processor.
 pub fn gap_of(slot: u64, loss: u64, reserve: u64) -> u64
-    requires { ⌜ Allowed slot loss reserve × (slot < 2 ^ 48) × (loss < 2 ^ 48) × (reserve < 2 ^ 48) ⌝ }
+    requires { ⌜ Allowed slot loss reserve × (slot < 2 ^ 36) × (loss < 2 ^ 36) × (reserve < 2 ^ 36) ⌝ }
     ensures { λ r. ⌜ r ≡ gap slot loss reserve ⌝ }
 {
     if reserve == slot {

@@ -1,3 +1,5 @@
-pub mod MemberLaws
-pub mod LoadLaws
-pub mod PartLaws
+pub mod NumberLaws
+pub mod HorizonLaws
+pub mod ChargeLaws
+pub mod ServerLaws
+pub mod FiledLaws

@@ -1,2 +1,2 @@
-pub mod Members
-pub mod Loads
+pub mod Charge
+pub mod Server

@@ -1,79 +1,73 @@
-// The loads of one server, gathered from the tasks in file order, and the server's own horizon.
-// What they mean stands in specs/Members.antt and specs/Loads.antt.
-use tasks::set::TaskSet;
+// The loads of one server: the figures of its members, charged, and their horizon with the slot.
+// What they mean stands in specs/Charge.antt. Figures and loads stand in slices of numbers, three for each.
+use demand::charging;
+use tasks::set::Header;
 use wholes::Multiple;
 ghost use mathlib.Core.Path.{_≡_};
-ghost use Prim.Native.Nat.{_<_};
+ghost use mathlib.Core.List.{map};
+ghost use Prim.Native.Nat.{_<_, _^_};
 ghost use lib.ListN.{take};
-ghost use Rattle.demand.specs.Load.{Load, loadsOf};
+ghost use Rattle.digits.specs.Stored.{stored};
+ghost use Rattle.wholes.specs.Multiple.{within};
+ghost use Rattle.demand.specs.Charging.{entryLoss};
+ghost use Rattle.demand.specs.Load.{loadsOf};
 ghost use Rattle.verdict.specs.Verdict.{ownHorizon};
-ghost use Rattle.tasks.specs.Set.{mostTasks};
-ghost use Rattle.members.specs.Members.{membersOf, memberLoads, withLoad, Gathered, Bounded};
-ghost use Rattle.members.specs.Loads.{loadsIn};
+ghost use Rattle.members.specs.Charge.{numbersOf, chargedIn, membersAt, Charging, Timed};
 
-// Unused room is zero.
-pub struct Members {
-    pub count: usize,
-    pub costs: [u64; TaskSet::MOST_TASKS],
-    pub deadlines: [u64; TaskSet::MOST_TASKS],
-    pub periods: [u64; TaskSet::MOST_TASKS],
-}
-
-// One load more, in the first unused place.
-pub fn with_load(m: Members, cost: u64, deadline: u64, period: u64) -> Members
-    requires { ⌜ m .count < mostTasks ⌝ }
-    ensures { λ r. ⌜ r ≡ withLoad m (record { cost = cost; deadline = deadline; period = period }) ⌝ }
-{
-    let at = m.count;
-    let mut more = m;
-    more.costs[at] = cost;
-    more.deadlines[at] = deadline;
-    more.periods[at] = period;
-    more.count = at + 1;
-    more
-}
-
-// The loads of server q among the first n tasks.
-pub fn gather<'a>(
-    costs: &'a [u64],
-    deadlines: &'a [u64],
-    periods: &'a [u64],
-    server: &'a [u64],
+// The figures at the first n places, charged with a cache cost, from the start of `loads` on; the rest of it as before.
+pub fn charge(
+    header: Header,
+    cache: u64,
+    figures: &[u64],
+    places: &[u8],
     n: usize,
-    q: u64,
-) -> Members
-    requires { ⌜ Gathered (now costs) (now deadlines) (now periods) (now server) n ⌝ }
-    ensures { λ r. ⌜ r ≡ membersOf (loadsIn (loadsOf (now (costs .entry)) (now (deadlines .entry)) (now (periods .entry)) n) (take n (now (server .entry))) q) ⌝ }
+    loads: &mut [u64],
+)
+    requires { ⌜ Charging header cache (now figures) (now places) n (now loads) ⌝ }
+    ensures { λ r. ⌜ now (loads .exit) ≡ stored (now (loads .entry)) 0 (numbersOf (map (chargedIn header cache) (membersAt (now (figures .entry)) (take n (now (places .entry)))))) ⌝ }
 {
-    let none = [0u64; TaskSet::MOST_TASKS];
-    let mut m = Members {
-        count: 0,
-        costs: none,
-        deadlines: none,
-        periods: none,
-    };
     let mut i: usize = 0;
     while i < n {
-        if server[i] == q {
-            let at = m.count;
-            m.costs[at] = costs[i];
-            m.deadlines[at] = deadlines[i];
-            m.periods[at] = periods[i];
-            m.count = at + 1;
-        }
+        let from = 3 * places[i] as usize;
+        let to = 3 * i;
+        loads[to] = charging::charged_cost(
+            figures[from],
+            header.relo as u64,
+            header.ctswo as u64,
+            cache,
+        );
+        loads[to + 1] = charging::charged_deadline(figures[from + 1], header.relj as u64);
+        loads[to + 2] = figures[from + 2];
         i += 1;
     }
-    m
 }
 
-// The least common multiple of the slot and the server's periods. It divides the file's horizon, so it is within that.
-pub fn own_horizon(m: Members, slot: u64, horizon: u64) -> u64
-    requires { ⌜ Bounded (m .costs) (m .deadlines) (m .periods) (m .count) slot horizon ⌝ }
-    ensures { λ r. ⌜ r ≡ ownHorizon slot (memberLoads m) ⌝ }
+// The entry loss of a server of this cache cost.
+pub fn loss(header: Header, cache: u64) -> u64
+    requires { ⌜ cache < 2 ^ 32 ⌝ }
+    ensures { λ r. ⌜ r ≡ entryLoss (header .resd) cache ⌝ }
 {
-    let n = m.count;
-    let Multiple::Within(own) = wholes::least_multiple_of(slot, &m.periods, n, horizon) else {
-        return slot;
-    };
-    own
+    charging::entry_loss(header.resd as u64, cache)
+}
+
+// The least common multiple of the slot and the periods of the first n loads, or none past the limit. Multiples of positive
+// numbers only grow, so the first that is past the limit decides.
+pub fn horizon_of(loads: &[u64], n: usize, slot: u64, limit: u64) -> Multiple
+    requires { ⌜ Timed (now loads) n slot ⌝ }
+    ensures { λ r. ⌜ r ≡ within limit (ownHorizon slot (loadsOf (now (loads .entry)) n)) ⌝ }
+{
+    if limit < slot {
+        return Multiple::Past;
+    }
+    let mut m = slot;
+    let mut i = 0;
+    while i < n {
+        let at = 3 * i + 2;
+        let Multiple::Within(next) = wholes::least_multiple(m, loads[at], limit) else {
+            return Multiple::Past;
+        };
+        m = next;
+        i += 1;
+    }
+    Multiple::Within(m)
 }

@@ -14,7 +14,9 @@ use Rattle.tasks.specs.declared.set.Task.{Task}
 use Rattle.tasks.specs.declared.set.TaskSet.{TaskSet}
 use Rattle.tasks.specs.Set.{members, zeroTask}
 use Rattle.refusals.specs.First.{firstOf, when, till}
-use Rattle.tasks.specs.Rows.{firstTask, atTask, boardRow, rangeRow, figuresOutcome, askRow}
+use Rattle.tasks.specs.Search.{firstTask, atTask}
+use Rattle.taskrows.specs.Rows.{boardRow, rangeRow, figuresOutcome}
+use Rattle.taskask.specs.Ask.{askRow}
 use Rattle.refusals.proofs.FirstLaws.{done-refused, refused-same, first-assoc, when-done, when-refused, till-done, done-till, stays, Found, found}
 use Rattle.tasks.proofs.Firsts.{at-none, at-some}
 use Rattle.tasks.proofs.FirstLaws.{Stops, first-stops, stops-first, first-none, none-first}

@@ -3,7 +3,8 @@
 use mathlib.Core.Path.{_≡_, ap}
 use mathlib.Core.Bool.{Bool, _&&_}
 use Rattle.tasks.specs.declared.set.TaskSet.{TaskSet}
-use Rattle.tasks.specs.Rows.{countRow, figuresOutcome, askRow}
+use Rattle.taskask.specs.Ask.{countRow, askRow}
+use Rattle.taskrows.specs.Rows.{figuresOutcome}
 use Rattle.plan.specs.declared.plan.Plan.{Plan}
 use Rattle.rows.specs.Charge.{loadsOfSet}
 use Rattle.rows.specs.Rows.{horizonOf, horizonRow, chargedOutcome}

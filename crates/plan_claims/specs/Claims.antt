@@ -21,7 +21,8 @@ use Rattle.ring_claims.specs.Held.{later}
 use Rattle.tasks.specs.declared.set.Task.{Task}
 use Rattle.tasks.specs.declared.set.TaskSet.{TaskSet}
 use Rattle.tasks.specs.Set.{mostTasks, members, zeroTask}
-use Rattle.tasks.specs.Rows.{boardRow, rangeRow, askRow}
+use Rattle.taskrows.specs.Rows.{boardRow, rangeRow}
+use Rattle.taskask.specs.Ask.{askRow}
 use Rattle.plan.specs.declared.plan.Plan.{Plan}
 use Rattle.plan.specs.declared.planner.PlanAnswer.{PlanAnswer}
 use Rattle.questions.specs.declared.question.WhoAnswer.{WhoAnswer}

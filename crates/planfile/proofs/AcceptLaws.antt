@@ -13,8 +13,8 @@ use Rattle.refusals.specs.declared.Outcome.the-variants.{Done}
 use Rattle.tasks.specs.declared.set.Header.{Header}
 use Rattle.tasks.specs.declared.set.TaskSet.{TaskSet}
 use Rattle.tasks.specs.Set.{members, mostTasks, mostProcessors}
-use Rattle.tasks.specs.Rows.{boardRow}
-use Rattle.tasks.proofs.Carried.{ask-count, count-within}
+use Rattle.taskrows.specs.Rows.{boardRow}
+use Rattle.taskask.proofs.Carried.{ask-count, count-within}
 use Rattle.servers.specs.Placement.{placementOf, serversIn}
 use Rattle.servers.specs.Reserve.{reservesOf}
 use Rattle.servers.proofs.ReserveLaws.{reserves-count}

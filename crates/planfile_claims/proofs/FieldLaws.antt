@@ -18,7 +18,7 @@ use Rattle.frames.specs.Table.{widthsOf}
 use Rattle.tasks.specs.declared.set.Header.{Header}
 use Rattle.tasks.specs.declared.set.TaskSet.{TaskSet}
 use Rattle.tasks.specs.Set.{mostTasks}
-use Rattle.tasks.proofs.Carried.{ask-header, header-fits}
+use Rattle.taskask.proofs.Carried.{ask-header, header-fits}
 use Rattle.places.specs.Padded.{padded, upTo}
 use Rattle.members.specs.Loads.{loadsIn}
 use Rattle.places.proofs.PlacesLaws.{in-few}

@@ -20,8 +20,8 @@ use Rattle.servers.proofs.ReserveLaws.{reserves-count}
 use Rattle.tasks.specs.declared.set.TaskSet.{TaskSet}
 use Rattle.tasks.specs.Set.{mostTasks}
 use Rattle.refusals.specs.First.{firstOf, when}
-use Rattle.tasks.specs.Rows.{askRow}
-use Rattle.tasks.proofs.Carried.{count-within, ask-count}
+use Rattle.taskask.specs.Ask.{askRow}
+use Rattle.taskask.proofs.Carried.{count-within, ask-count}
 use Rattle.plan.specs.declared.plan.Plan.{Plan}
 use Rattle.rows.specs.Charge.{loadsOfSet, lossOf}
 use Rattle.rows.specs.Rows.{chargedOutcome, horizonOf, Chargeable, RowsClear}

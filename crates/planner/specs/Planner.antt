@@ -9,7 +9,7 @@ use Rattle.refusals.specs.declared.Outcome.{Outcome}
 use Rattle.refusals.specs.declared.Outcome.the-variants.{Done, Refused}
 use Rattle.tasks.specs.declared.set.TaskSet.{TaskSet}
 use Rattle.refusals.specs.First.{firstOf, when}
-use Rattle.tasks.specs.Rows.{askRow}
+use Rattle.taskask.specs.Ask.{askRow}
 use Rattle.reserves.specs.Reserves.{processorsOf}
 use Rattle.plan.specs.declared.plan.Plan.{Plan}
 use Rattle.planner.specs.declared.PlanAnswer.{PlanAnswer}

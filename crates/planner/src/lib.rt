@@ -69,7 +69,7 @@ fn planned(set: TaskSet, horizon: u64) -> PlanAnswer
 pub fn make(set: TaskSet) -> PlanAnswer
     ensures { λ r. ⌜ r ≡ planOf set ⌝ }
 {
-    if tasks::ask::asks(set) {
+    if taskask::asks(set) {
         return refused(Refusal::Ask);
     }
     let rows = charged(set);

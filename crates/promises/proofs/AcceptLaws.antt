@@ -21,7 +21,7 @@ use Rattle.ring_claims.specs.Slotted.{Slotted}
 use Rattle.reserves.specs.Reserves.{reserveOf}
 use Rattle.ring_claims.specs.Serves.{RingServer, WholeProcessor}
 use Rattle.tasks.specs.declared.set.TaskSet.{TaskSet}
-use Rattle.tasks.proofs.Carried.{count-within, ask-count}
+use Rattle.taskask.proofs.Carried.{count-within, ask-count}
 use Rattle.rows.specs.Charge.{loadsOfSet}
 use Rattle.plan.specs.Plan.{setPlacement, setReserves}
 use Rattle.plan.specs.Planner.{Clear}

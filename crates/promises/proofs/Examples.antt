@@ -16,9 +16,11 @@ use Rattle.digits.specs.Number.{numberFrom, hex}
 use Rattle.frames.specs.Table.{kindOf, widthsOf, sum}
 use Rattle.frames.specs.Line.{line, after, closed, same, formed, fieldOf, fields, lineOf, lineOverflows, someTooLarge, joined}
 use Rattle.tasks.specs.Set.{setOf}
-use Rattle.tasks.specs.Rows.{some, firstFrom, countRow, twiceRow, boardRow, rangeRow, figuresOutcome, headerOverflows, taskOverflows, askRow}
+use Rattle.tasks.specs.Search.{some, firstFrom}
+use Rattle.taskask.specs.Ask.{countRow, twiceRow, headerOverflows, taskOverflows, askRow}
+use Rattle.taskrows.specs.Rows.{boardRow, rangeRow, figuresOutcome}
 use Rattle.refusals.specs.First.{till}
-use Rattle.taskread.specs.File.{past, tasksAmong, lineRow, orderRow, countLineRow, twiceLineRow, lineOutcome, headerAt, taskAt}
+use Rattle.taskfile.specs.File.{past, tasksAmong, lineRow, orderRow, countLineRow, twiceLineRow, lineOutcome, headerAt, taskAt}
 use Rattle.taskread.specs.Read.{fileSet, readOutcome, readOf}
 use Rattle.wholes.specs.Ceiling.{ceilingOf}
 use Rattle.wholes.specs.Measure.{measureIn, commonMeasure}

@@ -25,7 +25,9 @@ use Rattle.tasks.specs.declared.set.TaskSet.{TaskSet}
 use Rattle.tasks.specs.Set.{setOf}
 use Rattle.frames.specs.Table.{widthsOf}
 use Rattle.frames.specs.Line.{lineOverflows, someTooLarge}
-use Rattle.tasks.specs.Rows.{some, firstFrom, countRow, twiceRow, boardRow, rangeRow, figuresOutcome, headerOverflows, taskOverflows, askRow}
+use Rattle.tasks.specs.Search.{some, firstFrom}
+use Rattle.taskask.specs.Ask.{countRow, twiceRow, headerOverflows, taskOverflows, askRow}
+use Rattle.taskrows.specs.Rows.{boardRow, rangeRow, figuresOutcome}
 use Rattle.rows.specs.Charge.{loadOf, loadsOfSet, lossOf}
 use Rattle.rows.specs.Rows.{slotRow, tightRow, horizonOf, horizonRow, chargedOutcome}
 use Rattle.plan.specs.Plan.{setReserves}

@@ -1,33 +1,25 @@
--- A set whose rows are clear: its loads are sound, its slot, entry loss and horizon are within bounds.
+-- A set whose rows are clear: its tasks may be charged, its slot, overheads and horizon are within bounds.
 -- Assumes nothing.
 use Prim.Native.Nat.{ℕ, zero, suc, _^_, _≤_, _<_}
-use mathlib.Core.Path.{_≡_, refl, sym, ap, subst, _∙_}
+use mathlib.Core.Path.{_≡_, refl, sym, ap, _∙_}
 use mathlib.Core.Bool.{Bool, true, false, not, _&&_, _||_}
 use mathlib.Core.List.{List, [], _∷_, map}
 use native.Mathlib.Omega.{arith}
 use borrow.Author.Tests.{leb-true, leb-false, ltb-false, lt-ltb, le-ltb, eqb-false, not-false}
-use lib.Dec.{leb, eqb}
-use lib.ListN.{length, take, getD, length-map}
+use lib.Dec.{leb, ltb, eqb}
+use lib.ListN.{length, getD}
 use Rattle.laws.proofs.Tests.{clash, and-left, and-right, or-left, or-right}
 use Rattle.refusals.specs.declared.Refusal.{Refusal}
 use Rattle.refusals.specs.declared.Refusal.the-variants.{Board, Range, Slot, Tight, Horizon}
 use Rattle.refusals.specs.declared.Outcome.{Outcome}
 use Rattle.refusals.specs.declared.Outcome.the-variants.{Done, Refused}
 use Rattle.refusals.proofs.FirstLaws.{done-refused, first-done, when-done}
-use Rattle.wholes.specs.Multiple.{leastMultipleOf, Positive, within}
+use Rattle.wholes.specs.Multiple.{leastMultipleOf, within}
 use Rattle.wholes.specs.declared.Multiple.the-variants.{Within, Past}
 use Rattle.wholes.proofs.WithinLaws.{within-value, past-value}
-use Rattle.demand.specs.Charging.{effectiveCost, effectiveDeadline, entryLoss}
-use Rattle.demand.specs.Load.{Load, Sound, Every, Loaded, loadAt}
-use Rattle.demand.proofs.Demand.{every-at}
+use Rattle.demand.specs.Load.{Load, Sound, Meets, Every}
 use Rattle.verdict.specs.Verdict.{ownHorizon}
-use Rattle.verdict.proofs.Verdict.{own-horizon}
-use Rattle.places.specs.Padded.{padded}
-use Rattle.members.specs.Members.{membersOf, memberLoads, Sized}
-use Rattle.members.specs.declared.Members.{Members}
-use Rattle.places.proofs.PaddedLaws.{padded-length, padded-take}
-use Rattle.members.proofs.MemberLaws.{members-back}
-use Rattle.members.proofs.PartLaws.{slot-divides}
+use Rattle.verdict.proofs.Horizons.{own-some, own-periods}
 use Rattle.tasks.specs.declared.set.Header.{Header}
 use Rattle.tasks.specs.declared.set.Task.{Task}
 use Rattle.tasks.specs.declared.set.TaskSet.{TaskSet}
@@ -36,16 +28,21 @@ use Rattle.refusals.specs.First.{firstOf, when}
 use Rattle.frames.specs.Table.{widthsOf, widthOf, fieldsIn}
 use Rattle.frames.specs.declared.table.Frame.{Frame}
 use Rattle.tasks.specs.Values.{headerValues}
-use Rattle.tasks.proofs.Carried.{ask-header, header-fits}
-use Rattle.tasks.specs.Rows.{firstTask, atTask, some, boardRow, rangeRow, askRow, figuresOutcome}
+use Rattle.taskask.proofs.Carried.{ask-header, header-fits}
+use Rattle.tasks.specs.Search.{firstTask, atTask}
+use Rattle.taskrows.specs.Rows.{boardRow, rangeRow, figuresOutcome}
+use Rattle.taskask.specs.Ask.{askRow}
 use Rattle.tasks.proofs.FirstLaws.{first-none}
-use Rattle.tasks.proofs.SetLaws.{members-length}
 use Rattle.tasks.proofs.Firsts.{at-some}
-use Rattle.rows.specs.Charge.{loadOf, loadsOfSet, lossOf}
+use Rattle.members.specs.Charge.{figuresOf, chargedIn, Member, Overheads, Timed}
+use Rattle.members.specs.Server.{fits, Filed}
+use Rattle.members.proofs.HorizonLaws.{slot-divides}
+use Rattle.members.proofs.ServerLaws.{alone-fits}
+use Rattle.rows.specs.Figures.{setFigures, figureNumbers}
 use Rattle.rows.specs.declared.rows.Rows.{Rows}
 use Rattle.rows.specs.declared.rows.Rows.the-variants.{Clear}
 use Rattle.rows.specs.Rows.{slotRow, tightRow, horizonOf, horizonRow, chargedOutcome, cleared, rowsOf, Chargeable, RowsClear}
-use Rattle.rows.proofs.Charges.{tight-meets}
+use Rattle.rows.proofs.FigureLaws.{figures-back, numbers-there}
 
 -- ---- a header and a task
 
@@ -55,9 +52,9 @@ unfolding boardRow
 board-slot h e =
     omega (arith, eqb-false (h .slot) 0 (or-right (not (leb 1 (h .processors) && leb (h .processors) mostProcessors)) (eqb (h .slot) 0) e))
 
-range-figures : (t : Task) → rangeRow t ≡ false → (1 ≤ t .cost) × (t .cost ≤ t .deadline) × (t .deadline ≤ t .period)
+range-figures : (t : Task) → rangeRow t ≡ false → (1 ≤ t .cost) × (t .cost ≤ t .deadline) × (t .deadline ≤ t .period) × (t .period ≤ longestPeriod)
 unfolding rangeRow
-range-figures t e = (leb-true 1 (t .cost) (and-left a rest all), leb-true (t .cost) (t .deadline) (and-left b rest′ all′), leb-true (t .deadline) (t .period) (and-left d f all″))
+range-figures t e = (leb-true 1 (t .cost) (and-left a rest all), leb-true (t .cost) (t .deadline) (and-left b rest′ all′), leb-true (t .deadline) (t .period) (and-left d f all″), leb-true (t .period) longestPeriod (and-right d f all″))
   where
     a : Bool
     a = leb 1 (t .cost)
@@ -86,12 +83,25 @@ range-figures t e = (leb-true 1 (t .cost) (and-left a rest all), leb-true (t .co
     all″ : rest′ ≡ true
     all″ = and-right b rest′ all′
 
--- a task that breaks neither row 6 nor row 8 is a sound load
-load-sound : (h : Header) (t : Task) → rangeRow t ≡ false → tightRow h t ≡ false → Sound (loadOf h t)
-unfolding loadOf effectiveCost effectiveDeadline
-load-sound h t r g =
+-- row 8 clear: release jitter below the deadline
+tight-early : (h : Header) (t : Task) → tightRow h t ≡ false → h .relj < t .deadline
+unfolding tightRow
+tight-early h t e =
+    let l = chargedIn h (h .cpmdo) (figuresOf t) in
+    leb-false (t .deadline) (h .relj) (or-left (leb (t .deadline) (h .relj)) (ltb (l .deadline) (l .cost)) e)
+
+-- and c ≤ d
+tight-meets : (h : Header) (t : Task) → tightRow h t ≡ false → Meets (chargedIn h (h .cpmdo) (figuresOf t))
+unfolding tightRow
+tight-meets h t e =
+    let l = chargedIn h (h .cpmdo) (figuresOf t) in
+    ltb-false (l .deadline) (l .cost) (or-right (leb (t .deadline) (h .relj)) (ltb (l .deadline) (l .cost)) e)
+
+-- a task that breaks neither row 6 nor row 8 may be charged
+task-member : (h : Header) (t : Task) → rangeRow t ≡ false → tightRow h t ≡ false → Member h (figuresOf t)
+task-member h t r g =
     let f = range-figures t r in
-    record { some = omega (arith, f .0); meets = tight-meets h t g; constrained = omega (arith, f .2) }
+    record { some = f .0; meets = f .1; constrained = f .2; short = f .3; early = tight-early h t g }
 
 every-by : (P : Load → Type 0) (f : Task → Load) (ts : List Task) → ((i : ℕ) → i < length ts → P (f (getD ts i zeroTask))) → Every P (map f ts)
 every-by P f [] p = tt
@@ -191,37 +201,73 @@ module _ (set : TaskSet) where
         horizon = when-done (horizonRow set) Horizon (r .1);
       }
 
-  -- ---- the loads of a set that may be charged
+  -- ---- the figures of a set that may be charged
 
-  -- the loads are sound
-  pub loads-sound : Chargeable set → Every Sound (loadsOfSet set)
-  unfolding loadsOfSet
-  loads-sound ok =
-      every-by Sound (loadOf (set .header)) (members set)
-      (λ i l. load-sound (set .header) (getD (members set) i zeroTask) (first-none rangeRow zeroTask 0 (members set) (ok .range) i l) (first-none (tightRow (set .header)) zeroTask 0 (members set) (ok .tight) i l))
+  module _ (ok : Chargeable set) where
+    each : (P : Load → Type 0) → ((t : Task) → rangeRow t ≡ false → tightRow (set .header) t ≡ false → P (figuresOf t)) → Every P (setFigures set)
+    unfolding setFigures
+    each P f =
+        every-by P figuresOf (members set)
+        (λ i l. f (getD (members set) i zeroTask) (first-none rangeRow zeroTask 0 (members set) (ok .range) i l) (first-none (tightRow (set .header)) zeroTask 0 (members set) (ok .tight) i l))
 
-  -- there is one load for each task
-  pub loads-length : set .count ≤ length (set .tasks) → length (loadsOfSet set) ≡ set .count
-  unfolding loadsOfSet
-  loads-length fits = length-map (members set) (loadOf (set .header)) ∙ members-length set fits
+    -- each task may be charged
+    pub figures-members : Every (Member (set .header)) (setFigures set)
+    figures-members = each (Member (set .header)) (task-member (set .header))
 
-  -- the loads' periods are the tasks'
-  same-periods : (ts : List Task) → map (λ (l : Load). l .period) (map (loadOf (set .header)) ts) ≡ map (λ (t : Task). t .period) ts
-  unfolding loadOf
+    -- its own figures are sound
+    pub figures-sound : Every Sound (setFigures set)
+    figures-sound =
+        each Sound
+        (λ t r g.
+        let f = range-figures t r in
+        record { some = f .0; due = omega (arith, f .0, f .1); constrained = f .2 })
+
+    -- and alone it fits
+    pub figures-alone : Every (λ (l : Load). fits (set .header) (l ∷ []) ≡ true) (setFigures set)
+    figures-alone =
+        each (λ (l : Load). fits (set .header) (l ∷ []) ≡ true)
+        (λ t r g. alone-fits (set .header) (figuresOf t) (task-member (set .header) t r g) (board-slot (set .header) (ok .board)) (tight-meets (set .header) t g))
+
+  -- the figures' periods are the tasks'
+  same-periods : (ts : List Task) → map (λ (l : Load). l .period) (map figuresOf ts) ≡ map (λ (t : Task). t .period) ts
   same-periods [] = refl
   same-periods (t ∷ ts) = ap (λ (ns : List ℕ). t .period ∷ ns) (same-periods ts)
 
-  -- the horizon is that of the loads
-  pub horizon-of-loads : ownHorizon (set .header .slot) (loadsOfSet set) ≡ horizonOf set
-  unfolding ownHorizon horizonOf loadsOfSet
-  horizon-of-loads = ap (leastMultipleOf (set .header .slot)) (same-periods (members set))
+  -- the horizon is that of the figures
+  pub horizon-of-figures : ownHorizon (set .header .slot) (setFigures set) ≡ horizonOf set
+  unfolding ownHorizon horizonOf setFigures
+  horizon-of-figures = ap (leastMultipleOf (set .header .slot)) (same-periods (members set))
 
   -- row 9 clear: it is at most the limit
   pub horizon-short : horizonRow set ≡ false → horizonOf set ≤ longestHorizon
   unfolding horizonRow
   horizon-short e = ltb-false longestHorizon (horizonOf set) e
 
-  -- ---- row 11: the entry loss and the slot of a set that lines can carry
+  -- the figures of a set whose rows are clear are a file's, with the set's horizon
+  pub set-filed : set .count ≤ length (set .tasks) → Chargeable set → horizonRow set ≡ false → Filed (set .header) (figureNumbers set) (set .count) (horizonOf set)
+  set-filed room ok e =
+      let own = horizon-of-figures in
+      let slot = board-slot (set .header) (ok .board) in
+      record {
+        there = numbers-there set room (ok .few);
+        few = ok .few;
+        members = rw (figures-back set room) (figures-members ok);
+        slot = slot;
+        some = rw (← own) (own-some (setFigures set) (set .header .slot) (figures-sound ok) slot);
+        short = horizon-short e;
+        of-slot = rw (← own) (slot-divides (set .header .slot) (setFigures set));
+        of-periods = rw (figures-back set room, ← own) (own-periods (setFigures set) (set .header .slot));
+      }
+
+  -- what the horizon of the figures asks
+  pub set-timed : set .count ≤ length (set .tasks) → Chargeable set → Timed (figureNumbers set) (set .count) (set .header .slot)
+  set-timed room ok = record {
+    there = numbers-there set room (ok .few);
+    slot = board-slot (set .header) (ok .board);
+    sound = rw (figures-back set room) (figures-sound ok);
+  }
+
+  -- ---- row 11: the slot and the overheads of a set that lines can carry
 
   figure-small : askRow set ≡ false → (k : ℕ) → k < fieldsIn Frame.Header → getD (headerValues (set .header)) k 0 < 16 ^ widthOf Frame.Header k
   figure-small e = header-fits (set .header) (ask-header set e)
@@ -231,72 +277,12 @@ module _ (set : TaskSet) where
   unfolding widthsOf
   slot-small e = let slot : set .header .slot < 16 ^ 6 = figure-small e 1 (omega arith) in omega arith
 
-  -- the entry loss is at most twice four digits
-  pub loss-small : askRow set ≡ false → lossOf (set .header) ≤ 131070
-  unfolding lossOf entryLoss widthsOf
-  loss-small e =
+  -- the overheads four
+  pub set-overheads : askRow set ≡ false → Overheads (set .header)
+  unfolding widthsOf
+  set-overheads e =
+      let relo : set .header .relo < 16 ^ 4 = figure-small e 3 (omega arith) in
+      let ctswo : set .header .ctswo < 16 ^ 4 = figure-small e 4 (omega arith) in
       let resd : set .header .resd < 16 ^ 4 = figure-small e 5 (omega arith) in
       let cpmdo : set .header .cpmdo < 16 ^ 4 = figure-small e 6 (omega arith) in
-      omega arith
-
--- ---- the struct of sound loads
-
-module _ (ls : List Load) (few : length ls ≤ mostTasks) (sound : Every Sound ls) where
-  there : (f : Load → ℕ) → length ls ≤ length (padded (map f ls))
-  there f = omega (arith, length-map ls f, padded-length (map f ls) (rw (length-map ls f) few))
-
-  made-loaded : Loaded (membersOf ls .costs) (membersOf ls .deadlines) (membersOf ls .periods) (membersOf ls .count)
-  unfolding membersOf
-  made-loaded = record {
-    costs-there = there (λ (l : Load). l .cost);
-    deadlines-there = there (λ (l : Load). l .deadline);
-    periods-there = there (λ (l : Load). l .period);
-    few = omega arith;
-    sound = rw (members-back ls) sound;
-  }
-
-  module _ {m : Members} (e : m ≡ membersOf ls) where
-    pub members-loaded : Loaded (m .costs) (m .deadlines) (m .periods) (m .count)
-    members-loaded = subst (λ (k : Members). Loaded (k .costs) (k .deadlines) (k .periods) (k .count)) (sym e) made-loaded
-
-    -- it holds as many loads as there are
-    pub members-count : m .count ≡ length ls
-    unfolding membersOf
-    members-count = ap (λ (k : Members). k .count) e
-
-    -- and those loads
-    pub members-loads : memberLoads m ≡ ls
-    members-loads = ap memberLoads e ∙ members-back ls
-
-    -- the periods are at least 1
-    pub members-positive : {S : ℕ} → 1 ≤ S → Positive S (m .periods) (m .count)
-    members-positive s = record {
-      there = members-loaded .periods-there;
-      first-some = s;
-      others-some = λ i h.
-          let l : Sound (loadAt (m .costs) (m .deadlines) (m .periods) i) = every-at (m .costs) (m .deadlines) (m .periods) Sound (m .count) h (members-loaded .sound) in
-          omega (arith, l .some, l .meets, l .constrained);
-    }
-
-    -- they may be placed and sized
-    pub members-sized : {S L H : ℕ} → 1 ≤ S → L < 2 ^ 48 → H ≡ ownHorizon S ls → H < 2 ^ 48 → Sized (m .costs) (m .deadlines) (m .periods) (m .count) S L H
-    members-sized {S} {L} {H} s l h small = record {
-      bounded = record {
-        loaded = members-loaded;
-        few = omega (arith, members-count);
-        slot = s;
-        of-slot = rw h (slot-divides ls S);
-        horizon = rw (members-loads, h) (own-horizon ls S (record { sound = sound; slot = s }));
-      };
-      loss-small = l;
-      horizon-small = small;
-    }
-
--- the first loads of the struct have the set's horizon
-pub horizon-taken : (set : TaskSet) {m : Members} → m ≡ membersOf (loadsOfSet set) →
-    leastMultipleOf (set .header .slot) (take (m .count) (m .periods)) ≡ horizonOf set
-unfolding membersOf ownHorizon
-horizon-taken set {m} e =
-    ap (λ (k : Members). leastMultipleOf (set .header .slot) (take (k .count) (k .periods))) e
-    ∙ ap (leastMultipleOf (set .header .slot)) (padded-take (map (λ (l : Load). l .period) (loadsOfSet set)) (length (loadsOfSet set)) (length-map (loadsOfSet set) (λ (l : Load). l .period)))
-    ∙ horizon-of-loads set
+      record { release = omega arith; switch = omega arith; delay = omega arith; cache = omega arith }

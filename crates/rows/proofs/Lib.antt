@@ -1,3 +1,2 @@
-pub mod Searches
-pub mod Charges
+pub mod FigureLaws
 pub mod Clears

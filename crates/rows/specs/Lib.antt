@@ -1,2 +1,2 @@
-pub mod Charge
+pub mod Figures
 pub mod Rows

@@ -14,10 +14,12 @@ use Rattle.tasks.specs.declared.set.Task.{Task}
 use Rattle.tasks.specs.declared.set.TaskSet.{TaskSet}
 use Rattle.tasks.specs.Set.{mostTasks, members, longestHorizon}
 use Rattle.refusals.specs.First.{firstOf, when}
-use Rattle.tasks.specs.Rows.{firstTask, atTask, boardRow, rangeRow, figuresOutcome}
+use Rattle.tasks.specs.Search.{firstTask, atTask}
+use Rattle.taskrows.specs.Rows.{boardRow, rangeRow, figuresOutcome}
+use Rattle.members.specs.Charge.{figuresOf, chargedIn}
+use Rattle.rows.specs.declared.rows.TaskRow.{TaskRow}
 use Rattle.rows.specs.declared.rows.Rows.{Rows}
 use Rattle.rows.specs.declared.rows.Rows.the-variants.{Clear}
-use Rattle.rows.specs.Charge.{loadOf}
 
 -- 7 SLOT: a task has D < S
 unfoldable pub slotRow : Header → Task → Bool
@@ -25,7 +27,14 @@ slotRow h t = ltb (t .deadline) (h .slot)
 
 -- 8 TIGHT: a task has RelJ ≥ D or c > d
 unfoldable pub tightRow : Header → Task → Bool
-tightRow h t = leb (t .deadline) (h .relj) || ltb (loadOf h t .deadline) (loadOf h t .cost)
+tightRow h t =
+    leb (t .deadline) (h .relj) ||
+    ltb (chargedIn h (h .cpmdo) (figuresOf t) .deadline) (chargedIn h (h .cpmdo) (figuresOf t) .cost)
+
+-- the rows that are tried on each task
+abbrev pub rowOf : TaskRow → Header → Task → Bool
+rowOf TaskRow.Slot = slotRow
+rowOf TaskRow.Tight = tightRow
 
 -- the horizon H: the least common multiple of S and every T of the file
 unfoldable pub horizonOf : TaskSet → ℕ

@@ -1,6 +1,7 @@
 // Rows 7 to 9 of the refusals over a set, each over all tasks, and rows 5 to 9 in order, with the horizon that row 9 finds.
 // What they mean stands in specs/Rows.antt.
-use crate::charge;
+use crate::figures;
+use demand::charging;
 use refusals::Outcome;
 use refusals::Refusal;
 use tasks::set::Header;
@@ -12,14 +13,13 @@ ghost use mathlib.Core.Bool.{false};
 ghost use Prim.Native.Nat.{_≤_};
 ghost use Rattle.wholes.specs.Multiple.{within};
 ghost use Rattle.tasks.specs.Set.{members, mostTasks, longestHorizon};
-ghost use Rattle.tasks.specs.Rows.{firstTask};
-ghost use Rattle.rows.specs.Rows.{slotRow, tightRow, horizonOf, horizonRow, rowsOf, Chargeable};
+ghost use Rattle.tasks.specs.Search.{firstTask};
+ghost use Rattle.rows.specs.Rows.{tightRow, rowOf, horizonOf, horizonRow, rowsOf, Chargeable};
 
-// 7 SLOT.
-fn breaks_slot(header: Header, task: Task) -> bool
-    ensures { λ r. ⌜ r ≡ slotRow header task ⌝ }
-{
-    task.deadline < header.slot
+// A row that is tried on each task: 7 SLOT or 8 TIGHT.
+pub enum TaskRow {
+    Slot,
+    Tight,
 }
 
 // 8 TIGHT.
@@ -30,38 +30,36 @@ fn breaks_tight(header: Header, task: Task) -> bool
     if task.deadline <= jitter {
         return true;
     }
-    charge::deadline(header, task) < charge::cost(header, task)
+    let due = charging::charged_deadline(task.deadline as u64, header.relj as u64);
+    let cost = charging::charged_cost(
+        task.cost as u64,
+        header.relo as u64,
+        header.ctswo as u64,
+        header.cpmdo as u64,
+    );
+    due < cost
 }
 
-// The first task, from 1, that is due before a slot ends, or 0.
-fn first_slot(set: TaskSet) -> usize
-    requires { ⌜ set .count ≤ mostTasks ⌝ }
-    ensures { λ r. ⌜ r ≡ firstTask (slotRow (set .header)) (members set) ⌝ }
+fn breaks(row: TaskRow, header: Header, task: Task) -> bool
+    ensures { λ r. ⌜ r ≡ rowOf row header task ⌝ }
 {
-    let header = set.header;
-    let count = set.count;
-    let mut i = 0;
-    while i < count {
-        let task = set.tasks[i];
-        if breaks_slot(header, task) {
-            return i + 1;
-        }
-        i += 1;
+    match row {
+        TaskRow::Slot => task.deadline < header.slot,
+        TaskRow::Tight => breaks_tight(header, task),
     }
-    0
 }
 
-// The first task, from 1, that the charging makes too tight, or 0.
-fn first_tight(set: TaskSet) -> usize
+// The first task, from 1, that breaks the row, or 0.
+fn first_broken(set: TaskSet, row: TaskRow) -> usize
     requires { ⌜ set .count ≤ mostTasks ⌝ }
-    ensures { λ r. ⌜ r ≡ firstTask (tightRow (set .header)) (members set) ⌝ }
+    ensures { λ r. ⌜ r ≡ firstTask (rowOf row (set .header)) (members set) ⌝ }
 {
     let header = set.header;
     let count = set.count;
     let mut i = 0;
     while i < count {
         let task = set.tasks[i];
-        if breaks_tight(header, task) {
+        if breaks(row, header, task) {
             return i + 1;
         }
         i += 1;
@@ -75,9 +73,9 @@ fn horizon_within(set: TaskSet) -> Multiple
     ensures { λ r. ⌜ r ≡ within longestHorizon (horizonOf set) ⌝ }
 {
     let slot = set.header.slot as u64;
-    let loads = charge::loads(set);
-    let n = loads.count;
-    wholes::least_multiple_of(slot, &loads.periods, n, TaskSet::LONGEST_HORIZON)
+    let numbers = figures(set);
+    let n = set.count;
+    members::horizon_of(&numbers, n, slot, TaskSet::LONGEST_HORIZON)
 }
 
 // The horizon of a set for which row 9 is clear.
@@ -102,15 +100,15 @@ pub fn charged(set: TaskSet) -> Rows
     requires { ⌜ set .count ≤ mostTasks ⌝ }
     ensures { λ r. ⌜ r ≡ rowsOf set ⌝ }
 {
-    let outcome = tasks::rows::figures(set);
+    let outcome = taskrows::figures(set);
     if let Outcome::Refused(refusal) = outcome {
         return Rows::Refused(refusal);
     }
-    let early = first_slot(set);
+    let early = first_broken(set, TaskRow::Slot);
     if early != 0 {
         return Rows::Refused(Refusal::Slot(early as u8));
     }
-    let tight = first_tight(set);
+    let tight = first_broken(set, TaskRow::Tight);
     if tight != 0 {
         return Rows::Refused(Refusal::Tight(tight as u8));
     }

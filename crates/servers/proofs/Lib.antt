@@ -1,8 +1,8 @@
--- The laws of placement and of sizing.
-pub mod FitLaws
+-- The laws of placing and of sizing.
 pub mod PlacementLaws
-pub mod StandingLaws
+pub mod JoinLaws
+pub mod FittingLaws
 pub mod Claims
-pub mod ReserveLaws
+pub mod TotalLaws
+pub mod ChargedLaws
 pub mod SoFarLaws
-pub mod Worked

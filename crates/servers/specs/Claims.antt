@@ -1,70 +1,106 @@
--- What is claimed of placement and sizing, each claim as a type. The proofs stand under the same names in proofs/.
+-- What is claimed of placing and sizing, each claim as a type. The proofs stand under the same names in proofs/Claims.antt.
 -- Document 01, "From tasks to servers to ring", rules 1 and 2.
-use Prim.Native.Nat.{ℕ, suc, _-_, _≤_, _<_, _∣_}
+use Prim.Native.Nat.{ℕ, suc, _-_, _≤_, _<_}
 use mathlib.Core.Path.{_≡_}
 use mathlib.Core.Logic.{_⊎_}
+use mathlib.Core.Bool.{Bool, true}
 use mathlib.Core.List.{List, [], _∷_, _++_}
 use lib.ListN.{length, getD, take}
-use Rattle.demand.specs.Load.{Load, Sound, Every}
-use Rattle.demand.specs.Passes.{Passes}
-use Rattle.verdict.specs.Claims.{Asked}
-use Rattle.verdict.specs.Verdict.{ownHorizon}
+use Rattle.demand.specs.Load.{Load, Every}
 use Rattle.verdict.specs.Reserve.{Smallest}
-use Rattle.members.specs.Loads.{loadsIn}
-use Rattle.servers.specs.Placement.{serversIn, placementOf}
+use Rattle.tasks.specs.declared.set.Header.{Header}
+use Rattle.places.specs.Places.{chosen}
+use Rattle.members.specs.Charge.{serverLoss, Member}
+use Rattle.members.specs.Server.{serverDemand, fits}
+use Rattle.servers.specs.Placement.{serversIn, takes, Rule, firstFit, join, Step, placeBy, placementOf}
+use Rattle.servers.specs.Fitting.{Parted, PassesWhole, Fitting}
 use Rattle.servers.specs.Reserve.{reservesOf}
 
--- a placement names one server for each task, among those that there are, and no server is empty
-pub record Parted (ls : List Load) (placement : List ℕ) : Type 0 where
-  pub one-each : length placement ≡ length ls
-  pub there : (i : ℕ) → i < length placement → (1 ≤ getD placement i 0) × (getD placement i 0 ≤ serversIn placement)
-  pub none-empty : (q : ℕ) → 1 ≤ q → q ≤ serversIn placement → (i : ℕ) × (i < length placement) × (getD placement i 0 ≡ q)
+-- ---- one step, whatever the rule
 
--- Every task is in exactly one server.
-abbrev pub EachInOne : Type 0
-EachInOne = (ls : List Load) (S L : ℕ) → Parted ls (placementOf ls S L)
+-- q is a server that takes the task, or a new one
+abbrev pub TakesOrNew : Header → (done : List Load) → (placement : List ℕ) → Load → (q : ℕ) → Type 0
+TakesOrNew h done placement l q =
+    ((1 ≤ q) × (q ≤ serversIn placement) × (takes h done placement l q ≡ true)) ⊎ (q ≡ suc (serversIn placement))
 
--- Every server passes with R = S, over all lengths.
-abbrev pub EveryPasses : Type 0
-EveryPasses =
-    (ls : List Load) (S L : ℕ) → Asked ls S → (q : ℕ) → 1 ≤ q → q ≤ serversIn (placementOf ls S L)
-    → Passes (loadsIn ls (placementOf ls S L) q) S L S
+-- a step that always answers such a server
+abbrev pub TakesOrOpens : Header → Step → Type 0
+TakesOrOpens h step = (done : List Load) (placement : List ℕ) (l : Load) → TakesOrNew h done placement l (step done placement l)
 
--- server q, with a load more, passes with R = S
-abbrev pub PassesWith : List Load → (S L : ℕ) → (placement : List ℕ) → Load → (q : ℕ) → Type 0
-PassesWith ls S L placement l q = Passes (loadsIn ls placement q ++ (l ∷ [])) S L S
+-- a rule that picks candidates only, above lo and up to hi, or answers 0
+abbrev pub Picks : Rule → Type 0
+Picks rule =
+    (candidate : ℕ → Bool) (lo hi : ℕ) →
+    (rule candidate lo hi ≡ 0) ⊎ ((lo < rule candidate lo hi) × (rule candidate lo hi ≤ hi) × (candidate (rule candidate lo hi) ≡ true))
 
--- q passes with the load and no lower-numbered server does
-pub record Lowest (ls : List Load) (S L : ℕ) (placement : List ℕ) (l : Load) (q : ℕ) : Type 0 where
+-- First fit picks candidates.
+abbrev pub FirstFitPicks : Type 0
+FirstFitPicks = Picks firstFit
+
+-- Joining by any rule that picks candidates, above any lower end, takes the task or opens a server.
+abbrev pub JoinTakesOrOpens : Type 0
+JoinTakesOrOpens =
+    (h : Header) (rule : Rule) (lo : Step) → Picks rule →
+    TakesOrOpens h (λ done placement l. join rule (takes h done placement l) (lo done placement l) (serversIn placement))
+
+-- A fitting placement stays one with a task more, in a server that takes it or in a new one, where the task fits alone.
+abbrev pub OneMoreFits : Type 0
+OneMoreFits =
+    (h : Header) (done : List Load) (placement : List ℕ) (l : Load) (q : ℕ) → 1 ≤ h .slot → Every (Member h) (done ++ (l ∷ [])) →
+    fits h (l ∷ []) ≡ true → Fitting h done placement → TakesOrNew h done placement l q →
+    Fitting h (done ++ (l ∷ [])) (placement ++ (q ∷ []))
+
+-- ---- all tasks in file order
+
+-- the tasks each fit alone
+abbrev pub FitAlone : Header → List Load → Type 0
+FitAlone h figures = Every (λ (l : Load). fits h (l ∷ []) ≡ true) figures
+
+-- Tasks that fit alone, placed by any step that takes or opens, are fittingly placed.
+abbrev pub PlacedFits : Type 0
+PlacedFits =
+    (h : Header) (step : Step) (figures : List Load) → 1 ≤ h .slot → Every (Member h) figures → FitAlone h figures → TakesOrOpens h step →
+    Fitting h figures (placeBy step [] [] figures)
+
+-- So is the planner's placement.
+abbrev pub PlannerFits : Type 0
+PlannerFits =
+    (h : Header) (figures : List Load) → 1 ≤ h .slot → Every (Member h) figures → FitAlone h figures →
+    Fitting h figures (placementOf h figures)
+
+-- server q, with a task more, passes with R = S
+abbrev pub PassesWith : Header → (done : List Load) → (placement : List ℕ) → Load → (q : ℕ) → Type 0
+PassesWith h done placement l q = PassesWhole h (chosen done placement q ++ (l ∷ []))
+
+-- q passes with the task and no lower-numbered server does
+pub record Lowest (h : Header) (done : List Load) (placement : List ℕ) (l : Load) (q : ℕ) : Type 0 where
   pub first : 1 ≤ q
   pub there : q ≤ serversIn placement
-  pub passes : PassesWith ls S L placement l q
-  pub no-lower : (x : ℕ) → 1 ≤ x → x < q → PassesWith ls S L placement l x → ⊥
+  pub passes : PassesWith h done placement l q
+  pub no-lower : (x : ℕ) → 1 ≤ x → x < q → PassesWith h done placement l x → ⊥
 
--- q is a new server, since none passes with the load
-pub record Opened (ls : List Load) (S L : ℕ) (placement : List ℕ) (l : Load) (q : ℕ) : Type 0 where
+-- q is a new server, since none passes with the task
+pub record Opened (h : Header) (done : List Load) (placement : List ℕ) (l : Load) (q : ℕ) : Type 0 where
   pub new : q ≡ suc (serversIn placement)
-  pub none : (x : ℕ) → 1 ≤ x → x ≤ serversIn placement → PassesWith ls S L placement l x → ⊥
+  pub none : (x : ℕ) → 1 ≤ x → x ≤ serversIn placement → PassesWith h done placement l x → ⊥
 
 -- Each task goes to the lowest-numbered server that passes with it when it comes; otherwise to a new one.
 -- Those before it are placed as if it and those after it never came.
 abbrev pub FirstFit : Type 0
 FirstFit =
-    (before : List Load) (l : Load) (after : List Load) (S L : ℕ) → Asked (before ++ (l ∷ after)) S
-    → let all = placementOf (before ++ (l ∷ after)) S L in
+    (h : Header) (before : List Load) (l : Load) (after : List Load) → 1 ≤ h .slot → Every (Member h) (before ++ (l ∷ after))
+    → let all = placementOf h (before ++ (l ∷ after)) in
     let q = getD all (length before) 0 in
-    (take (length before) all ≡ placementOf before S L)
-    × (Lowest before S L (placementOf before S L) l q ⊎ Opened before S L (placementOf before S L) l q)
+    (take (length before) all ≡ placementOf h before)
+    × (Lowest h before (placementOf h before) l q ⊎ Opened h before (placementOf h before) l q)
 
--- There is one reserve for each server: allowed, the server passes with it over all lengths, and with no smaller allowed one.
+-- ---- reserves
+
+-- A fitting placement has one reserve for each server: allowed, the server passes with it over all lengths, and with no smaller
+-- allowed one.
 abbrev pub SmallestReserves : Type 0
 SmallestReserves =
-    (ls : List Load) (S L : ℕ) → Asked ls S
-    → (length (reservesOf ls S L) ≡ serversIn (placementOf ls S L))
-    × ((q : ℕ) → 1 ≤ q → q ≤ serversIn (placementOf ls S L)
-    → Smallest (loadsIn ls (placementOf ls S L) q) S L (getD (reservesOf ls S L) (q - 1) 0))
-
--- The loads of a server are sound where all are, and its own horizon divides that of all.
-pub record ServerLoads : Type 0 where
-  pub sound : (ls : List Load) (placement : List ℕ) (q : ℕ) → Every Sound ls → Every Sound (loadsIn ls placement q)
-  pub horizon : (ls : List Load) (placement : List ℕ) (S q : ℕ) → Asked ls S → ownHorizon S (loadsIn ls placement q) ∣ ownHorizon S ls
+    (h : Header) (figures : List Load) (placement : List ℕ) → 1 ≤ h .slot → Every (Member h) figures → Fitting h figures placement
+    → (length (reservesOf h figures placement) ≡ serversIn placement)
+    × ((q : ℕ) → 1 ≤ q → q ≤ serversIn placement
+    → Smallest (serverDemand h (chosen figures placement q)) (h .slot) (serverLoss h (chosen figures placement q)) (getD (reservesOf h figures placement) (q - 1) 0))

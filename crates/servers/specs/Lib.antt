@@ -1,3 +1,5 @@
 pub mod Placement
+pub mod Fitting
 pub mod Reserve
+pub mod Totals
 pub mod Claims

@@ -1,38 +1,49 @@
--- Placement by first fit in file order. A placement is the list of each task's server, in file order; servers count from 1.
+-- Placing: each task in file order joins a server that takes it, otherwise it opens a new one. By first fit that server is the
+-- lowest-numbered. A placement is the list of each task's server, in file order; servers count from 1.
 -- Document 01, "From tasks to servers to ring", rule 1 (the report's Alg. 1 and Ineq. 1).
 use Prim.Native.Nat.{ℕ, suc, max}
 use mathlib.Core.List.{List, [], _∷_, _++_}
 use mathlib.Core.Bool.{Bool}
 use Rattle.demand.specs.Load.{Load}
-use Rattle.verdict.specs.Search.{firstUpTo, orElse}
-use Rattle.verdict.specs.Verdict.{passing}
-use Rattle.places.specs.Padded.{padded}
-use Rattle.members.specs.Loads.{loadsIn}
-use Rattle.servers.specs.declared.placement.Placed.{Placed}
+use Rattle.verdict.specs.Search.{firstAfter, orElse}
+use Rattle.tasks.specs.declared.set.Header.{Header}
+use Rattle.places.specs.Places.{chosen}
+use Rattle.members.specs.Server.{fits}
 
 -- how many servers there are: they are numbered without gaps
 unfoldable pub serversIn : (placement : List ℕ) → ℕ
 serversIn [] = 0
 serversIn (a ∷ placement) = max a (serversIn placement)
 
--- a server passes with a task added, with a whole processor
-unfoldable pub takes : List Load → (S L : ℕ) → (placement : List ℕ) → Load → (q : ℕ) → Bool
-takes ls S L placement l q = passing (loadsIn ls placement q ++ (l ∷ [])) S L S
+-- server q passes with the task added, with a whole processor; `done` are the tasks that are placed
+unfoldable pub takes : Header → (done : List Load) → (placement : List ℕ) → Load → (q : ℕ) → Bool
+takes h done placement l q = fits h (chosen done placement q ++ (l ∷ []))
 
--- the lowest-numbered server that takes the task; otherwise a new one
-unfoldable pub fit : List Load → (S L : ℕ) → (placement : List ℕ) → Load → ℕ
-fit ls S L placement l =
-    orElse (firstUpTo (takes ls S L placement l) (serversIn placement)) (suc (serversIn placement))
+-- a rule picks a number above lo, up to hi, that is a candidate; or 0
+abbrev pub Rule : Type 0
+Rule = (candidate : ℕ → Bool) → (lo hi : ℕ) → ℕ
+
+-- the lowest-numbered candidate
+abbrev pub firstFit : Rule
+firstFit candidate lo hi = firstAfter candidate lo hi
+
+-- one step of placing: the candidate that the rule picks, otherwise a new server
+unfoldable pub join : Rule → (candidate : ℕ → Bool) → (lo hi : ℕ) → ℕ
+join rule candidate lo hi = orElse (rule candidate lo hi) (suc hi)
+
+-- the server of the task that comes, after those that are placed
+abbrev pub Step : Type 0
+Step = (done : List Load) → (placement : List ℕ) → Load → ℕ
 
 -- each task in file order: those of `done` are placed, those of `left` still come
-unfoldable pub placeFrom : (done : List Load) (S L : ℕ) → (placement : List ℕ) → (left : List Load) → List ℕ
-placeFrom done S L placement [] = placement
-placeFrom done S L placement (l ∷ left) =
-    placeFrom (done ++ (l ∷ [])) S L (placement ++ (fit done S L placement l ∷ [])) left
+unfoldable pub placeBy : Step → (done : List Load) → (placement : List ℕ) → (left : List Load) → List ℕ
+placeBy step done placement [] = placement
+placeBy step done placement (l ∷ left) =
+    placeBy step (done ++ (l ∷ [])) (placement ++ (step done placement l ∷ [])) left
 
-unfoldable pub placementOf : List Load → (S L : ℕ) → List ℕ
-placementOf ls S L = placeFrom [] S L [] ls
+-- the lowest-numbered server that takes the task, otherwise a new one
+unfoldable pub fit : Header → Step
+fit h done placement l = join firstFit (takes h done placement l) 0 (serversIn placement)
 
--- a placement in a struct: how many servers there are, and the tasks' servers
-unfoldable pub placed : List ℕ → Placed
-placed placement = record { count = serversIn placement; server = padded placement }
+unfoldable pub placementOf : Header → (figures : List Load) → List ℕ
+placementOf h figures = placeBy (fit h) [] [] figures

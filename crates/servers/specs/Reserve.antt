@@ -1,25 +1,36 @@
--- The reserve of each server of a placement, in server order, and what placing and sizing a whole set of loads answers.
+-- The reserve of each server of a placement, whatever placement that is, in server order.
 -- Document 01, "From tasks to servers to ring", rule 2.
 use Prim.Native.Nat.{ℕ}
 use mathlib.Core.List.{List}
 use Rattle.demand.specs.Load.{Load}
-use Rattle.verdict.specs.Reserve.{smallestReserve}
+use Rattle.tasks.specs.declared.set.Header.{Header}
 use Rattle.places.specs.Padded.{padded, upTo}
-use Rattle.members.specs.Loads.{loadsIn}
+use Rattle.places.specs.Places.{chosen}
+use Rattle.members.specs.Server.{reserveFor}
 use Rattle.servers.specs.Placement.{serversIn, placementOf}
 use Rattle.servers.specs.declared.Servers.{Servers}
+use Rattle.servers.specs.declared.placement.Placed.{Placed}
 
 -- the smallest allowed reserve with which server q of a placement passes
-abbrev pub reserveIn : List Load → (S L : ℕ) → (placement : List ℕ) → (q : ℕ) → ℕ
-reserveIn ls S L placement q = smallestReserve (loadsIn ls placement q) S L
+abbrev pub reserveIn : Header → (figures : List Load) → (placement : List ℕ) → (q : ℕ) → ℕ
+reserveIn h figures placement q = reserveFor h (chosen figures placement q)
 
-unfoldable pub reservesOf : List Load → (S L : ℕ) → List ℕ
-reservesOf ls S L = upTo (reserveIn ls S L (placementOf ls S L)) (serversIn (placementOf ls S L))
+unfoldable pub reservesOf : Header → (figures : List Load) → (placement : List ℕ) → List ℕ
+reservesOf h figures placement = upTo (reserveIn h figures placement) (serversIn placement)
 
-unfoldable pub serversOf : List Load → (S L : ℕ) → Servers
-serversOf ls S L =
+-- a placement in a struct: how many servers there are, and the tasks' servers
+unfoldable pub placed : (placement : List ℕ) → Placed
+placed placement = record { count = serversIn placement; placement = padded placement }
+
+-- a placement with its reserves
+unfoldable pub sized : Header → (figures : List Load) → (placement : List ℕ) → Servers
+sized h figures placement =
     record {
-      count = serversIn (placementOf ls S L);
-      server = padded (placementOf ls S L);
-      reserve = padded (reservesOf ls S L);
+      count = serversIn placement;
+      placement = padded placement;
+      reserve = padded (reservesOf h figures placement);
     }
+
+-- what placing and sizing all tasks of a file answers
+abbrev pub serversOf : Header → (figures : List Load) → Servers
+serversOf h figures = sized h figures (placementOf h figures)

@@ -1,118 +1,122 @@
-// Placement by first fit in file order: whether a server takes a task, the server for a task, and the servers of all tasks.
+// Placing by first fit in file order: whether a server takes a task, the server for a task, and the servers of all tasks.
 // What they mean stands in specs/Placement.antt. The server of each task stands in a slice, of which the first i are placed.
-use members::gather;
-use members::own_horizon;
+use members::charge;
+use members::horizon_of;
+use places::places_of;
+use tasks::set::Header;
 use tasks::set::TaskSet;
+use wholes::Multiple;
 ghost use mathlib.Core.Path.{_≡_};
-ghost use Prim.Native.Nat.{_+_, _≤_};
+ghost use mathlib.Core.List.{[], _∷_};
+ghost use Prim.Native.Nat.{_+_, _≤_, _<_};
 ghost use lib.ListN.{length, take};
 ghost use Rattle.demand.specs.Load.{loadAt, loadsOf};
 ghost use Rattle.tasks.specs.Set.{mostTasks};
-ghost use Rattle.members.specs.Members.{Sized};
-ghost use Rattle.servers.specs.Placement.{takes, fit, serversIn, placementOf, placed};
+ghost use Rattle.members.specs.Server.{Filed};
+ghost use Rattle.servers.specs.Placement.{serversIn, takes, firstFit, join, placementOf};
+ghost use Rattle.servers.specs.Totals.{totalIn, Totals};
+ghost use Rattle.servers.specs.Reserve.{placed};
 
-// Server q passes with task i added. The task is added before the horizon is taken.
-pub fn passes_with<'a>(
-    costs: &'a [u64],
-    deadlines: &'a [u64],
-    periods: &'a [u64],
-    server: &'a [u64],
-    i: usize,
-    q: u64,
-    slot: u64,
-    loss: u64,
-    horizon: u64,
-) -> bool
-    requires { ⌜ Sized (now costs) (now deadlines) (now periods) (i + 1) slot loss horizon ⌝ }
-    requires { ⌜ i ≤ length (now server) ⌝ }
-    ensures { λ r. ⌜ r ≡ takes (loadsOf (now (costs .entry)) (now (deadlines .entry)) (now (periods .entry)) i) slot loss (take i (now (server .entry))) (loadAt (now (costs .entry)) (now (deadlines .entry)) (now (periods .entry)) i) q ⌝ }
+// What task i, alone, asks of the horizon.
+fn share(header: Header, figures: &[u64], i: usize, horizon: u64) -> u64
+    requires { ⌜ Filed header (now figures) (i + 1) horizon ⌝ }
+    ensures { λ r. ⌜ r ≡ totalIn header horizon (loadAt (now (figures .entry)) i ∷ []) ⌝ }
 {
-    let before = gather(costs, deadlines, periods, server, i, q);
-    let at = before.count;
-    let mut after = before;
-    after.costs[at] = costs[i];
-    after.deadlines[at] = deadlines[i];
-    after.periods[at] = periods[i];
-    after.count = at + 1;
-    let own = own_horizon(after, slot, horizon);
-    let n = after.count;
-    let whole = slot;
-    verdict::judge::passes(
-        &after.costs,
-        &after.deadlines,
-        &after.periods,
-        n,
-        slot,
-        loss,
-        whole,
-        own,
-    )
+    let at = 3 * i;
+    let cost = demand::charging::charged_cost(
+        figures[at],
+        header.relo as u64,
+        header.ctswo as u64,
+        header.cpmdo as u64,
+    );
+    cost * (horizon / figures[at + 2])
 }
 
-// The rule that picks a server: the lowest-numbered that takes task i, otherwise a new one.
-pub fn server_for<'a>(
-    costs: &'a [u64],
-    deadlines: &'a [u64],
-    periods: &'a [u64],
-    server: &'a [u64],
+// Server q passes with task i added: its members and the task behind them, charged, by their own horizon. A whole processor has no
+// entry loss.
+pub fn takes_task(
+    header: Header,
+    figures: &[u64],
+    placement: &[u64],
     i: usize,
+    q: u64,
+    horizon: u64,
+) -> bool
+    requires { ⌜ Filed header (now figures) (i + 1) horizon ⌝ }
+    requires { ⌜ i ≤ length (now placement) ⌝ }
+    ensures { λ r. ⌜ r ≡ takes header (loadsOf (now (figures .entry)) i) (take i (now (placement .entry))) (loadAt (now (figures .entry)) i) q ⌝ }
+{
+    let mut places = [0u8; TaskSet::MOST_TASKS];
+    let before = places_of(placement, i, q, &mut places);
+    places[before] = i as u8;
+    let n = before + 1;
+    let mut loads = [0u64; 3 * TaskSet::MOST_TASKS];
+    charge(header, header.cpmdo as u64, figures, &places, n, &mut loads);
+    let slot = header.slot as u64;
+    let Multiple::Within(own) = horizon_of(&loads, n, slot, horizon) else {
+        return false;
+    };
+    verdict::judge::passes(&loads, n, slot, 0, slot, own)
+}
+
+// One step of placing: the lowest-numbered server above lo that takes task i, otherwise a new one. A server whose total leaves no room
+// for the task's share cannot take it, and its members are not looked at.
+pub fn server_for(
+    header: Header,
+    figures: &[u64],
+    placement: &[u64],
+    totals: &[u64],
+    i: usize,
+    lo: u64,
     count: u64,
-    slot: u64,
-    loss: u64,
     horizon: u64,
 ) -> u64
-    requires { ⌜ Sized (now costs) (now deadlines) (now periods) (i + 1) slot loss horizon ⌝ }
-    requires { ⌜ (i ≤ length (now server)) × (count ≡ serversIn (take i (now server))) × (count ≤ mostTasks) ⌝ }
-    ensures { λ r. ⌜ r ≡ fit (loadsOf (now (costs .entry)) (now (deadlines .entry)) (now (periods .entry)) i) slot loss (take i (now (server .entry))) (loadAt (now (costs .entry)) (now (deadlines .entry)) (now (periods .entry)) i) ⌝ }
+    requires { ⌜ Filed header (now figures) (i + 1) horizon ⌝ }
+    requires { ⌜ (i ≤ length (now placement)) × (count ≤ mostTasks) ⌝ }
+    requires { ⌜ Totals header horizon (loadsOf (now figures) i) (take i (now placement)) (now totals) ⌝ }
+    ensures { λ r. ⌜ r ≡ join firstFit (takes header (loadsOf (now (figures .entry)) i) (take i (now (placement .entry))) (loadAt (now (figures .entry)) i)) lo count ⌝ }
 {
-    let mut q: u64 = 1;
-    while q <= count {
-        if passes_with(costs, deadlines, periods, server, i, q, slot, loss, horizon) {
-            return q;
-        }
-        q += 1;
+    let own = share(header, figures, i, horizon);
+    if horizon < own {
+        return count + 1;
     }
-    q
+    let room = horizon - own;
+    let mut q = lo;
+    while q < count {
+        let before = q as usize;
+        q += 1;
+        if totals[before] <= room {
+            if takes_task(header, figures, placement, i, q, horizon) {
+                return q;
+            }
+        }
+    }
+    count + 1
 }
 
 // How many servers there are, and the server of each task.
 pub struct Placed {
     pub count: u64,
-    pub server: [u64; TaskSet::MOST_TASKS],
+    pub placement: [u64; TaskSet::MOST_TASKS],
 }
 
-pub fn place<'a>(
-    costs: &'a [u64],
-    deadlines: &'a [u64],
-    periods: &'a [u64],
-    n: usize,
-    slot: u64,
-    loss: u64,
-    horizon: u64,
-) -> Placed
-    requires { ⌜ Sized (now costs) (now deadlines) (now periods) n slot loss horizon ⌝ }
-    ensures { λ r. ⌜ r ≡ placed (placementOf (loadsOf (now (costs .entry)) (now (deadlines .entry)) (now (periods .entry)) n) slot loss) ⌝ }
+pub fn place(header: Header, figures: &[u64], n: usize, horizon: u64) -> Placed
+    requires { ⌜ Filed header (now figures) n horizon ⌝ }
+    ensures { λ r. ⌜ r ≡ placed (placementOf header (loadsOf (now (figures .entry)) n)) ⌝ }
 {
     let mut count: u64 = 0;
-    let mut server = [0u64; TaskSet::MOST_TASKS];
+    let mut placement = [0u64; TaskSet::MOST_TASKS];
+    let mut totals = [0u64; TaskSet::MOST_TASKS];
     let mut i: usize = 0;
     while i < n {
-        let q = server_for(
-            costs,
-            deadlines,
-            periods,
-            &server,
-            i,
-            count,
-            slot,
-            loss,
-            horizon,
-        );
-        server[i] = q;
+        let q = server_for(header, figures, &placement, &totals, i, 0, count, horizon);
+        let at = q as usize - 1;
+        placement[i] = q;
+        totals[at] += share(header, figures, i, horizon);
         if count < q {
             count = q;
         }
         i += 1;
     }
-    Placed { count, server }
+    Placed { count, placement }
 }

@@ -1,5 +1,1 @@
-pub mod Past
-pub mod AmongLaws
-pub mod Lines
-pub mod Standing
 pub mod Reading

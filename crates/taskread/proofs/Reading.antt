@@ -9,7 +9,6 @@ use mathlib.Core.Bool.{true}
 use mathlib.Core.Path.{_≡_, refl, sym, _∙_, ap, subst}
 use lib.ListN.{length, drop, take, set as put, length-append, length-set, drop-of-length-le}
 use lib.Seq.{take-suc-set}
-use Rattle.laws.proofs.Tests.{clash}
 use Rattle.frames.specs.Line.{formed, closed}
 use Rattle.frames.specs.Table.{lengthOf}
 use Rattle.frames.specs.declared.table.Frame.{Frame}
@@ -21,44 +20,36 @@ use Rattle.refusals.specs.First.{till}
 use Rattle.tasks.specs.declared.set.Header.{Header}
 use Rattle.tasks.specs.declared.set.Task.{Task}
 use Rattle.tasks.specs.declared.set.TaskSet.{TaskSet}
-use Rattle.taskread.specs.declared.line.HeaderLine.{HeaderLine}
-use Rattle.taskread.specs.declared.line.TaskLine.{TaskLine}
+use Rattle.headerline.specs.declared.HeaderLine.{HeaderLine}
+use Rattle.taskline.specs.declared.TaskLine.{TaskLine}
 use Rattle.tasks.specs.Set.{mostTasks, setOf, zeroSet, withTask}
-use Rattle.tasks.specs.Rows.{figuresOutcome}
-use Rattle.taskread.specs.File.{past, empty, lineRow, orderRow, countLineRow, lineOutcome, headerAt, taskAt, tasksAmong, fileTasks}
-use Rattle.taskread.specs.Shape.{Taken, idsOf, headerOr, taskOr, ofHeader, ofTask}
-use Rattle.taskread.specs.Read.{readOf, fileSet, answer}
-use Rattle.refusals.proofs.FirstLaws.{done-refused, till-suc}
+use Rattle.taskrows.specs.Rows.{figuresOutcome}
+use Rattle.taskfile.specs.File.{past, empty, lineRow, orderRow, countLineRow, lineOutcome, headerAt, taskAt, tasksAmong, fileTasks}
+use Rattle.taskfile.specs.Taken.{Taken, idsOf}
+use Rattle.headerline.specs.Answer.{headerOr}
+use Rattle.taskline.specs.Answer.{taskOr}
+use Rattle.taskread.specs.Read.{readOf, readOutcome, fileSet, answer}
+use Rattle.refusals.proofs.FirstLaws.{stays, till-suc}
 use Rattle.tasks.proofs.SetLaws.{set-more}
-use Rattle.taskread.proofs.Past.{past-formed}
-use Rattle.taskread.proofs.AmongLaws.{among-none, among-task, among-other, among-all}
-use Rattle.taskread.proofs.Lines.{header-no-task, reads-refused, reads-clear, clear-header, clear-task, clear-room, clear-past}
-use Rattle.taskread.proofs.Standing.{byte-there}
+use Rattle.taskfile.proofs.Past.{past-formed}
+use Rattle.taskfile.proofs.AmongLaws.{among-none, among-task, among-other, among-all}
+use Rattle.taskfile.proofs.Lines.{header-no-task, refused-within, clear-header, clear-task, clear-room, clear-past}
+use Rattle.headerline.proofs.Answers.{header-given}
+use Rattle.taskline.proofs.Answers.{task-given}
+use Rattle.taskfile.proofs.Standing.{byte-there}
 
--- a line's answer, taken apart
-pub of-header : (o : Outcome) (h : Header) → ofHeader (headerOr o h) ≡ o
-of-header Done h = refl
-of-header (Refused r) h = refl
+-- ---- the answer of a text
 
-pub of-task : (o : Outcome) (t : Task) → ofTask (taskOr o t) ≡ o
-of-task Done t = refl
-of-task (Refused r) t = refl
+-- whose first lines are clear and whose next is refused
+pub reads-refused : (text : List ℕ) (n : ℕ) (r : Refusal) → till (lineOutcome text) n ≡ Done → lineOutcome text (suc n) ≡ Refused r → readOf text ≡ record { outcome = Refused r; set = zeroSet }
+unfolding readOf readOutcome
+reads-refused text n r clear e =
+    rw (stays (lineOutcome text) n (length text + 2) r clear e (refused-within text n r e))
 
-pub header-given : (o : Outcome) (g h : Header) → headerOr o g ≡ HeaderLine.Header h → (o ≡ Done) × (h ≡ g)
-header-given Done g h e = (refl, cc)
-header-given (Refused r) g h e = clash (cc)
-
-pub task-given : (o : Outcome) (s t : Task) → taskOr o s ≡ TaskLine.Task t → (o ≡ Done) × (t ≡ s)
-task-given Done s t e = (refl, cc)
-task-given (Refused r) s t e = clash (cc)
-
-pub header-refused : (o : Outcome) (g : Header) (r : Refusal) → headerOr o g ≡ HeaderLine.Refused r → o ≡ Done → ⊥
-header-refused Done g r e d = clash (cc)
-header-refused (Refused s) g r e d = done-refused (sym d)
-
-pub task-refused : (o : Outcome) (s : Task) (r : Refusal) → taskOr o s ≡ TaskLine.Refused r → o ≡ Done → ⊥
-task-refused Done s r e d = clash (cc)
-task-refused (Refused q) s r e d = done-refused (sym d)
+-- whose lines are all clear: rows 5 and 6 answer
+pub reads-clear : (text : List ℕ) → till (lineOutcome text) (length text + 2) ≡ Done → readOf text ≡ answer (figuresOutcome (fileSet text)) (fileSet text)
+unfolding readOf readOutcome
+reads-clear text clear = rw clear
 
 -- where the first lines are clear and the next is not, that line answers
 pub reads-line : (text : List ℕ) (n : ℕ) (set : TaskSet) → till (lineOutcome text) n ≡ Done → (lineOutcome text (suc n) ≡ Done → ⊥) → answer (lineOutcome text (suc n)) set ≡ readOf text

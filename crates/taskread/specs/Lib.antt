@@ -1,3 +1,1 @@
-pub mod File
-pub mod Shape
 pub mod Read

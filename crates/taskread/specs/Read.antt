@@ -11,8 +11,8 @@ use Rattle.refusals.specs.First.{firstOf, till}
 use Rattle.tasks.specs.declared.set.TaskSet.{TaskSet}
 use Rattle.taskread.specs.declared.read.ReadAnswer.{ReadAnswer}
 use Rattle.tasks.specs.Set.{mostTasks, setOf, zeroSet}
-use Rattle.tasks.specs.Rows.{figuresOutcome}
-use Rattle.taskread.specs.File.{lineOutcome, headerAt, fileTasks}
+use Rattle.taskrows.specs.Rows.{figuresOutcome}
+use Rattle.taskfile.specs.File.{lineOutcome, headerAt, fileTasks}
 
 -- the set that a file's lines hold
 unfoldable pub fileSet : List ℕ → TaskSet

@@ -1,3 +1,2 @@
 // The reader of task files: the set of any bytes, or the first refusal.
-pub mod line;
 pub mod read;

@@ -1,17 +1,17 @@
 // Reading a task file: the set, or the refusal and the all-zero set.
 // Lines are taken in order, then rows 5 and 6 of the figures.
-use crate::line::HeaderLine;
-use crate::line::TaskLine;
-use crate::line::header_line;
-use crate::line::header_outcome;
-use crate::line::task_line;
-use crate::line::task_outcome;
 use frames::table::Frame;
 use frames::table::TABLE;
 use frames::table::length;
+use headerline::HeaderLine;
+use headerline::header_line;
+use headerline::header_outcome;
 use refusals::Outcome;
 use refusals::Refusal;
-use tasks::rows::figures;
+use taskline::TaskLine;
+use taskline::task_line;
+use taskline::task_outcome;
+use taskrows::figures;
 use tasks::set::TaskSet;
 ghost use mathlib.Core.Path.{_≡_};
 ghost use Rattle.taskread.specs.Read.{answer, readOf, furthest};

@@ -5,7 +5,7 @@ use mathlib.Core.List.{List, [], _∷_}
 use mathlib.Core.Bool.{Bool, true, false, cond}
 use mathlib.Core.Path.{_≡_, refl}
 use lib.ListN.{length, getD}
-use Rattle.tasks.specs.Rows.{firstFrom}
+use Rattle.tasks.specs.Search.{firstFrom}
 
 -- d are passed, and the test holds at the next
 pub record Stops {A : Type 0} (p : A → Bool) (z : A) (ts : List A) (d : ℕ) : Type 0 where

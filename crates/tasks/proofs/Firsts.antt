@@ -8,12 +8,9 @@ use mathlib.Core.Path.{_≡_, refl}
 use lib.ListN.{length, drop, getD, drop-of-length-le}
 use lib.Seq.{drop-cons}
 use Rattle.tasks.specs.declared.set.Task.{Task}
-use Rattle.tasks.specs.declared.set.TaskSet.{TaskSet}
 use Rattle.refusals.specs.declared.Refusal.{Refusal}
-use Rattle.refusals.specs.declared.Refusal.the-variants.{Board, Range}
 use Rattle.refusals.specs.declared.Outcome.the-variants.{Done, Refused}
-use Rattle.tasks.specs.Rows.{firstFrom, firstTask, atTask, boardRow, rangeRow, figuresOutcome}
-use Rattle.tasks.specs.Set.{members}
+use Rattle.tasks.specs.Search.{firstFrom, atTask}
 
 module _ (p : Task → Bool) where
   -- the test holds at a task
@@ -48,12 +45,3 @@ at-none r n e = rw e
 pub at-some : (r : ℕ → Refusal) (n : ℕ) → (n ≡ 0 → ⊥) → atTask r n ≡ Refused (r n)
 at-some r zero ne = absurd (ne refl)
 at-some r (suc n) ne = refl
-
--- rows 5 and 6 where row 5 holds, and where it does not
-pub figures-board : (set : TaskSet) → boardRow (set .header) ≡ true → figuresOutcome set ≡ Refused Board
-unfolding figuresOutcome
-figures-board set e = rw e
-
-pub figures-tasks : (set : TaskSet) → boardRow (set .header) ≡ false → figuresOutcome set ≡ atTask Range (firstTask rangeRow (members set))
-unfolding figuresOutcome
-figures-tasks set e = rw e

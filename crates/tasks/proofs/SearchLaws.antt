@@ -8,7 +8,7 @@ use mathlib.Core.Bool.{Bool, true, false, _||_, or-true}
 use mathlib.Core.Path.{_≡_, refl, sym, _∙_, subst}
 use lib.ListN.{length, take, getD}
 use lib.Seq.{getD-take, length-take-le}
-use Rattle.tasks.specs.Rows.{some, firstFrom, firstTask}
+use Rattle.tasks.specs.Search.{some, firstFrom, firstTask}
 use Rattle.tasks.proofs.FirstLaws.{Stops, stops-first, none-first}
 
 -- of the first n of a list, none before place i passes the test

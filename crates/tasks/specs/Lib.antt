@@ -1,3 +1,3 @@
 pub mod Set
 pub mod Values
-pub mod Rows
+pub mod Search

@@ -2,7 +2,9 @@
 -- Document 01, "The numbers of a task set" and "Refusal numbers and their order".
 use Prim.Native.Nat.{ℕ, _+_, _-_}
 use mathlib.Core.List.{List, _++_}
+use mathlib.Core.Bool.{Bool}
 use lib.ListN.{length, take, replicate, set as put}
+use lib.Dec.{eqb}
 use Rattle.tasks.specs.declared.set.Header.{Header}
 use Rattle.tasks.specs.declared.set.Task.{Task}
 use Rattle.tasks.specs.declared.set.TaskSet.{TaskSet}
@@ -32,6 +34,10 @@ zeroSet = record { header = zeroHeader; count = 0; tasks = replicate mostTasks z
 -- the tasks that count, in file order
 abbrev pub members : TaskSet → List Task
 members set = take (set .count) (set .tasks)
+
+-- whether a task has this id
+abbrev pub hasId : ℕ → Task → Bool
+hasId id t = eqb (t .id) id
 
 -- a set of these tasks, its unused room at zero
 unfoldable pub setOf : Header → List Task → TaskSet

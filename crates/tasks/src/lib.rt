@@ -1,5 +1,3 @@
-// The task set with its limits, and the refusal rows that speak of a set alone.
-pub mod ask;
-pub mod rows;
+// The task set with its limits, and its figures as the values of their lines' fields.
 pub mod set;
 pub mod values;

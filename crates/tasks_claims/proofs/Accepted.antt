@@ -11,12 +11,12 @@ use Rattle.refusals.specs.declared.Outcome.{Outcome}
 use Rattle.refusals.specs.declared.Outcome.the-variants.{Done}
 use Rattle.tasks.specs.declared.set.TaskSet.{TaskSet}
 use Rattle.tasks.specs.Set.{mostTasks, setOf, members}
-use Rattle.taskread.specs.File.{past, empty, tasksAmong, fileTasks, headerAt, lineOutcome}
+use Rattle.taskfile.specs.File.{past, empty, tasksAmong, fileTasks, headerAt, lineOutcome}
 use Rattle.taskread.specs.Read.{readOf, fileSet, answer}
 use Rattle.tasks_claims.specs.Claims.{Shaped, sizeOf, tasksIn, AllClear, AcceptedFile, ReadAccepted}
 use Rattle.refusals.proofs.FirstLaws.{done-refused}
-use Rattle.taskread.proofs.Past.{nothing-left, after-shorter}
-use Rattle.taskread.proofs.Lines.{clear-header, clear-task, clear-room}
+use Rattle.taskfile.proofs.Past.{nothing-left, after-shorter}
+use Rattle.taskfile.proofs.Lines.{clear-header, clear-task, clear-room}
 use Rattle.tasks_claims.proofs.ShapedLaws.{shaped-more, past-shaped, shaped-count, shaped-all}
 use Rattle.tasks.proofs.SetLaws.{members-set}
 use Rattle.taskread.proofs.Reading.{no-task}

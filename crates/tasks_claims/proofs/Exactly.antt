@@ -19,15 +19,18 @@ use Rattle.tasks.specs.declared.set.TaskSet.{TaskSet}
 use Rattle.taskread.specs.declared.read.ReadAnswer.{ReadAnswer}
 use Rattle.tasks.specs.Set.{members, setOf, zeroTask}
 use Rattle.refusals.specs.First.{firstOf, when, till}
-use Rattle.tasks.specs.Rows.{atTask, firstTask, boardRow, rangeRow, figuresOutcome}
-use Rattle.taskread.specs.File.{headerAt, lineRow, orderRow, countLineRow, twiceLineRow, lineOutcome, fileTasks}
+use Rattle.tasks.specs.Search.{atTask, firstTask}
+use Rattle.taskrows.specs.Rows.{boardRow, rangeRow, figuresOutcome}
+use Rattle.taskfile.specs.File.{headerAt, lineRow, orderRow, countLineRow, twiceLineRow, lineOutcome, fileTasks}
 use Rattle.taskread.specs.Read.{readOf, readOutcome, fileSet, answer}
 use Rattle.tasks_claims.specs.Claims.{tasksIn, taskOf, LineRow, LINE, ORDER, COUNT, TWICE, refusalAt, holdsAt, Clear, AllClear, FirstAt, FirstRange, NoRow, ReadExactlyLine, ReadExactlyBoard, ReadExactlyRange, ReadExactlyDone, ReadRefuses, ReadDetermined}
 use Rattle.refusals.proofs.FirstLaws.{done-refused, first-done, till-done, done-till, found}
-use Rattle.taskread.proofs.Past.{absent-past}
-use Rattle.taskread.proofs.Lines.{reads-refused, reads-clear, absent-done}
+use Rattle.taskfile.proofs.Past.{absent-past}
+use Rattle.taskread.proofs.Reading.{reads-refused, reads-clear}
+use Rattle.taskfile.proofs.Lines.{absent-done}
 use Rattle.tasks.proofs.SetLaws.{members-set}
-use Rattle.tasks.proofs.Firsts.{figures-board, figures-tasks, at-none}
+use Rattle.taskrows.proofs.FiguresLaws.{figures-board, figures-tasks}
+use Rattle.tasks.proofs.Firsts.{at-none}
 use Rattle.tasks.proofs.FirstLaws.{Stops, first-stops, stops-first, first-none, none-first}
 
 -- the outcome of an answer is what it was made of

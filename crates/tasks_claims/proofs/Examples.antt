@@ -14,8 +14,9 @@ use Rattle.refusals.specs.declared.Outcome.{Outcome}
 use Rattle.refusals.specs.declared.Outcome.the-variants.{Done, Refused}
 use Rattle.tasks.specs.Set.{setOf}
 use Rattle.refusals.specs.First.{till}
-use Rattle.tasks.specs.Rows.{some, firstFrom, boardRow, rangeRow, figuresOutcome}
-use Rattle.taskread.specs.File.{past, tasksAmong, lineRow, orderRow, countLineRow, twiceLineRow, lineOutcome, headerAt, taskAt}
+use Rattle.tasks.specs.Search.{some, firstFrom}
+use Rattle.taskrows.specs.Rows.{boardRow, rangeRow, figuresOutcome}
+use Rattle.taskfile.specs.File.{past, tasksAmong, lineRow, orderRow, countLineRow, twiceLineRow, lineOutcome, headerAt, taskAt}
 use Rattle.taskread.specs.Read.{fileSet, readOutcome, readOf}
 
 -- the bytes of a text of plain characters

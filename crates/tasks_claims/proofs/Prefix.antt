@@ -19,16 +19,17 @@ use Rattle.frames.proofs.Formed.{formed-line}
 use Rattle.frames_claims.proofs.LineLaws.{formed-prefix}
 use Rattle.tasks.specs.declared.set.Task.{Task}
 use Rattle.refusals.specs.First.{firstOf, when, till}
-use Rattle.tasks.specs.Set.{mostTasks}
-use Rattle.tasks.specs.Rows.{some, hasId}
-use Rattle.taskread.specs.File.{past, empty, lineOutcome, taskAt, tasksAmong}
+use Rattle.tasks.specs.Set.{mostTasks, hasId}
+use Rattle.tasks.specs.Search.{some}
+use Rattle.taskfile.specs.File.{past, empty, lineOutcome, taskAt, tasksAmong}
 use Rattle.taskread.specs.Read.{readOf, furthest}
 use Rattle.tasks_claims.specs.Claims.{Shaped, sizeOf, ReadLooksAt}
-use Rattle.taskread.proofs.AmongLaws.{among-task}
-use Rattle.taskread.proofs.Lines.{reads-refused, line-other, first-header, first-task, first-other, later-header, later-task, clear-task, clear-room, clear-header}
+use Rattle.taskfile.proofs.AmongLaws.{among-task}
+use Rattle.taskread.proofs.Reading.{reads-refused}
+use Rattle.taskfile.proofs.Lines.{line-other, first-header, first-task, first-other, later-header, later-task, clear-task, clear-room, clear-header}
 use Rattle.refusals.proofs.FirstLaws.{till-suc}
 use Rattle.tasks_claims.proofs.ShapedLaws.{past-shaped, shaped-more, shaped-less, shaped-count, among-header}
-use Rattle.taskread.proofs.Standing.{byte-there}
+use Rattle.taskfile.proofs.Standing.{byte-there}
 
 -- a part of the front of a text is the front of a part
 drop-take : (p m : ℕ) (text : List ℕ) → p ≤ length text → drop p (take (p + m) text) ≡ take m (drop p text)

@@ -23,24 +23,30 @@ use Rattle.frames.proofs.KindLaws.{not-formed}
 use Rattle.tasks.specs.declared.set.Header.{Header}
 use Rattle.tasks.specs.declared.set.Task.{Task}
 use Rattle.tasks.specs.declared.set.TaskSet.{TaskSet}
-use Rattle.tasks.specs.Set.{mostTasks, zeroTask, members, setOf}
+use Rattle.tasks.specs.Set.{mostTasks, zeroTask, members, setOf, hasId}
 use Rattle.refusals.specs.First.{firstOf, when, till}
-use Rattle.tasks.specs.Rows.{some, hasId, atTask, firstTask, rangeRow, headerOverflows, taskOverflows, figuresOutcome}
-use Rattle.taskread.specs.File.{past, lineOutcome, headerAt, taskAt, tasksAmong}
+use Rattle.tasks.specs.Search.{some, atTask, firstTask}
+use Rattle.taskrows.specs.Rows.{rangeRow, figuresOutcome}
+use Rattle.taskask.specs.Ask.{headerOverflows, taskOverflows}
+use Rattle.taskfile.specs.File.{past, lineOutcome, headerAt, taskAt, tasksAmong}
 use Rattle.taskread.specs.Read.{fileSet, answer}
 use Rattle.tasks.specs.Values.{headerValues, taskValues}
-use Rattle.taskwrite.specs.Write.{taskLines, textOf, writerAsks}
+use Rattle.tasktext.specs.Text.{taskLines, textOf}
+use Rattle.taskwrite.specs.Write.{writerAsks}
 use Rattle.tasks_claims.specs.Claims.{Shaped, Whole, ReadWritten, ReadWrittenSame}
-use Rattle.tasks.proofs.Carried.{count-within, ask-count, ask-twice, ask-header, ask-tasks, header-fits, task-fits}
+use Rattle.taskask.proofs.Carried.{count-within, ask-count, ask-twice, ask-header, ask-tasks, header-fits, task-fits}
 use Rattle.tasks.proofs.SetLaws.{members-length, members-set}
-use Rattle.tasks.proofs.Firsts.{at-none, figures-tasks}
-use Rattle.tasks.proofs.Some.{some-at, twice-before}
-use Rattle.taskread.proofs.AmongLaws.{among-task, among-all}
-use Rattle.taskread.proofs.Lines.{clear-past, first-header, later-task, reads-clear}
+use Rattle.tasks.proofs.Firsts.{at-none}
+use Rattle.taskrows.proofs.FiguresLaws.{figures-tasks}
+use Rattle.tasks.proofs.Some.{some-at}
+use Rattle.taskask.proofs.TwiceLaws.{twice-before}
+use Rattle.taskfile.proofs.AmongLaws.{among-task, among-all}
+use Rattle.taskfile.proofs.Lines.{clear-past, first-header, later-task}
+use Rattle.taskread.proofs.Reading.{reads-clear}
 use Rattle.refusals.proofs.FirstLaws.{done-till}
 use Rattle.tasks_claims.proofs.ShapedLaws.{shaped-less, shaped-count, among-header}
 use Rattle.taskwrite.proofs.WriteAsks.{first-some, writer-ask, writer-board, writer-range}
-use Rattle.taskwrite.proofs.WriteText.{lines-nil, lines-cons}
+use Rattle.tasktext.proofs.TextLaws.{lines-nil, lines-cons}
 
 -- a header's line gives its figures back
 header-back : (h : Header) (rest : List ℕ) → headerOverflows h ≡ false → headerAt (lineOf Frame.Header (headerValues h) ++ rest) ≡ h

@@ -21,25 +21,29 @@ use Rattle.frames_claims.proofs.LineLaws.{line-fields}
 use Rattle.frames.proofs.KindLaws.{not-formed}
 use Rattle.tasks.specs.declared.set.Task.{Task}
 use Rattle.tasks.specs.declared.set.TaskSet.{TaskSet}
-use Rattle.tasks.specs.Set.{mostTasks, zeroTask, members}
+use Rattle.tasks.specs.Set.{mostTasks, zeroTask, members, hasId}
 use Rattle.refusals.specs.First.{when}
-use Rattle.tasks.specs.Rows.{some, hasId, countRow, twiceRow, boardRow, rangeRow, headerOverflows, taskOverflows}
-use Rattle.taskread.specs.File.{past, lineOutcome, headerAt, taskAt, tasksAmong, fileTasks}
+use Rattle.tasks.specs.Search.{some}
+use Rattle.taskask.specs.Ask.{countRow, twiceRow, headerOverflows, taskOverflows}
+use Rattle.taskrows.specs.Rows.{boardRow, rangeRow}
+use Rattle.taskfile.specs.File.{past, lineOutcome, headerAt, taskAt, tasksAmong, fileTasks}
 use Rattle.taskread.specs.Read.{readOf}
 use Rattle.tasks_claims.specs.Claims.{Shaped, tasksIn, AcceptedFile, NoRow, WrittenRead}
 use Rattle.tasks.specs.Values.{headerValues, taskValues}
-use Rattle.taskwrite.specs.Write.{taskLines, textOf, writerAsks}
+use Rattle.tasktext.specs.Text.{taskLines, textOf}
+use Rattle.taskwrite.specs.Write.{writerAsks}
 use Rattle.refusals.proofs.FirstLaws.{first-done, when-done}
-use Rattle.tasks.proofs.Carried.{ask-rows}
+use Rattle.taskask.proofs.Carried.{ask-rows}
 use Rattle.tasks_claims.proofs.Accepted.{read-accepted}
 use Rattle.tasks_claims.proofs.Exactly.{read-exactly-done}
-use Rattle.tasks.proofs.Some.{some-nil, some-more, twice-nil, twice-more}
+use Rattle.tasks.proofs.Some.{some-nil, some-more}
+use Rattle.taskask.proofs.TwiceLaws.{twice-nil, twice-more}
 use Rattle.tasks.proofs.SearchLaws.{some-nowhere}
-use Rattle.taskread.proofs.Lines.{later-task}
-use Rattle.taskread.proofs.AmongLaws.{among-task, among-all}
+use Rattle.taskfile.proofs.Lines.{later-task}
+use Rattle.taskfile.proofs.AmongLaws.{among-task, among-all}
 use Rattle.tasks_claims.proofs.ShapedLaws.{shaped-less, among-header}
 use Rattle.taskwrite.proofs.WriteAsks.{writer-rows}
-use Rattle.taskwrite.proofs.WriteText.{lines-nil, lines-one, lines-append}
+use Rattle.tasktext.proofs.TextLaws.{lines-nil, lines-one, lines-append}
 
 -- a line of a kind is the line of its own figures
 header-again : (text : List ℕ) → formed Frame.Header text ≡ true → text ≡ lineOf Frame.Header (headerValues (headerAt text)) ++ after text

@@ -10,10 +10,10 @@ use lib.ListN.{length, drop, length-append}
 use Rattle.frames.specs.Line.{formed}
 use Rattle.frames.specs.Table.{lengthOf}
 use Rattle.frames.specs.declared.table.Frame.{Frame}
-use Rattle.taskread.specs.File.{past, tasksAmong, taskAt}
-use Rattle.taskread.proofs.Past.{past-formed}
-use Rattle.taskread.proofs.AmongLaws.{among-none, among-task, among-other, among-all}
-use Rattle.taskread.proofs.Lines.{header-no-task}
+use Rattle.taskfile.specs.File.{past, tasksAmong, taskAt}
+use Rattle.taskfile.proofs.Past.{past-formed}
+use Rattle.taskfile.proofs.AmongLaws.{among-none, among-task, among-other, among-all}
+use Rattle.taskfile.proofs.Lines.{header-no-task}
 use Rattle.tasks_claims.specs.Claims.{Shaped, sizeOf, tasksIn}
 
 -- fewer tasks taken

@@ -18,7 +18,8 @@ use Rattle.refusals.specs.declared.Written.{Written}
 use Rattle.refusals.specs.declared.Written.the-variants.{Bytes, Refused}
 use Rattle.digits.proofs.Stored.{stored-length}
 use Rattle.tasks.specs.declared.set.TaskSet.{TaskSet}
-use Rattle.taskwrite.specs.Write.{textOf, writerAsks, writeOf, Wrote}
+use Rattle.tasktext.specs.Text.{textOf}
+use Rattle.taskwrite.specs.Write.{writerAsks, writeOf, Wrote}
 use Rattle.refusals.specs.Leaves.{leaves}
 use Rattle.tasks_claims.specs.Claims.{WritesExactly, WritesLeave, WriteDetermined}
 use Rattle.taskwrite.proofs.WriteAsks.{write-ask, write-room, write-bytes}

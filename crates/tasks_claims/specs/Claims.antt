@@ -16,13 +16,14 @@ use Rattle.refusals.specs.declared.Refusal.the-variants.{Line, Order, Count, Tw
 use Rattle.refusals.specs.declared.Outcome.the-variants.{Done, Refused}
 use Rattle.taskread.specs.declared.read.ReadAnswer.{ReadAnswer}
 use Rattle.tasks.specs.Set.{mostTasks, zeroTask, zeroSet, members, setOf}
-use Rattle.tasks.specs.Rows.{boardRow, rangeRow}
-use Rattle.taskread.specs.File.{past, lineRow, orderRow, countLineRow, twiceLineRow, lineOutcome, headerAt, fileTasks}
+use Rattle.taskrows.specs.Rows.{boardRow, rangeRow}
+use Rattle.taskfile.specs.File.{past, lineRow, orderRow, countLineRow, twiceLineRow, lineOutcome, headerAt, fileTasks}
 use Rattle.taskread.specs.Read.{readOf, answer, furthest}
 use Rattle.refusals.specs.declared.Written.{Written}
 use Rattle.tasks.specs.declared.set.Task.{Task}
 use Rattle.tasks.specs.declared.set.TaskSet.{TaskSet}
-use Rattle.taskwrite.specs.Write.{textOf, writerAsks, writeOf, Wrote}
+use Rattle.tasktext.specs.Text.{textOf}
+use Rattle.taskwrite.specs.Write.{writerAsks, writeOf, Wrote}
 
 -- the tasks of a file, and the k-th of them, from 1
 abbrev pub tasksIn : List ℕ → ℕ

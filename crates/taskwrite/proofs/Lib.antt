@@ -1,2 +1,1 @@
 pub mod WriteAsks
-pub mod WriteText

@@ -14,8 +14,11 @@ use Rattle.refusals.specs.declared.Written.the-variants.{Bytes, Refused}
 use Rattle.tasks.specs.declared.set.Task.{Task}
 use Rattle.tasks.specs.declared.set.TaskSet.{TaskSet}
 use Rattle.tasks.specs.Set.{members}
-use Rattle.tasks.specs.Rows.{some, firstFrom, boardRow, rangeRow, askRow}
-use Rattle.taskwrite.specs.Write.{writerAsks, textOf, writeOf}
+use Rattle.tasks.specs.Search.{some, firstFrom}
+use Rattle.taskrows.specs.Rows.{boardRow, rangeRow}
+use Rattle.taskask.specs.Ask.{askRow}
+use Rattle.taskwrite.specs.Write.{writerAsks, writeOf}
+use Rattle.tasktext.specs.Text.{textOf}
 use Rattle.refusals.specs.Leaves.{leaves}
 
 -- there is a first task for which a test holds where some task meets it

@@ -1,39 +1,21 @@
 -- What writing a task set answers, and what the lent bytes then hold.
--- Document 01, "Lines of hexadecimal" and rows 11 and 12 of the refusals.
-use Prim.Native.Nat.{ℕ, _*_, _-_}
+-- Document 01, rows 11 and 12 of the refusals.
+use Prim.Native.Nat.{ℕ}
 use mathlib.Core.Path.{_≡_}
-use mathlib.Core.List.{List, [], _∷_, _++_}
-use mathlib.Core.Bool.{Bool, true, false, cond, _||_}
-use lib.ListN.{length, getD}
+use mathlib.Core.List.{List}
+use mathlib.Core.Bool.{Bool, cond, _||_}
+use lib.ListN.{length}
 use lib.Dec.{ltb}
-use Rattle.frames.specs.Line.{lineOf}
-use Rattle.frames.specs.declared.table.Frame.{Frame}
-use Rattle.refusals.specs.declared.Refusal.{Refusal}
 use Rattle.refusals.specs.declared.Refusal.the-variants.{Ask, Room}
 use Rattle.refusals.specs.declared.Written.{Written}
 use Rattle.refusals.specs.declared.Written.the-variants.{Bytes, Refused}
-use Rattle.tasks.specs.declared.set.Task.{Task}
 use Rattle.tasks.specs.declared.set.TaskSet.{TaskSet}
 use Rattle.refusals.specs.Leaves.{leaves}
-use Rattle.tasks.specs.Set.{mostTasks, members, zeroTask}
-use Rattle.tasks.specs.Values.{headerValues, taskValues}
-use Rattle.tasks.specs.Rows.{some, boardRow, rangeRow, askRow}
-
--- the figures of the 02 line of task k, from 1
-unfoldable pub taskFigures : (tasks : List Task) → ℕ → List ℕ
-taskFigures tasks k = taskValues (getD tasks (k - 1) zeroTask)
-
--- the figures of as many 02 lines as a set has room for
-abbrev pub mostFigures : ℕ
-mostFigures = 4 * mostTasks
-
-unfoldable pub taskLines : List Task → List ℕ
-taskLines [] = []
-taskLines (t ∷ ts) = lineOf Frame.Task (taskValues t) ++ taskLines ts
-
--- one 01 line, then the 02 lines in file order
-unfoldable pub textOf : TaskSet → List ℕ
-textOf set = lineOf Frame.Header (headerValues (set .header)) ++ taskLines (members set)
+use Rattle.tasks.specs.Set.{members}
+use Rattle.tasks.specs.Search.{some}
+use Rattle.taskrows.specs.Rows.{boardRow, rangeRow}
+use Rattle.taskask.specs.Ask.{askRow}
+use Rattle.tasktext.specs.Text.{textOf}
 
 -- 11 ASK of the task writer: also for a set that breaks row 5 or 6
 unfoldable pub writerAsks : TaskSet → Bool

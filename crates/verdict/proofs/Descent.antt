@@ -4,13 +4,10 @@ use native.Mathlib.Omega.{arith}
 use native.Mathlib.Decide.{decLt}
 use mathlib.Core.Path.{_≡_, sym}
 use mathlib.Core.Bool.{true}
-use mathlib.Core.List.{List}
 use lib.Dec.{ltb}
 use borrow.Author.Tests.{le-ltb, lt-ltb}
-use Rattle.demand.specs.Load.{Load, Sound, Every}
-use Rattle.demand.specs.Demand.{demand}
+use Rattle.demand.specs.Lawful.{Rising}
 use Rattle.demand.specs.Supply.{supplyPast}
-use Rattle.demand.proofs.Demand.{demand-mono}
 use Rattle.demand.proofs.Supply.{supply-mono}
 use Rattle.verdict.specs.Search.{short, lastUpTo, NoneIn}
 use Rattle.verdict.proofs.Bounded.{none-join, last-none, last-is}
@@ -28,54 +25,54 @@ pub descend-zero : (g : ℕ → ℕ) (S f t : ℕ) → ((x : ℕ) → x ≤ t �
 descend-zero g S f t top e x past x≤t = le-ltb (supplyPast S f x) (g x) (omega (arith, top x x≤t))
 
 -- what holds at each turn: s is the supply at t, and no length above t is short
-pub record Descended (ls : List Load) (S f extra hi t s : ℕ) : Type 0 where
+pub record Descended (g : ℕ → ℕ) (S f extra hi t s : ℕ) : Type 0 where
   pub within : t ≤ hi
   pub supplied : s ≡ supplyPast S f t
-  pub none : NoneIn (short ls S f extra) t hi
+  pub none : NoneIn (short g S f extra) t hi
 
-module _ {ls : List Load} {S f extra hi : ℕ} where
-  pub descent-starts : {s : ℕ} → s ≡ supplyPast S f hi → Descended ls S f extra hi hi s
+module _ {g : ℕ → ℕ} {S f extra hi : ℕ} where
+  pub descent-starts : {s : ℕ} → s ≡ supplyPast S f hi → Descended g S f extra hi hi s
   descent-starts e = record { within = omega arith; supplied = e; none = λ x a b. absurd (omega arith) }
 
-  pub descent-ends : {t s : ℕ} → Descended ls S f extra hi t s → t ≡ 0 → 0 ≡ lastUpTo (short ls S f extra) hi
-  descent-ends d e = sym (last-none (short ls S f extra) hi (rw e at (d .none)))
+  pub descent-ends : {t s : ℕ} → Descended g S f extra hi t s → t ≡ 0 → 0 ≡ lastUpTo (short g S f extra) hi
+  descent-ends d e = sym (last-none (short g S f extra) hi (rw e at (d .none)))
 
-  pub descent-finds : {t s : ℕ} → Descended ls S f extra hi t s → 0 < t → s < demand ls t + extra → t ≡ lastUpTo (short ls S f extra) hi
+  pub descent-finds : {t s : ℕ} → Descended g S f extra hi t s → 0 < t → s < g t + extra → t ≡ lastUpTo (short g S f extra) hi
   unfolding short
   descent-finds {t} d h falls =
-      let is-short : short ls S f extra t ≡ true = lt-ltb (supplyPast S f t) (demand ls t + extra) (omega (arith, d .supplied)) in
-      sym (last-is (short ls S f extra) hi t (record { there = h; within = d .within; has = is-short; after = d .none }))
+      let is-short : short g S f extra t ≡ true = lt-ltb (supplyPast S f t) (g t + extra) (omega (arith, d .supplied)) in
+      sym (last-is (short g S f extra) hi t (record { there = h; within = d .within; has = is-short; after = d .none }))
 
   -- the jump goes below t
-  descent-falls : {t s : ℕ} (v : ℕ) → f < S → Descended ls S f extra hi t s → v < s → lastWith S f v < t
+  descent-falls : {t s : ℕ} (v : ℕ) → f < S → Descended g S f extra hi t s → v < s → lastWith S f v < t
   descent-falls {t} v f<S d h = by (decLt (lastWith S f v) t)
     where
       by : Dec (lastWith S f v < t) → lastWith S f v < t
-      by (yes g) = g
-      by (no g) =
+      by (yes k) = k
+      by (no k) =
           absurd (omega (arith, d .supplied, supply-at-last S f v f<S, supply-mono S f {t = t} {u = lastWith S f v} (omega arith) (omega arith)))
 
--- demand never falls, with an extra neither
-top : (ls : List Load) (extra t : ℕ) → Every Sound ls → (x : ℕ) → x ≤ t → demand ls x + extra ≤ demand ls t + extra
-top ls extra t sound x h = omega (arith, demand-mono ls sound h)
+-- a demand that never falls does not with an extra either
+top : {g : ℕ → ℕ} (extra t : ℕ) → Rising g → (x : ℕ) → x ≤ t → g x + extra ≤ g t + extra
+top extra t rising x h = omega (arith, rising x t h)
 
-module _ {ls : List Load} {S f extra hi t s : ℕ} (sound : Every Sound ls) (d : Descended ls S f extra hi t s) where
-  pub descent-clears : demand ls t + extra ≡ 0 → 0 ≡ lastUpTo (short ls S f extra) hi
+module _ {g : ℕ → ℕ} {S f extra hi t s : ℕ} (rising : Rising g) (d : Descended g S f extra hi t s) where
+  pub descent-clears : g t + extra ≡ 0 → 0 ≡ lastUpTo (short g S f extra) hi
   unfolding short
   descent-clears e =
-      sym (last-none (short ls S f extra) hi (none-join (descend-zero (λ (x : ℕ). demand ls x + extra) S f t (top ls extra t sound) e) (d .none)))
+      sym (last-none (short g S f extra) hi (none-join (descend-zero (λ (x : ℕ). g x + extra) S f t (top extra t rising) e) (d .none)))
 
-  descent-jumps : (v : ℕ) → f < S → demand ls t + extra ≡ suc v → v < s → Descended ls S f extra hi (lastWith S f v) v
+  descent-jumps : (v : ℕ) → f < S → g t + extra ≡ suc v → v < s → Descended g S f extra hi (lastWith S f v) v
   unfolding short
   descent-jumps v f<S e h =
       record {
         within = omega (arith, descent-falls v f<S d h, d .within);
         supplied = sym (supply-at-last S f v f<S);
-        none = none-join (descend (λ (x : ℕ). demand ls x + extra) S f t v f<S (top ls extra t sound) e) (d .none);
+        none = none-join (descend (λ (x : ℕ). g x + extra) S f t v f<S (top extra t rising) e) (d .none);
       }
 
   -- one turn, in the code's terms: w is the demand at t with the extra, and it is covered
-  pub descent-next : (w : ℕ) → f < S → w ≡ demand ls t + extra → (w ≡ 0 → ⊥) → w ≤ s
-      → Descended ls S f extra hi (lastWith S f (w - 1)) (w - 1) × (lastWith S f (w - 1) < t)
+  pub descent-next : (w : ℕ) → f < S → w ≡ g t + extra → (w ≡ 0 → ⊥) → w ≤ s
+      → Descended g S f extra hi (lastWith S f (w - 1)) (w - 1) × (lastWith S f (w - 1) < t)
   descent-next w f<S e some covered =
       (descent-jumps (w - 1) f<S (omega arith) (omega arith), descent-falls (w - 1) f<S d (omega arith))

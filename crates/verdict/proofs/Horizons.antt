@@ -1,38 +1,45 @@
--- Horizons of the loads that stand in three slices: what a caller shows, and the own horizon as `wholes` computes it.
-use Prim.Native.Nat.{ℕ, zero, suc, _≤_, _<_, _∣_}
+-- The own horizon of a server: the periods divide it, the loads' demand is lawful under it, and how it grows load by load.
+use Prim.Native.Nat.{ℕ, zero, suc, _≤_, _∣_, suc-le-suc}
 use native.Mathlib.Omega.{arith}
-use native.Mathlib.Nat.{le-of-suc-le}
-use mathlib.Core.Path.{_≡_, refl, sym, ap, _∙_}
+use native.Mathlib.Nat.{le-of-suc-le-suc}
+use mathlib.Core.Path.{_≡_, ap, _∙_}
 use mathlib.Core.List.{List, [], _∷_, _++_, map, map-append}
-use lib.ListN.{length, getD, take}
-use lib.Seq.{take-suc}
-use Rattle.wholes.specs.Multiple.{leastMultipleOf}
-use Rattle.demand.specs.Load.{Load, Every, loadAt, loadsOf}
-use Rattle.demand.proofs.Demand.{every-snoc}
-use Rattle.verdict.specs.Verdict.{ownHorizon, Horizon}
+use Rattle.wholes.specs.Multiple.{leastMultiple, leastMultipleOf, Divide, AllPositive}
+use Rattle.wholes.proofs.MultipleLaws.{multiple-of-pos, others-divide-of, multiple-of-append}
+use Rattle.demand.specs.Load.{Load, Sound, Every}
+use Rattle.demand.specs.Demand.{demand}
+use Rattle.demand.specs.Lawful.{Lawful}
+use Rattle.demand.proofs.Claims.{loads-lawful}
+use Rattle.verdict.specs.Verdict.{ownHorizon}
 
-module _ (costs deadlines periods : List ℕ) where
-  -- what each of the first n periods has, each of the first n loads has
-  pub every-period : (P : ℕ → Type 0) (n : ℕ) → ((i : ℕ) → i < n → P (getD periods i 0)) → Every (λ (l : Load). P (l .period)) (loadsOf costs deadlines periods n)
-  unfolding loadsOf
-  every-period P zero h = tt
-  every-period P (suc n) h =
-      every-snoc (λ (l : Load). P (l .period)) (loadsOf costs deadlines periods n) (loadAt costs deadlines periods n) (every-period P n (λ i g. h i (omega arith))) (h n (omega arith))
+-- what divides as a list divides load by load
+every-divides : (ls : List Load) (m : ℕ) → Divide (map (λ (l : Load). l .period) ls) m → Every (λ (l : Load). l .period ∣ m) ls
+every-divides [] m d = tt
+every-divides (l ∷ ls) m d = (d 0 (omega arith), every-divides ls m (λ i h. d (suc i) (suc-le-suc h)))
 
-  -- a positive multiple of the first n periods is a horizon of the first n loads
-  pub slices-horizon : (n H : ℕ) → 1 ≤ H → ((i : ℕ) → i < n → getD periods i 0 ∣ H) → Horizon (loadsOf costs deadlines periods n) H
-  slices-horizon n H some h = record { some = some; of-periods = every-period (λ (p : ℕ). p ∣ H) n h }
+periods-some : (ls : List Load) → Every Sound ls → AllPositive (map (λ (l : Load). l .period) ls)
+periods-some [] e i h = absurd (omega arith)
+periods-some (l ∷ ls) e zero h = omega (arith, e .0 .due, e .0 .constrained)
+periods-some (l ∷ ls) e (suc i) h = periods-some ls (e .1) i (le-of-suc-le-suc h)
 
-  -- the periods of the first n loads are the first n periods
-  pub periods-taken : (n : ℕ) → n ≤ length periods → map (λ (l : Load). l .period) (loadsOf costs deadlines periods n) ≡ take n periods
-  unfolding loadsOf
-  periods-taken zero h = refl
-  periods-taken (suc n) h =
-      map-append (λ (l : Load). l .period) (loadsOf costs deadlines periods n) (loadAt costs deadlines periods n ∷ []) ∙
-      ap (λ (ps : List ℕ). ps ++ (getD periods n 0 ∷ [])) (periods-taken n (le-of-suc-le h)) ∙
-      sym (take-suc periods n 0 h)
+-- it is a multiple of every period, and at least 1
+pub own-periods : (ls : List Load) (S : ℕ) → Every (λ (l : Load). l .period ∣ ownHorizon S ls) ls
+unfolding ownHorizon
+own-periods ls S =
+    let ps = map (λ (l : Load). l .period) ls in
+    every-divides ls (leastMultipleOf S ps) (others-divide-of S ps)
 
-  -- so `wholes::least_multiple_of` gives the own horizon
-  pub own-taken : (S n : ℕ) → n ≤ length periods → ownHorizon S (loadsOf costs deadlines periods n) ≡ leastMultipleOf S (take n periods)
-  unfolding ownHorizon
-  own-taken S n h = ap (leastMultipleOf S) (periods-taken n h)
+pub own-some : (ls : List Load) (S : ℕ) → Every Sound ls → 1 ≤ S → 1 ≤ ownHorizon S ls
+unfolding ownHorizon
+own-some ls S sound slot = multiple-of-pos S (map (λ (l : Load). l .period) ls) slot (periods-some ls sound)
+
+-- so the loads' demand is lawful under it
+pub own-lawful : (ls : List Load) (S : ℕ) → Every Sound ls → 1 ≤ S → Lawful (demand ls) (ownHorizon S ls)
+own-lawful ls S sound slot = loads-lawful .lawful ls (ownHorizon S ls) sound (own-some ls S sound slot) (own-periods ls S)
+
+-- one load more: the least common multiple with its period, as `wholes::least_multiple` computes it
+pub own-more : (ls : List Load) (S : ℕ) (l : Load) → ownHorizon S (ls ++ (l ∷ [])) ≡ leastMultiple (ownHorizon S ls) (l .period)
+unfolding ownHorizon leastMultipleOf
+own-more ls S l =
+    ap (leastMultipleOf S) (map-append (λ (l : Load). l .period) ls (l ∷ [])) ∙
+    multiple-of-append S (map (λ (l : Load). l .period) ls) (l .period ∷ [])

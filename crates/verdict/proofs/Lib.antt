@@ -4,8 +4,8 @@ pub mod Descent
 pub mod Halving
 pub mod Verdict
 pub mod ReserveLaws
+pub mod Horizons
 pub mod Claims
 pub mod Judged
-pub mod Horizons
 pub mod Sizing
 pub mod Examples

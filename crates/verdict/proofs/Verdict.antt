@@ -1,106 +1,85 @@
--- The verdict over a server's horizon, and over all lengths.
-use Prim.Native.Nat.{ℕ, zero, suc, _≤_, _<_, _∣_, suc-le-suc}
+-- The verdict over a horizon, and over all lengths.
+use Prim.Native.Nat.{ℕ, zero, suc, _≤_, _<_}
 use native.Mathlib.Omega.{arith}
-use native.Mathlib.Nat.{eq-zero-or-pos, le-of-suc-le-suc}
+use native.Mathlib.Nat.{eq-zero-or-pos, le-trans}
 use mathlib.Core.Path.{_≡_, refl, sym, ap, _∙_}
 use mathlib.Core.Logic.{⊎-elim}
 use mathlib.Core.Bool.{true, false, false≢true}
-use mathlib.Core.List.{List, [], _∷_, map}
 use borrow.Author.Tests.{ltb-true, ltb-false, lt-ltb, le-ltb}
-use Rattle.demand.specs.Load.{Load, Sound, Every}
-use Rattle.demand.specs.Demand.{demand}
-use Rattle.demand.specs.Supply.{supply}
+use Rattle.demand.specs.Lawful.{Lawful}
+use Rattle.demand.specs.Supply.{Allowed, supply}
 use Rattle.demand.specs.Passes.{Passes}
-use Rattle.demand.proofs.Claims.{loads-decide}
-use Rattle.wholes.specs.Multiple.{leastMultipleOf, Divide, AllPositive}
-use Rattle.wholes.proofs.MultipleLaws.{multiple-of-pos, others-divide-of}
-use Rattle.verdict.specs.Search.{firstUpTo, NoneIn, First}
-use Rattle.verdict.specs.Verdict.{failing, ownHorizon, firstFailing, verdictAt, verdictOf, isYes, passing, Horizon}
-use Rattle.verdict.specs.Claims.{Asked, FailsFirst}
+use Rattle.demand.proofs.Claims.{demand-decides}
+use Rattle.demand.proofs.Reserve.{supply-rises}
+use Rattle.verdict.specs.Search.{NoneIn, First}
+use Rattle.verdict.specs.Verdict.{failing, firstFailing, verdictAt, verdictOf, isYes, passing}
+use Rattle.verdict.specs.Claims.{FailsFirst}
 use Rattle.verdict.specs.declared.answer.Reading.{Reading}
 use Rattle.verdict.specs.declared.answer.Verdict.{Verdict}
 use Rattle.verdict.specs.declared.answer.Verdict.the-variants.{Yes, No}
 use Rattle.verdict.proofs.Bounded.{first-none, first-zero, first-found, first-view, first-same}
 
--- what divides as a list divides load by load
-every-divides : (ls : List Load) (m : ℕ) → Divide (map (λ (l : Load). l .period) ls) m → Every (λ (l : Load). l .period ∣ m) ls
-every-divides [] m d = tt
-every-divides (l ∷ ls) m d = (d 0 (omega arith), every-divides ls m (λ i h. d (suc i) (suc-le-suc h)))
-
-periods-some : (ls : List Load) → Every Sound ls → AllPositive (map (λ (l : Load). l .period) ls)
-periods-some [] e i h = absurd (omega arith)
-periods-some (l ∷ ls) e zero h = omega (arith, e .0 .some, e .0 .meets, e .0 .constrained)
-periods-some (l ∷ ls) e (suc i) h = periods-some ls (e .1) i (le-of-suc-le-suc h)
-
--- the own horizon is a horizon
-pub own-horizon : (ls : List Load) (S : ℕ) → Asked ls S → Horizon ls (ownHorizon S ls)
-unfolding ownHorizon
-own-horizon ls S a =
-    let ps = map (λ (l : Load). l .period) ls in
-    record {
-      some = multiple-of-pos S ps (a .slot) (periods-some ls (a .sound));
-      of-periods = every-divides ls (leastMultipleOf S ps) (others-divide-of S ps);
-    }
-
 -- a length fails, or it does not
-pub fails : (ls : List Load) (S L R t : ℕ) → supply S L R t < demand ls t → failing ls S L R t ≡ true
+pub fails : (g : ℕ → ℕ) (S L R t : ℕ) → supply S L R t < g t → failing g S L R t ≡ true
 unfolding failing
-fails ls S L R t h = lt-ltb (supply S L R t) (demand ls t) h
+fails g S L R t h = lt-ltb (supply S L R t) (g t) h
 
-pub holds : (ls : List Load) (S L R t : ℕ) → demand ls t ≤ supply S L R t → failing ls S L R t ≡ false
+pub holds : (g : ℕ → ℕ) (S L R t : ℕ) → g t ≤ supply S L R t → failing g S L R t ≡ false
 unfolding failing
-holds ls S L R t h = le-ltb (supply S L R t) (demand ls t) h
+holds g S L R t h = le-ltb (supply S L R t) (g t) h
 
-pub has-failed : (ls : List Load) (S L R t : ℕ) → failing ls S L R t ≡ true → supply S L R t < demand ls t
+pub has-failed : (g : ℕ → ℕ) (S L R t : ℕ) → failing g S L R t ≡ true → supply S L R t < g t
 unfolding failing
-has-failed ls S L R t h = ltb-true (supply S L R t) (demand ls t) h
+has-failed g S L R t h = ltb-true (supply S L R t) (g t) h
 
-pub has-held : (ls : List Load) (S L R t : ℕ) → failing ls S L R t ≡ false → demand ls t ≤ supply S L R t
+pub has-held : (g : ℕ → ℕ) (S L R t : ℕ) → failing g S L R t ≡ false → g t ≤ supply S L R t
 unfolding failing
-has-held ls S L R t h = ltb-false (supply S L R t) (demand ls t) h
+has-held g S L R t h = ltb-false (supply S L R t) (g t) h
 
-module _ (ls : List Load) (S L R : ℕ) (asked : Asked ls S) where
-  -- nothing fails up to a horizon: the server passes
-  none-passes : (H : ℕ) → Horizon ls H → NoneIn (failing ls S L R) 0 H → Passes ls S L R
-  none-passes H h none = loads-decide ls S L R H (asked .sound) (asked .slot) (h .some) (h .of-periods) (λ t a b. has-held ls S L R t (none t a b))
+module _ (g : ℕ → ℕ) (S L R : ℕ) where
+  passes-none : Passes g S L R → (n : ℕ) → NoneIn (failing g S L R) 0 n
+  passes-none passes n x a b = holds g S L R x (passes x a)
 
-  passes-none : Passes ls S L R → (n : ℕ) → NoneIn (failing ls S L R) 0 n
-  passes-none passes n x a b = holds ls S L R x (passes x a)
+  passes-first : {t : ℕ} {A : Type 0} → Passes g S L R → First (failing g S L R) t → A
+  passes-first {t} passes f = absurd (false≢true (sym (holds g S L R t (passes t (f .there))) ∙ f .has))
 
-  passes-first : {t : ℕ} {A : Type 0} → Passes ls S L R → First (failing ls S L R) t → A
-  passes-first {t} passes f = absurd (false≢true (sym (holds ls S L R t (passes t (f .there))) ∙ f .has))
-
-  -- two horizons give the same smallest failing length
-  pub same-first : (H K : ℕ) → Horizon ls H → Horizon ls K → firstUpTo (failing ls S L R) H ≡ firstUpTo (failing ls S L R) K
-  same-first H K h k =
-      ⊎-elim
-      (λ v. v .0 ∙ sym (first-none (failing ls S L R) K (passes-none (none-passes H h (v .1)) K)))
-      (λ v. ⊎-elim
-      (λ w. passes-first (none-passes K k (w .1)) (v .1))
-      (λ w. first-same (v .1) (w .1))
-      (first-view (failing ls S L R) K))
-      (first-view (failing ls S L R) H)
-
-  -- the smallest failing length is 0 exactly when the server passes, and else the first of all
-  zero-passes : firstFailing ls S L R ≡ 0 → Passes ls S L R
+-- the smallest failing length is 0 exactly where nothing fails up to the horizon, and else it is the first of all
+module _ (g : ℕ → ℕ) (H S L R : ℕ) where
+  pub zero-none : firstFailing g H S L R ≡ 0 → NoneIn (failing g S L R) 0 H
   unfolding firstFailing
-  zero-passes e = none-passes (ownHorizon S ls) (own-horizon ls S asked) (first-zero (failing ls S L R) (ownHorizon S ls) e)
+  zero-none e = first-zero (failing g S L R) H e
 
-  pub passes-zero : Passes ls S L R → firstFailing ls S L R ≡ 0
+  pub none-zero : NoneIn (failing g S L R) 0 H → firstFailing g H S L R ≡ 0
   unfolding firstFailing
-  passes-zero passes = first-none (failing ls S L R) (ownHorizon S ls) (passes-none passes (ownHorizon S ls))
+  none-zero none = first-none (failing g S L R) H none
 
-  fails-first : (t : ℕ) → 1 ≤ t → firstFailing ls S L R ≡ t → First (failing ls S L R) t
+  pub passes-zero : Passes g S L R → firstFailing g H S L R ≡ 0
+  passes-zero passes = none-zero (passes-none g S L R passes H)
+
+  fails-first : (t : ℕ) → 1 ≤ t → firstFailing g H S L R ≡ t → First (failing g S L R) t
   unfolding firstFailing
-  fails-first t h e = first-found (failing ls S L R) (ownHorizon S ls) t e h .1
+  fails-first t h e = first-found (failing g S L R) H t e h .1
 
-  first-fails : (t : ℕ) → First (failing ls S L R) t → firstFailing ls S L R ≡ t
+-- under a lawful demand the horizon decides for all lengths
+module _ (g : ℕ → ℕ) (H S L R : ℕ) (lawful : Lawful g H) (slot : 1 ≤ S) where
+  none-passes : NoneIn (failing g S L R) 0 H → Passes g S L R
+  none-passes none = demand-decides g S L R H slot lawful (λ t a b. has-held g S L R t (none t a b))
+
+  zero-passes : firstFailing g H S L R ≡ 0 → Passes g S L R
+  zero-passes e = none-passes (zero-none g H S L R e)
+
+  first-fails : (t : ℕ) → First (failing g S L R) t → firstFailing g H S L R ≡ t
   unfolding firstFailing
   first-fails t f =
-      ⊎-elim
-      (λ v. passes-first (none-passes (ownHorizon S ls) (own-horizon ls S asked) (v .1)) f)
-      (λ v. first-same (v .1) f)
-      (first-view (failing ls S L R) (ownHorizon S ls))
+      ⊎-elim (λ v. passes-first g S L R (none-passes (v .1)) f) (λ v. first-same (v .1) f) (first-view (failing g S L R) H)
+
+-- so two horizons give the same smallest failing length
+pub same-first : (g : ℕ → ℕ) (H K S L R : ℕ) → Lawful g H → Lawful g K → 1 ≤ S → firstFailing g H S L R ≡ firstFailing g K S L R
+same-first g H K S L R h k slot =
+    ⊎-elim
+    (λ z. z ∙ sym (passes-zero g K S L R (zero-passes g H S L R h slot z)))
+    (λ p. sym (first-fails g K S L R k slot (firstFailing g H S L R) (fails-first g H S L R (firstFailing g H S L R) p refl)))
+    (eq-zero-or-pos (firstFailing g H S L R))
 
 -- the reading that a verdict carries
 abbrev readingOf : Verdict → Reading
@@ -111,69 +90,75 @@ abbrev zeros : Reading
 zeros = record { length = 0; demand = 0; supply = 0 }
 
 -- the verdict where no length fails
-pub verdict-yes : (ls : List Load) (S L R : ℕ) → firstFailing ls S L R ≡ 0 → verdictOf ls S L R ≡ Yes zeros
+pub verdict-yes : (g : ℕ → ℕ) (H S L R : ℕ) → firstFailing g H S L R ≡ 0 → verdictOf g H S L R ≡ Yes zeros
 unfolding verdictOf verdictAt
-verdict-yes ls S L R e = rw e refl
+verdict-yes g H S L R e = rw e refl
 
 -- the verdict where t is the smallest failing length
-pub verdict-no : (ls : List Load) (S L R t : ℕ) → firstFailing ls S L R ≡ t → 1 ≤ t
-    → verdictOf ls S L R ≡ No (record { length = t; demand = demand ls t; supply = supply S L R t })
+pub verdict-no : (g : ℕ → ℕ) (H S L R t : ℕ) → firstFailing g H S L R ≡ t → 1 ≤ t
+    → verdictOf g H S L R ≡ No (record { length = t; demand = g t; supply = supply S L R t })
 unfolding verdictOf verdictAt
-verdict-no ls S L R zero e h = absurd (omega arith)
-verdict-no ls S L R (suc t) e h = rw e refl
+verdict-no g H S L R zero e h = absurd (omega arith)
+verdict-no g H S L R (suc t) e h = rw e refl
 
-pub passing-yes : (ls : List Load) (S L R : ℕ) → firstFailing ls S L R ≡ 0 → passing ls S L R ≡ true
+pub passing-yes : (g : ℕ → ℕ) (H S L R : ℕ) → firstFailing g H S L R ≡ 0 → passing g H S L R ≡ true
 unfolding passing
-passing-yes ls S L R e = ap isYes (verdict-yes ls S L R e)
+passing-yes g H S L R e = ap isYes (verdict-yes g H S L R e)
 
-pub passing-no : (ls : List Load) (S L R : ℕ) → 1 ≤ firstFailing ls S L R → passing ls S L R ≡ false
+pub passing-no : (g : ℕ → ℕ) (H S L R : ℕ) → 1 ≤ firstFailing g H S L R → passing g H S L R ≡ false
 unfolding passing
-passing-no ls S L R h = ap isYes (verdict-no ls S L R (firstFailing ls S L R) refl h)
+passing-no g H S L R h = ap isYes (verdict-no g H S L R (firstFailing g H S L R) refl h)
 
 -- a verdict of yes comes from no failing length
-yes-zero : (ls : List Load) (S L R : ℕ) → passing ls S L R ≡ true → firstFailing ls S L R ≡ 0
-yes-zero ls S L R e =
-    ⊎-elim (λ z. z) (λ h. absurd (false≢true (sym (passing-no ls S L R h) ∙ e))) (eq-zero-or-pos (firstFailing ls S L R))
+yes-zero : (g : ℕ → ℕ) (H S L R : ℕ) → passing g H S L R ≡ true → firstFailing g H S L R ≡ 0
+yes-zero g H S L R e =
+    ⊎-elim (λ z. z) (λ h. absurd (false≢true (sym (passing-no g H S L R h) ∙ e))) (eq-zero-or-pos (firstFailing g H S L R))
 
--- a server that is passing passes
-pub passing-passes : (ls : List Load) (S L R : ℕ) → Asked ls S → passing ls S L R ≡ true → Passes ls S L R
-passing-passes ls S L R a e = zero-passes ls S L R a (yes-zero ls S L R e)
+-- a lawful demand that is passing passes
+pub passing-passes : (g : ℕ → ℕ) (H S L R : ℕ) → Lawful g H → 1 ≤ S → passing g H S L R ≡ true → Passes g S L R
+passing-passes g H S L R lawful slot e = zero-passes g H S L R lawful slot (yes-zero g H S L R e)
 
--- the other way round: a server that passes is passing
-pub passes-passing : (ls : List Load) (S L R : ℕ) → Asked ls S → Passes ls S L R → passing ls S L R ≡ true
-passes-passing ls S L R a passes = passing-yes ls S L R (passes-zero ls S L R a passes)
+-- the other way round any demand that passes is passing
+pub passes-passing : (g : ℕ → ℕ) (H S L R : ℕ) → Passes g S L R → passing g H S L R ≡ true
+passes-passing g H S L R passes = passing-yes g H S L R (passes-zero g H S L R passes)
+
+-- a larger reserve supplies no less at any length, so what was covered stays covered
+pub passing-rises : (g : ℕ → ℕ) (H S L R R′ : ℕ) → Allowed S L R → Allowed S L R′ → R ≤ R′ → passing g H S L R ≡ true → passing g H S L R′ ≡ true
+passing-rises g H S L R R′ a a′ le e =
+    passing-yes g H S L R′
+    (none-zero g H S L R′
+    (λ t h k. holds g S L R′ t (le-trans (has-held g S L R t (zero-none g H S L R (yes-zero g H S L R e) t h k)) (supply-rises S L R R′ t a a′ le))))
 
 -- the verdict no, and the length that it tells
-pub no-fails : (ls : List Load) (S L R : ℕ) → Asked ls S → (t w s : ℕ)
-    → verdictOf ls S L R ≡ No (record { length = t; demand = w; supply = s }) → FailsFirst ls S L R t w s
-no-fails ls S L R a t w s e =
+pub no-fails : (g : ℕ → ℕ) (H S L R t w s : ℕ) → verdictOf g H S L R ≡ No (record { length = t; demand = w; supply = s }) → FailsFirst g S L R t w s
+no-fails g H S L R t w s e =
     ⊎-elim
-    (λ z. absurd (false≢true (sym (ap isYes e) ∙ ap isYes (verdict-yes ls S L R z))))
+    (λ z. absurd (false≢true (sym (ap isYes e) ∙ ap isYes (verdict-yes g H S L R z))))
     found
-    (eq-zero-or-pos (firstFailing ls S L R))
+    (eq-zero-or-pos (firstFailing g H S L R))
   where
-    found : 1 ≤ firstFailing ls S L R → FailsFirst ls S L R t w s
+    found : 1 ≤ firstFailing g H S L R → FailsFirst g S L R t w s
     found h =
-        let r = sym (verdict-no ls S L R (firstFailing ls S L R) refl h) ∙ e in
-        let t≡ : firstFailing ls S L R ≡ t = ap (λ (v : Verdict). readingOf v .length) r in
-        let w≡ : demand ls (firstFailing ls S L R) ≡ w = ap (λ (v : Verdict). readingOf v .demand) r in
-        let s≡ : supply S L R (firstFailing ls S L R) ≡ s = ap (λ (v : Verdict). readingOf v .supply) r in
-        let f : First (failing ls S L R) t = fails-first ls S L R a t (omega arith) t≡ in
+        let r = sym (verdict-no g H S L R (firstFailing g H S L R) refl h) ∙ e in
+        let t≡ : firstFailing g H S L R ≡ t = ap (λ (v : Verdict). readingOf v .length) r in
+        let w≡ : g (firstFailing g H S L R) ≡ w = ap (λ (v : Verdict). readingOf v .demand) r in
+        let s≡ : supply S L R (firstFailing g H S L R) ≡ s = ap (λ (v : Verdict). readingOf v .supply) r in
+        let f : First (failing g S L R) t = fails-first g H S L R t (omega arith) t≡ in
         record {
           there = f .there;
-          exceeds = omega (arith, has-failed ls S L R t (f .has), ap (demand ls) t≡, ap (supply S L R) t≡);
-          demanded = sym w≡ ∙ ap (demand ls) t≡;
+          exceeds = omega (arith, has-failed g S L R t (f .has), ap g t≡, ap (supply S L R) t≡);
+          demanded = sym w≡ ∙ ap g t≡;
           supplied = sym s≡ ∙ ap (supply S L R) t≡;
-          before = λ x h g. has-held ls S L R x (f .before x h g);
+          before = λ x a b. has-held g S L R x (f .before x a b);
         }
 
-pub fails-no : (ls : List Load) (S L R : ℕ) → Asked ls S → (t w s : ℕ)
-    → FailsFirst ls S L R t w s → verdictOf ls S L R ≡ No (record { length = t; demand = w; supply = s })
-fails-no ls S L R a t w s f =
-    let first : First (failing ls S L R) t =
-    record { there = f .there; has = fails ls S L R t (omega (arith, f .exceeds, f .demanded, f .supplied)); before = λ x h g. holds ls S L R x (f .before x h g) } in
-    rw (f .demanded, f .supplied) (verdict-no ls S L R t (first-fails ls S L R a t first) (f .there))
+pub fails-no : (g : ℕ → ℕ) (H S L R : ℕ) → Lawful g H → 1 ≤ S → (t w s : ℕ)
+    → FailsFirst g S L R t w s → verdictOf g H S L R ≡ No (record { length = t; demand = w; supply = s })
+fails-no g H S L R lawful slot t w s f =
+    let first : First (failing g S L R) t =
+    record { there = f .there; has = fails g S L R t (omega (arith, f .exceeds, f .demanded, f .supplied)); before = λ x a b. holds g S L R x (f .before x a b) } in
+    rw (f .demanded, f .supplied) (verdict-no g H S L R t (first-fails g H S L R lawful slot t first) (f .there))
 
-pub is-yes : (ls : List Load) (S L R : ℕ) → verdictOf ls S L R ≡ Yes zeros → passing ls S L R ≡ true
+pub is-yes : (g : ℕ → ℕ) (H S L R : ℕ) → verdictOf g H S L R ≡ Yes zeros → passing g H S L R ≡ true
 unfolding passing
-is-yes ls S L R e = ap isYes e
+is-yes g H S L R e = ap isYes e

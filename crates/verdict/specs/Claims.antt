@@ -5,11 +5,12 @@ use mathlib.Core.Logic.{_↔_}
 use mathlib.Core.Bool.{Bool, true, false}
 use mathlib.Core.List.{List}
 use Rattle.demand.specs.Load.{Load, Sound, Every}
+use Rattle.demand.specs.Lawful.{Lawful}
 use Rattle.demand.specs.Demand.{demand}
 use Rattle.demand.specs.Supply.{Allowed, supply}
 use Rattle.demand.specs.Passes.{Passes}
-use Rattle.verdict.specs.Search.{lastUpTo, firstUpTo, NoneIn, Last, First}
-use Rattle.verdict.specs.Verdict.{failing, firstFailing, verdictOf, passing, Horizon}
+use Rattle.verdict.specs.Search.{lastUpTo, firstUpTo, firstAfter, NoneIn, Last, First, Next}
+use Rattle.verdict.specs.Verdict.{firstFailing, verdictOf, passing, ownHorizon}
 use Rattle.verdict.specs.Reserve.{smallestReserve, Smallest}
 use Rattle.verdict.specs.declared.answer.Verdict.the-variants.{Yes, No}
 
@@ -25,53 +26,58 @@ FirstMeans =
     (p : ℕ → Bool) (n : ℕ)
     → ((t : ℕ) → 1 ≤ t → (firstUpTo p n ≡ t) ↔ ((t ≤ n) × First p t)) × ((firstUpTo p n ≡ 0) ↔ NoneIn p 0 n)
 
--- what the claims below ask of a server and a slot; of the entry loss and the reserve nothing
-pub record Asked (ls : List Load) (S : ℕ) : Type 0 where
-  pub sound : Every Sound ls
-  pub slot : 1 ≤ S
+-- firstAfter answers t exactly when t is the smallest above lo and within n, and 0 exactly when there is none
+abbrev pub FirstAfterMeans : Type 0
+FirstAfterMeans =
+    (p : ℕ → Bool) (lo n : ℕ)
+    → ((t : ℕ) → 1 ≤ t → (firstAfter p lo n ≡ t) ↔ ((t ≤ n) × Next p lo t)) × ((firstAfter p lo n ≡ 0) ↔ NoneIn p lo n)
 
--- a server is passing exactly when demand ≤ supply at every length, with no bound on the length
+-- a lawful demand is passing exactly when demand ≤ supply at every length, with no bound on the length
 abbrev pub PassingMeans : Type 0
 PassingMeans =
-    (ls : List Load) (S L R : ℕ) → Asked ls S
-    → (passing ls S L R ≡ true → Passes ls S L R) × (passing ls S L R ≡ false → Passes ls S L R → ⊥)
+    (g : ℕ → ℕ) (H S L R : ℕ) → Lawful g H → 1 ≤ S
+    → (passing g H S L R ≡ true → Passes g S L R) × (passing g H S L R ≡ false → Passes g S L R → ⊥)
 
 -- t is the smallest of all lengths at which demand exceeds supply, w the demand and s the supply there
-pub record FailsFirst (ls : List Load) (S L R t w s : ℕ) : Type 0 where
+pub record FailsFirst (g : ℕ → ℕ) (S L R t w s : ℕ) : Type 0 where
   pub there : 1 ≤ t
   pub exceeds : s < w
-  pub demanded : w ≡ demand ls t
+  pub demanded : w ≡ g t
   pub supplied : s ≡ supply S L R t
-  pub before : (x : ℕ) → 1 ≤ x → x < t → demand ls x ≤ supply S L R x
+  pub before : (x : ℕ) → 1 ≤ x → x < t → g x ≤ supply S L R x
 
--- the verdict is yes, with three zeros, exactly when the server passes; it is no with t, w and s exactly when it fails first there
+-- the verdict is yes, with three zeros, exactly when the demand passes; it is no with t, w and s exactly when it fails first there
 abbrev pub VerdictMeans : Type 0
 VerdictMeans =
-    (ls : List Load) (S L R : ℕ) → Asked ls S
-    → ((verdictOf ls S L R ≡ Yes (record { length = 0; demand = 0; supply = 0 })) ↔ Passes ls S L R)
-    × ((t w s : ℕ) → (verdictOf ls S L R ≡ No (record { length = t; demand = w; supply = s })) ↔ FailsFirst ls S L R t w s)
+    (g : ℕ → ℕ) (H S L R : ℕ) → Lawful g H → 1 ≤ S
+    → ((verdictOf g H S L R ≡ Yes (record { length = 0; demand = 0; supply = 0 })) ↔ Passes g S L R)
+    × ((t w s : ℕ) → (verdictOf g H S L R ≡ No (record { length = t; demand = w; supply = s })) ↔ FailsFirst g S L R t w s)
 
--- any common multiple of the periods gives the same smallest failing length: the file's horizon too
+-- any two horizons under which the demand is lawful give the same smallest failing length: the file's and a server's own
 abbrev pub AnyHorizon : Type 0
 AnyHorizon =
-    (ls : List Load) (S L R H : ℕ) → Asked ls S → Horizon ls H
-    → firstUpTo (failing ls S L R) H ≡ firstFailing ls S L R
+    (g : ℕ → ℕ) (H H′ S L R : ℕ) → Lawful g H → Lawful g H′ → 1 ≤ S
+    → firstFailing g H S L R ≡ firstFailing g H′ S L R
 
--- a larger allowed reserve never turns yes into no
+-- the demand of sound loads is lawful under their own horizon
+abbrev pub OwnHorizon : Type 0
+OwnHorizon = (ls : List Load) (S : ℕ) → Every Sound ls → 1 ≤ S → Lawful (demand ls) (ownHorizon S ls)
+
+-- a larger allowed reserve never turns yes into no, whatever the demand and the horizon
 abbrev pub PassingStays : Type 0
 PassingStays =
-    (ls : List Load) (S L R R′ : ℕ) → Asked ls S → Allowed S L R → Allowed S L R′ → R ≤ R′
-    → passing ls S L R ≡ true → passing ls S L R′ ≡ true
+    (g : ℕ → ℕ) (H S L R R′ : ℕ) → Allowed S L R → Allowed S L R′ → R ≤ R′
+    → passing g H S L R ≡ true → passing g H S L R′ ≡ true
 
--- a server that passes on a whole processor has its smallest reserve
+-- a lawful demand that passes on a whole processor has its smallest reserve
 abbrev pub ReserveMeans : Type 0
 ReserveMeans =
-    (ls : List Load) (S L : ℕ) → Asked ls S → Passes ls S L S → Smallest ls S L (smallestReserve ls S L)
+    (g : ℕ → ℕ) (H S L : ℕ) → Lawful g H → 1 ≤ S → Passes g S L S → Smallest g S L (smallestReserve g H S L)
 
 -- there is no other
 abbrev pub ReserveOne : Type 0
-ReserveOne = (ls : List Load) (S L R R′ : ℕ) → Smallest ls S L R → Smallest ls S L R′ → R ≡ R′
+ReserveOne = (g : ℕ → ℕ) (S L R R′ : ℕ) → Smallest g S L R → Smallest g S L R′ → R ≡ R′
 
--- one tick less is not allowed, or the server does not pass with it
+-- one tick less is not allowed, or the demand does not pass with it
 abbrev pub OneLess : Type 0
-OneLess = (ls : List Load) (S L R : ℕ) → 1 ≤ S → Smallest ls S L R → Allowed S L (R - 1) → Passes ls S L (R - 1) → ⊥
+OneLess = (g : ℕ → ℕ) (S L R : ℕ) → 1 ≤ S → Smallest g S L R → Allowed S L (R - 1) → Passes g S L (R - 1) → ⊥

@@ -1,12 +1,9 @@
 -- The largest and the smallest length up to a bound that has a property, and the property searched for: demand past supply.
 -- Every search of the tool is stated by these, so that the way of searching can be replaced.
 use Prim.Native.Nat.{ℕ, zero, suc, _+_, _^_, _≤_, _<_}
-use mathlib.Core.List.{List}
-use mathlib.Core.Bool.{Bool, true, false, cond}
+use mathlib.Core.Bool.{Bool, true, false, cond, _&&_}
 use mathlib.Core.Path.{_≡_}
 use lib.Dec.{ltb}
-use Rattle.demand.specs.Load.{Load}
-use Rattle.demand.specs.Demand.{demand}
 use Rattle.demand.specs.Supply.{supplyPast}
 
 -- the largest t in 1..n with p t, or 0
@@ -23,6 +20,10 @@ orElse (suc a) b = suc a
 unfoldable pub firstUpTo : (ℕ → Bool) → ℕ → ℕ
 firstUpTo p zero = 0
 firstUpTo p (suc n) = orElse (firstUpTo p n) (cond (p (suc n)) (suc n) 0)
+
+-- the smallest t above lo, up to n, with p t, or 0
+unfoldable pub firstAfter : (ℕ → Bool) → (lo n : ℕ) → ℕ
+firstAfter p lo n = firstUpTo (λ (t : ℕ). ltb lo t && p t) n
 
 -- no number above a, up to b, has p
 abbrev pub NoneIn : (ℕ → Bool) → (a b : ℕ) → Type 0
@@ -41,12 +42,18 @@ pub record First (p : ℕ → Bool) (t : ℕ) : Type 0 where
   pub has : p t ≡ true
   pub before : (x : ℕ) → 1 ≤ x → x < t → p x ≡ false
 
+-- t is the smallest number above lo that has p
+pub record Next (p : ℕ → Bool) (lo t : ℕ) : Type 0 where
+  pub above : lo < t
+  pub has : p t ≡ true
+  pub before : (x : ℕ) → lo < x → x < t → p x ≡ false
+
 -- at length t the demand, with extra added, exceeds the supply past a gap of f
-unfoldable pub short : List Load → (S f extra : ℕ) → ℕ → Bool
-short ls S f extra t = ltb (supplyPast S f t) (demand ls t + extra)
+unfoldable pub short : (g : ℕ → ℕ) → (S f extra : ℕ) → ℕ → Bool
+short g S f extra t = ltb (supplyPast S f t) (g t + extra)
 
 -- what a search asks of its numbers: something is usable in each slot, and lengths and extra are small
 pub record Searched (S f extra hi : ℕ) : Type 0 where
   pub usable : f < S
-  pub small-extra : extra < 2 ^ 48
-  pub small : hi < 2 ^ 48
+  pub small-extra : extra < 2 ^ 36
+  pub small : hi < 2 ^ 36

@@ -2,13 +2,10 @@
 -- Assumes nothing.
 use Prim.Native.Nat.{ℕ, zero, suc, _+_, _*_, _-_, _≤_, _<_}
 use mathlib.Core.Path.{_≡_, refl, ap, sym}
-use mathlib.Core.List.{List, _∷_}
 use mathlib.Core.Logic.{inl, ⊎-elim}
 use native.Mathlib.Nat.{le-trans, le-of-eq}
 use native.Mathlib.Omega.{arith}
 use Rattle.laws.proofs.Orders.{le-or-lt}
-use Rattle.demand.specs.Load.{Load}
-use Rattle.demand.specs.Demand.{demand}
 use Rattle.demand.specs.Supply.{supply, supplyPast}
 use Rattle.demand.proofs.Supply.{supply-all, supply-turn, supply-whole}
 use Rattle.demand.proofs.Claims.{loss-never-passes}
@@ -52,45 +49,47 @@ every-tick S start a t h =
     omega (arith, supply-whole S (A + t), supply-whole S A)
 
 pub test-is-rota : TestIsRota
-test-is-rota ls S L R start h g =
-    (to-supply ls S L R start h g, λ enough a t later. from-supply ls S L R start h g enough a t)
+test-is-rota g S L R start slot below =
+    (to-supply g S L R start slot below, λ enough a t later. from-supply g S L R start slot below enough a t)
 
 pub from-zero : FromZero
-from-zero ls S L R start h g =
-    (λ covered. from-supply ls S L R start h g (to-supply ls S L R start h g covered), λ covered a t later. covered a t)
+from-zero g S L R start slot below = (
+  λ covered. from-supply g S L R start slot below (to-supply g S L R start slot below covered),
+  λ covered a t later. covered a t,
+)
 
 pub passes-is-covered : PassesIsCovered
-passes-is-covered ls S L R start e h g = (
+passes-is-covered g S L R start none slot below = (
   λ passes.
-      test-is-rota ls S L R start h g .1
-      (λ t. le-trans (at-every ls (supply S L R) e passes t) (le-of-eq (below-supply S L R t g))),
-  λ covered t p. le-trans (to-supply ls S L R start h g covered t) (le-of-eq (sym (below-supply S L R t g))),
+      test-is-rota g S L R start slot below .1
+      (λ t. le-trans (at-every g (supply S L R) none passes t) (le-of-eq (below-supply S L R t below))),
+  λ covered t p. le-trans (to-supply g S L R start slot below covered t) (le-of-eq (sym (below-supply S L R t below))),
 )
 
 pub passing-covers : PassingCovers
-passing-covers ls S L R start e h r = passes-is-covered ls S L R start e h (omega arith) .0
+passing-covers g S L R start none slot r = passes-is-covered g S L R start none slot (omega arith) .0
 
 pub whole-covers : WholeCovers
-whole-covers ls S L e passes t = le-trans (at-every ls (supply S L S) e passes t) (le-of-eq (supply-all S L S t refl))
+whole-covers g S L none passes t = le-trans (at-every g (supply S L S) none passes t) (le-of-eq (supply-all S L S t refl))
 
 pub failing-falls-short : FailingFallsShort
-failing-falls-short ls S L R start t h g fails =
-    let worst = supply-is-worst .met S L R start t h g in
+failing-falls-short g S L R start t slot below fails =
+    let worst = supply-is-worst .met S L R start t slot below in
     (worst .0, t, worst .1, omega (arith, worst .2))
 
 -- the same of the test as it is asked
-short-there : (ls : List Load) (S L R start t : ℕ) → 1 ≤ S → R < S → supply S L R t < demand ls t → FallsShort ls S L R start
-short-there ls S L R start t h g fails =
-    failing-falls-short ls S L R start t h g (omega (arith, below-supply S L R t g))
+short-there : (g : ℕ → ℕ) (S L R start t : ℕ) → 1 ≤ S → R < S → supply S L R t < g t → FallsShort g S L R start
+short-there g S L R start t slot below fails =
+    failing-falls-short g S L R start t slot below (omega (arith, below-supply S L R t below))
 
 pub refused-falls-short : RefusedFallsShort
-refused-falls-short ls S L R start e h g refused =
-    let w = fails-somewhere ls S L R e h refused in
-    short-there ls S L R start (w .0) h g (w .1)
+refused-falls-short g H S L R start lawful slot below refused =
+    let w = fails-somewhere g H S L R lawful slot refused in
+    short-there g S L R start (w .0) slot below (w .1)
 
 pub smaller-falls-short : SmallerFallsShort
-smaller-falls-short l ls S L R start e h g refused =
+smaller-falls-short g H S L R start t lawful some slot below refused =
     ⊎-elim
-    (λ (p : R ≤ L). short-there (l ∷ ls) S L R start (l .deadline) h g (loss-never-passes .short l ls S L R (e .0) g p))
-    (λ (p : L < R). refused-falls-short (l ∷ ls) S L R start e h g (refused (inl (record { enters = omega arith; parts = omega arith }))))
+    (λ (p : R ≤ L). short-there g S L R start t slot below (loss-never-passes .short g S L R t some below p))
+    (λ (p : L < R). refused-falls-short g H S L R start lawful slot below (refused (inl (record { enters = omega arith; parts = omega arith }))))
     (le-or-lt R L)

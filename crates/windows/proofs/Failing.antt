@@ -1,17 +1,15 @@
--- Where a server does not pass there is a length at which it fails: a common multiple of the periods bounds the search.
+-- Where a lawful demand does not pass there is a length at which it fails: its horizon bounds the search.
 -- Assumes nothing.
-use Prim.Native.Nat.{ℕ, zero, suc, _*_, _≤_, _<_, _∣_}
+use Prim.Native.Nat.{ℕ, zero, suc, _≤_, _<_}
 use mathlib.Core.Path.{_≡_, subst, sym}
-use mathlib.Core.List.{List, [], _∷_}
 use mathlib.Core.Logic.{_⊎_, inl, inr, ⊎-elim}
-use native.Mathlib.Nat.{le-refl, le-suc-iff, one-le-mul, dvd-mul-right, dvd-mul-left-of-dvd}
+use native.Mathlib.Nat.{le-suc-iff}
 use native.Mathlib.Omega.{arith}
 use Rattle.laws.proofs.Orders.{le-or-lt}
-use Rattle.demand.specs.Load.{Load, Sound, Every}
-use Rattle.demand.specs.Demand.{demand}
 use Rattle.demand.specs.Supply.{supply}
+use Rattle.demand.specs.Lawful.{Lawful}
 use Rattle.demand.specs.Passes.{Passes}
-use Rattle.demand.proofs.Claims.{loads-decide}
+use Rattle.demand.proofs.Claims.{demand-decides}
 
 -- up to n the one is within the other, or a length says no
 up-to : (g s : ℕ → ℕ) (n : ℕ) → ((t : ℕ) → 1 ≤ t → t ≤ n → g t ≤ s t) ⊎ ((t : ℕ) × (s t < g t))
@@ -28,31 +26,10 @@ up-to g s (suc n) =
     (λ (w : (t : ℕ) × (s t < g t)). inr w)
     (up-to g s n)
 
--- the product of the periods
-product : List Load → ℕ
-product [] = 1
-product (l ∷ ls) = l .period * product ls
-
-product-some : (ls : List Load) → Every Sound ls → 1 ≤ product ls
-unfolding product
-product-some [] e = le-refl 1
-product-some (l ∷ ls) e = let s = e .0 in one-le-mul (omega arith) (product-some ls (e .1))
-
-every-multiple : (k m : ℕ) (ls : List Load) → Every (λ (l : Load). l .period ∣ m) ls → Every (λ (l : Load). l .period ∣ k * m) ls
-every-multiple k m [] e = tt
-every-multiple k m (l ∷ ls) e = (dvd-mul-left-of-dvd (l .period) (e .0) k, every-multiple k m ls (e .1))
-
-product-divided : (ls : List Load) → Every (λ (l : Load). l .period ∣ product ls) ls
-unfolding product
-product-divided [] = tt
-product-divided (l ∷ ls) =
-    (dvd-mul-right (l .period) (product ls), every-multiple (l .period) (product ls) ls (product-divided ls))
-
--- a server that does not pass fails at a length
-pub fails-somewhere : (ls : List Load) (S L R : ℕ) → Every Sound ls → 1 ≤ S → (Passes ls S L R → ⊥) → (t : ℕ) × (supply S L R t < demand ls t)
-fails-somewhere ls S L R e h n =
+-- a lawful demand that does not pass fails at a length
+pub fails-somewhere : (g : ℕ → ℕ) (H S L R : ℕ) → Lawful g H → 1 ≤ S → (Passes g S L R → ⊥) → (t : ℕ) × (supply S L R t < g t)
+fails-somewhere g H S L R lawful slot refused =
     ⊎-elim
-    (λ (f : (t : ℕ) → 1 ≤ t → t ≤ product ls → demand ls t ≤ supply S L R t).
-    absurd (n (loads-decide ls S L R (product ls) e h (product-some ls e) (product-divided ls) f)))
-    (λ (w : (t : ℕ) × (supply S L R t < demand ls t)). w)
-    (up-to (demand ls) (supply S L R) (product ls))
+    (λ (f : (t : ℕ) → 1 ≤ t → t ≤ H → g t ≤ supply S L R t). absurd (refused (demand-decides g S L R H slot lawful f)))
+    (λ (w : (t : ℕ) × (supply S L R t < g t)). w)
+    (up-to g (supply S L R) H)

@@ -4,10 +4,8 @@ use Prim.Native.Nat.{ℕ, _+_, _-_, _%_, _≤_, _<_}
 use mathlib.Core.Path.{_≡_}
 use mathlib.Core.Logic.{_↔_}
 use mathlib.Core.Bool.{true}
-use mathlib.Core.List.{List, _∷_}
-use Rattle.demand.specs.Load.{Load, Sound, Every}
-use Rattle.demand.specs.Demand.{demand}
 use Rattle.demand.specs.Supply.{Ring, Allowed, supplyPast}
+use Rattle.demand.specs.Lawful.{Lawful}
 use Rattle.demand.specs.Passes.{Passes}
 use Rattle.windows.specs.Window.{since, usableAt, usableIn, Covered, CoveredFromZero, FallsShort}
 
@@ -41,44 +39,44 @@ pub record SupplyIsWorst : Type 0 where
 -- demand ≤ supply at every length
 abbrev pub TestIsRota : Type 0
 TestIsRota =
-    (ls : List Load) (S L R start : ℕ) → 1 ≤ S → R < S →
-    Covered ls S L R start ↔ ((t : ℕ) → demand ls t ≤ supplyPast S (S - R + L) t)
+    (g : ℕ → ℕ) (S L R start : ℕ) → 1 ≤ S → R < S →
+    Covered g S L R start ↔ ((t : ℕ) → g t ≤ supplyPast S (S - R + L) t)
 
 -- in the words of the verdict: a reserve below S passes exactly when it covers, from any start
 abbrev pub PassesIsCovered : Type 0
 PassesIsCovered =
-    (ls : List Load) (S L R start : ℕ) → Every Sound ls → 1 ≤ S → R < S → Passes ls S L R ↔ Covered ls S L R start
+    (g : ℕ → ℕ) (S L R start : ℕ) → g 0 ≡ 0 → 1 ≤ S → R < S → Passes g S L R ↔ Covered g S L R start
 
 -- "from the second slot on" is no restriction: what covers from there covers from tick 0 on
 abbrev pub FromZero : Type 0
 FromZero =
-    (ls : List Load) (S L R start : ℕ) → 1 ≤ S → R < S → Covered ls S L R start ↔ CoveredFromZero ls S L R start
+    (g : ℕ → ℕ) (S L R start : ℕ) → 1 ≤ S → R < S → Covered g S L R start ↔ CoveredFromZero g S L R start
 
 -- a passing ring reserve covers, from any start
 abbrev pub PassingCovers : Type 0
 PassingCovers =
-    (ls : List Load) (S L R start : ℕ) → Every Sound ls → 1 ≤ S → Ring S L R → Passes ls S L R → Covered ls S L R start
+    (g : ℕ → ℕ) (S L R start : ℕ) → g 0 ≡ 0 → 1 ≤ S → Ring S L R → Passes g S L R → Covered g S L R start
 
 -- a whole processor covers: every tick is usable
 abbrev pub WholeCovers : Type 0
-WholeCovers = (ls : List Load) (S L : ℕ) → Every Sound ls → Passes ls S L S → (t : ℕ) → demand ls t ≤ t
+WholeCovers = (g : ℕ → ℕ) (S L : ℕ) → g 0 ≡ 0 → Passes g S L S → (t : ℕ) → g t ≤ t
 
 -- a reserve that fails the test at some length falls short in some window, from any start: so do a cut reserve, and a
 -- smaller one for a whole-processor server, once they fail the test
 abbrev pub FailingFallsShort : Type 0
 FailingFallsShort =
-    (ls : List Load) (S L R start t : ℕ) → 1 ≤ S → R < S → supplyPast S (S - R + L) t < demand ls t →
-    FallsShort ls S L R start
+    (g : ℕ → ℕ) (S L R start t : ℕ) → 1 ≤ S → R < S → supplyPast S (S - R + L) t < g t →
+    FallsShort g S L R start
 
--- a reserve below S that does not pass falls short in some window, from any start
+-- a reserve below S with which a lawful demand does not pass falls short in some window, from any start
 abbrev pub RefusedFallsShort : Type 0
 RefusedFallsShort =
-    (ls : List Load) (S L R start : ℕ) → Every Sound ls → 1 ≤ S → R < S → (Passes ls S L R → ⊥) → FallsShort ls S L R start
+    (g : ℕ → ℕ) (H S L R start : ℕ) → Lawful g H → 1 ≤ S → R < S → (Passes g S L R → ⊥) → FallsShort g S L R start
 
--- where no smaller allowed reserve passes, any smaller one falls short in some window, allowed or not, from any start:
--- a ring reserve cut by one tick with its start kept, and any R below S for a whole-processor server
+-- where no smaller allowed reserve passes and something is asked, any smaller one falls short in some window, allowed or not,
+-- from any start: a ring reserve cut by one tick with its start kept, and any R below S for a whole-processor server
 abbrev pub SmallerFallsShort : Type 0
 SmallerFallsShort =
-    (l : Load) (ls : List Load) (S L R start : ℕ) → Every Sound (l ∷ ls) → 1 ≤ S → R < S →
-    (Allowed S L R → Passes (l ∷ ls) S L R → ⊥) →
-    FallsShort (l ∷ ls) S L R start
+    (g : ℕ → ℕ) (H S L R start t : ℕ) → Lawful g H → 1 ≤ g t → 1 ≤ S → R < S →
+    (Allowed S L R → Passes g S L R → ⊥) →
+    FallsShort g S L R start

@@ -1,11 +1,8 @@
 -- The usable ticks of a reserve that stands once a slot, from any start, in any window; and when windows cover a demand.
 -- Document 01, "From tasks to servers to ring": usable ticks, a cut reserve, a smaller reserve for a whole-processor server.
 use Prim.Native.Nat.{ℕ, zero, suc, _+_, _-_, _%_, _≤_}
-use mathlib.Core.List.{List}
 use mathlib.Core.Bool.{Bool, true, false, cond, _&&_}
 use lib.Dec.{leb, ltb}
-use Rattle.demand.specs.Demand.{demand}
-use Rattle.demand.specs.Load.{Load}
 
 -- how many ticks ago the reserve's latest start was, at tick x: (x − start) mod S
 unfoldable pub since : (S start x : ℕ) → ℕ
@@ -21,13 +18,13 @@ usableIn S L R start a zero = 0
 usableIn S L R start a (suc t) = usableIn S L R start a t + cond (usableAt S L R start (a + t)) 1 0
 
 -- from the second slot on, in every window, any start and length, the usable ticks cover the demand for that length
-abbrev pub Covered : List Load → (S L R start : ℕ) → Type 0
-Covered ls S L R start = (a t : ℕ) → S ≤ a → demand ls t ≤ usableIn S L R start a t
+abbrev pub Covered : (g : ℕ → ℕ) → (S L R start : ℕ) → Type 0
+Covered g S L R start = (a t : ℕ) → S ≤ a → g t ≤ usableIn S L R start a t
 
 -- the same of every window from tick 0 on
-abbrev pub CoveredFromZero : List Load → (S L R start : ℕ) → Type 0
-CoveredFromZero ls S L R start = (a t : ℕ) → demand ls t ≤ usableIn S L R start a t
+abbrev pub CoveredFromZero : (g : ℕ → ℕ) → (S L R start : ℕ) → Type 0
+CoveredFromZero g S L R start = (a t : ℕ) → g t ≤ usableIn S L R start a t
 
 -- some window, from the second slot on, in which the usable ticks fall short of the demand for its length
-abbrev pub FallsShort : List Load → (S L R start : ℕ) → Type 0
-FallsShort ls S L R start = (a : ℕ) × (t : ℕ) × (S ≤ a) × (usableIn S L R start a t + 1 ≤ demand ls t)
+abbrev pub FallsShort : (g : ℕ → ℕ) → (S L R start : ℕ) → Type 0
+FallsShort g S L R start = (a : ℕ) × (t : ℕ) × (S ≤ a) × (usableIn S L R start a t + 1 ≤ g t)

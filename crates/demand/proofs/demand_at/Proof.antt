@@ -1,12 +1,11 @@
 -- `demand_at` meets its contract. The loop's invariant: the sum is the demand of the first i loads.
 -- The measure is what is left of n. Assumes nothing.
-use Prim.Native.Nat.{ℕ, _+_, _*_, _-_, _/_, _≤_, _<_}
+use Prim.Native.Nat.{ℕ, _+_, _*_, _-_, _/_, _^_, _≤_, _<_}
 use mathlib.Core.Path.{_≡_, refl, ap, _∙_}
 use mathlib.Core.Logic.{⊎-elim}
 use borrow.Author.Needs.{needs}
 use native.Mathlib.Nat.{div-le-self}
 use native.Mathlib.Omega.{arith}
-use lib.ListN.{getD}
 use Rattle.demand.specs.Load.{Sound, loadAt, loadsOf}
 use Rattle.demand.specs.Demand.{demand}
 use Rattle.demand.proofs.Demand.{every-at, next-none, next-due, demand-room}
@@ -14,34 +13,39 @@ use Rattle.demand.proofs.demand_at.Statement.{statement}
 use Rattle.demand.proofs.demand_at.Tie as tie
 
 abbrev Inv-loop : tie.InvT-loop
-Inv-loop costs deadlines periods n t sum₀ i₀ sum i = (i ≤ n) × (sum ≡ demand (loadsOf costs deadlines periods i) t)
+Inv-loop loads n t sum₀ i₀ sum i = (i ≤ n) × (sum ≡ demand (loadsOf loads i) t)
 
 abbrev μ-loop : tie.MeasureT-loop
-μ-loop costs deadlines periods n t sum₀ i₀ sum i = n - i
+μ-loop loads n t sum₀ i₀ sum i = n - i
 
 -- in an arm that adds a term: the load is sound, and the sum that follows has room
 here : (c : tie.After-shared-slice-known3 Inv-loop μ-loop) →
-    let a = c .before .before .before .before .before .before .args in
-    let i = c .before .before .before .before .before .loop .i in
-    Sound (loadAt (a .costs .now) (a .deadlines .now) (a .periods .now) i)
+    Sound (loadAt (c .before .before .before .before .before .before .args .loads .now) (c .before .before .before .before .before .loop .i))
 here c =
     let s = c .before .before .before .before .before .before in
-    every-at (s .args .costs .now) (s .args .deadlines .now) (s .args .periods .now) Sound (s .args .n) (c .before .before .before .before .loop-test .taken) (s .pre .0 .sound)
+    every-at (s .args .loads .now) Sound (s .args .n) (c .before .before .before .before .loop-test .taken) (s .pre .0 .sound)
 
 room : (c : tie.After-shared-slice-known3 Inv-loop μ-loop) →
     let s = c .before .before .before .before .before in
     let a = s .before .args in
-    s .loop .sum + getD (a .costs .now) (s .loop .i) 0 * ((a .t - getD (a .deadlines .now) (s .loop .i) 0) / getD (a .periods .now) (s .loop .i) 0 + 1) ≤ 256 * a .t
+    let l = loadAt (a .loads .now) (s .loop .i) in
+    s .loop .sum + l .cost * ((a .t - l .deadline) / l .period + 1) < 2 ^ 63
 room c =
     let s = c .before .before .before .before .before in
     let a = s .before .args in
-    let due : getD (a .deadlines .now) (s .loop .i) 0 ≤ a .t = omega (arith, c .before .before .if1 .taken) in
-    rw (s .loop .inv .1, ← (next-due (a .costs .now) (a .deadlines .now) (a .periods .now) (s .loop .i) due))
-    (demand-room (a .costs .now) (a .deadlines .now) (a .periods .now) (a .n) (s .loop .i + 1) (a .t) (s .before .pre .0) (omega arith))
+    let due : loadAt (a .loads .now) (s .loop .i) .deadline ≤ a .t = omega (arith, c .before .before .if1 .taken) in
+    rw (s .loop .inv .1, ← (next-due (a .loads .now) (s .loop .i) due))
+    (demand-room (a .loads .now) (a .n) (s .loop .i + 1) (a .t) (s .before .pre .0) (omega arith) (s .before .pre .1))
 
 loop-holds : tie.Need-loop-holds Inv-loop μ-loop
 unfolding loadsOf demand
 loop-holds c = (omega arith, refl)
+
+mul-at : tie.Need-mul-at Inv-loop μ-loop
+mul-at c = omega (arith, c .before .before .pre .0 .few)
+
+add-d : tie.Need-add-d Inv-loop μ-loop
+add-d c = omega (arith, c .before .before .pre .0 .few)
 
 mul-d : tie.Need-mul-d Inv-loop μ-loop
 mul-d c = search needs
@@ -55,6 +59,9 @@ mul-sum c = search needs
 shared-slice-read-sum : tie.Need-shared-slice-read-sum Inv-loop μ-loop
 shared-slice-read-sum c = search needs
 
+add-sum : tie.Need-add-sum Inv-loop μ-loop
+add-sum c = search needs
+
 mul-sum-2 : tie.Need-mul-sum-2 Inv-loop μ-loop
 mul-sum-2 c = search needs
 
@@ -64,17 +71,17 @@ shared-slice-read-sum-2 c = search needs
 div-sum : tie.Need-div-sum Inv-loop μ-loop
 div-sum c = omega (arith, here c)
 
-add-sum : tie.Need-add-sum Inv-loop μ-loop
-add-sum c =
+add-sum-2 : tie.Need-add-sum-2 Inv-loop μ-loop
+add-sum-2 c =
     let s = c .before .before .before .before .before in
-    let a = s .before .args in
-    omega (arith, div-le-self (a .t - getD (a .deadlines .now) (s .loop .i) 0) (getD (a .periods .now) (s .loop .i) 0))
+    let l = loadAt (s .before .args .loads .now) (s .loop .i) in
+    omega (arith, div-le-self (s .before .args .t - l .deadline) (l .period))
 
 mul-sum-3 : tie.Need-mul-sum-3 Inv-loop μ-loop
 mul-sum-3 c = omega (arith, room c)
 
-add-sum-2 : tie.Need-add-sum-2 Inv-loop μ-loop
-add-sum-2 c = omega (arith, room c)
+add-sum-3 : tie.Need-add-sum-3 Inv-loop μ-loop
+add-sum-3 c = omega (arith, room c)
 
 add-i : tie.Need-add-i Inv-loop μ-loop
 add-i c = search needs
@@ -89,11 +96,11 @@ loop-again c =
       omega arith,
       ⊎-elim
           (λ w.
-          let due : getD (a .deadlines .now) (s .loop .i) 0 ≤ a .t = omega (arith, w .0 .taken) in
-          omega (arith, w .3, s .loop .inv .1, next-due (a .costs .now) (a .deadlines .now) (a .periods .now) (s .loop .i) due))
+          let due : loadAt (a .loads .now) (s .loop .i) .deadline ≤ a .t = omega (arith, w .0 .taken) in
+          omega (arith, w .3, s .loop .inv .1, next-due (a .loads .now) (s .loop .i) due))
           (λ w.
-          let early : a .t < getD (a .deadlines .now) (s .loop .i) 0 = omega (arith, w .0 .left) in
-          omega (arith, w .1, s .loop .inv .1, next-none (a .costs .now) (a .deadlines .now) (a .periods .now) (s .loop .i) early))
+          let early : a .t < loadAt (a .loads .now) (s .loop .i) .deadline = omega (arith, w .0 .left) in
+          omega (arith, w .1, s .loop .inv .1, next-none (a .loads .now) (s .loop .i) early))
           (c .if1 .came),
     )
 
@@ -101,7 +108,7 @@ returns : tie.Need-returns Inv-loop μ-loop
 returns c =
     let a = c .before .before .args in
     let e : c .before .loop .i ≡ a .n = omega arith in
-    c .before .loop .inv .1 ∙ ap (λ (i : ℕ). demand (loadsOf (a .costs .now) (a .deadlines .now) (a .periods .now) i) (a .t)) e
+    c .before .loop .inv .1 ∙ ap (λ (i : ℕ). demand (loadsOf (a .loads .now) i) (a .t)) e
 
 pub demand-at-spec : {M : Type 1} → statement M
 demand-at-spec =
@@ -110,16 +117,19 @@ demand-at-spec =
     Inv-loop
     μ-loop
     loop-holds
+    mul-at
+    add-d
     mul-d
     shared-slice-read-d
     mul-sum
     shared-slice-read-sum
+    add-sum
     mul-sum-2
     shared-slice-read-sum-2
     div-sum
-    add-sum
-    mul-sum-3
     add-sum-2
+    mul-sum-3
+    add-sum-3
     add-i
     loop-less
     loop-again

@@ -2,7 +2,7 @@
 -- Assumes nothing.
 use mathlib.Core.Path.{sym, _∙_}
 use borrow.Author.Needs.{needs}
-use Rattle.tasks.proofs.Carried.{count-within, ask-count}
+use Rattle.taskask.proofs.Carried.{count-within, ask-count}
 use Rattle.rows.proofs.Clears.{rows-clear, rows-refused}
 use Rattle.planner.proofs.Made.{plan-ask, plan-charged}
 use Rattle.planner.proofs.make.Statement.{statement}

@@ -7,7 +7,8 @@ use native.Mathlib.Omega.{arith}
 use lib.ListN.{length, length-map}
 use Rattle.refusals.specs.declared.Outcome.the-variants.{Done}
 use Rattle.tasks.specs.Set.{mostTasks, members}
-use Rattle.tasks.specs.Rows.{firstTask, figuresOutcome}
+use Rattle.tasks.specs.Search.{firstTask}
+use Rattle.taskrows.specs.Rows.{figuresOutcome}
 use Rattle.tasks.proofs.Firsts.{first-within}
 use Rattle.tasks.proofs.SetLaws.{members-length}
 use Rattle.rows.specs.Rows.{slotRow, tightRow}
@@ -37,27 +38,27 @@ returns c = charged-figures _ (sym (c .before .before .before .figures .ensures)
 enum-told : tie.Need-enum-told
 enum-told c = search needs
 
-first-slot-requires : tie.Need-first-slot-requires
-first-slot-requires c κs = search needs
+first-broken-requires : tie.Need-first-broken-requires
+first-broken-requires c κs = search needs
 
-cast-t9 : tie.Need-cast-t9
-cast-t9 c = omega (arith, c .before .first-slot .ensures, first-within (slotRow (c .before .before .before .before .before .args .set .header)) 1 (members (c .before .before .before .before .before .args .set)), few (c .before .before .before .before .before))
+cast-t10 : tie.Need-cast-t10
+cast-t10 c = omega (arith, c .before .first-broken .ensures, first-within (slotRow (c .before .before .before .before .before .args .set .header)) 1 (members (c .before .before .before .before .before .args .set)), few (c .before .before .before .before .before))
 
 returns-2 : tie.Need-returns-2
-returns-2 c = charged-slot _ (figured (c .before .before)) (c .before .first-slot .ensures) (c .if1 .taken)
+returns-2 c = charged-slot _ (figured (c .before .before)) (c .before .first-broken .ensures) (c .if1 .taken)
 
-first-tight-requires : tie.Need-first-tight-requires
-first-tight-requires c κs = search needs
+first-broken-requires-2 : tie.Need-first-broken-requires-2
+first-broken-requires-2 c κs = search needs
 
-cast-t11 : tie.Need-cast-t11
-cast-t11 c = omega (arith, c .before .first-tight .ensures, first-within (tightRow (c .before .before .before .before .before .before .before .args .set .header)) 1 (members (c .before .before .before .before .before .before .before .args .set)), few (c .before .before .before .before .before .before .before))
+cast-t12 : tie.Need-cast-t12
+cast-t12 c = omega (arith, c .before .first-broken2 .ensures, first-within (tightRow (c .before .before .before .before .before .before .before .args .set .header)) 1 (members (c .before .before .before .before .before .before .before .args .set)), few (c .before .before .before .before .before .before .before))
 
 returns-3 : tie.Need-returns-3
 returns-3 c =
-    charged-tight _ (figured (c .before .before .before .before)) (sym (c .before .before .before .first-slot .ensures) ∙ c .before .before .if1 .left) (c .before .first-tight .ensures) (c .if2 .taken)
+    charged-tight _ (figured (c .before .before .before .before)) (sym (c .before .before .before .first-broken .ensures) ∙ c .before .before .if1 .left) (c .before .first-broken2 .ensures) (c .if2 .taken)
 
 horizon-within-requires : tie.Need-horizon-within-requires
-horizon-within-requires c κs = chargeable _ (c .before .before .before .before .before .before .before .pre) (figured (c .before .before .before .before)) (sym (c .before .first-tight .ensures) ∙ c .if2 .left)
+horizon-within-requires c κs = chargeable _ (c .before .before .before .before .before .before .before .pre) (figured (c .before .before .before .before)) (sym (c .before .first-broken2 .ensures) ∙ c .if2 .left)
 
 enum-known-found : tie.Need-enum-known-found
 enum-known-found c = search needs
@@ -68,10 +69,10 @@ enum-told-2 c = search needs
 -- rows 7 and 8 were tried, and are clear
 module _ (c : tie.After-horizon-within) where
   slot-clear : firstTask (slotRow (c .before .before .before .before .before .before .before .before .args .set .header)) (members (c .before .before .before .before .before .before .before .before .args .set)) ≡ 0
-  slot-clear = sym (c .before .before .before .before .first-slot .ensures) ∙ c .before .before .before .if1 .left
+  slot-clear = sym (c .before .before .before .before .first-broken .ensures) ∙ c .before .before .before .if1 .left
 
   tight-clear : firstTask (tightRow (c .before .before .before .before .before .before .before .before .args .set .header)) (members (c .before .before .before .before .before .before .before .before .args .set)) ≡ 0
-  tight-clear = sym (c .before .before .first-tight .ensures) ∙ c .before .if2 .left
+  tight-clear = sym (c .before .before .first-broken2 .ensures) ∙ c .before .if2 .left
 
 returns-4 : tie.Need-returns-4
 returns-4 c =
@@ -91,11 +92,11 @@ charged-spec =
     enum-known-outcome
     returns
     enum-told
-    first-slot-requires
-    cast-t9
+    first-broken-requires
+    cast-t10
     returns-2
-    first-tight-requires
-    cast-t11
+    first-broken-requires-2
+    cast-t12
     returns-3
     horizon-within-requires
     enum-known-found

@@ -1,38 +1,47 @@
--- `rows::horizon_within` meets its contract: the loads' periods are the tasks', so their multiple with the slot is the horizon.
+-- `rows::horizon_within` meets its contract: the figures' periods are the tasks', so their horizon with the slot is the set's.
 -- Assumes nothing.
 use borrow.Author.Needs.{needs}
 use mathlib.Core.Path.{sym, ap, _∙_}
-use Prim.Native.Nat.{_≤_}
+use mathlib.Core.List.{List}
+use Prim.Native.Nat.{ℕ, _≤_}
 use native.Mathlib.Omega.{arith}
 use lib.ListN.{length, length-map}
 use Rattle.wholes.specs.Multiple.{within}
-use Rattle.tasks.specs.Set.{mostTasks, longestHorizon}
-use Rattle.rows.specs.Charge.{loadsOfSet}
-use Rattle.rows.proofs.Clears.{board-slot, loads-sound, loads-length, members-positive, horizon-taken}
+use Rattle.demand.specs.Load.{Load, loadsOf}
+use Rattle.verdict.specs.Verdict.{ownHorizon}
+use Rattle.tasks.specs.Set.{longestHorizon}
+use Rattle.members.specs.Charge.{Timed}
+use Rattle.rows.proofs.FigureLaws.{figures-back}
+use Rattle.rows.proofs.Clears.{set-timed, horizon-of-figures}
 use Rattle.rows.proofs.rows.horizon_within.Statement.{statement}
 use Rattle.rows.proofs.rows.horizon_within.Tie as tie
 
-few : (c : tie.Start) → length (loadsOfSet (c .args .set)) ≤ mostTasks
-few c =
-    let full = sym (length-map (c .args .set .tasks) _) ∙ c .good .0 .1 .1 .1 .1 .0 .1 .0 .1 in
-    omega (arith, c .pre .few, loads-length (c .args .set) (omega (arith, c .pre .few, full)))
+room : (c : tie.Start) → c .args .set .count ≤ length (c .args .set .tasks)
+room c =
+    omega (arith, c .pre .few, sym (length-map (c .args .set .tasks) _) ∙ c .good .0 .1 .1 .1 .1 .0 .1 .0 .1)
 
 cast-slot : tie.Need-cast-slot
 cast-slot c = search needs
 
-loads-requires : tie.Need-loads-requires
-loads-requires c κs = search needs
+figures-requires : tie.Need-figures-requires
+figures-requires c κs = c .before .pre .few
 
-least-multiple-of-requires : tie.Need-least-multiple-of-requires
-least-multiple-of-requires c κs =
-    let s = c .before .before .before .before .before in
-    members-positive (loadsOfSet (s .args .set)) (few s) (loads-sound (s .args .set) (s .pre)) (c .before .before .before .loads .ensures) (board-slot (s .args .set .header) (s .pre .board))
+slice-aggregate-horizon-of : tie.Need-slice-aggregate-horizon-of
+slice-aggregate-horizon-of c = search needs
+
+horizon-of-requires : tie.Need-horizon-of-requires
+horizon-of-requires c κs =
+    let s = c .before .before .before in
+    rw (c .before .figures .ensures) (set-timed (s .args .set) (room s) (s .pre))
 
 returns : tie.Need-returns
 returns c =
-    c .least-multiple-of .ensures
-    ∙ ap (within longestHorizon) (horizon-taken (c .before .before .before .before .before .before .args .set) (c .before .before .before .before .loads .ensures))
+    let s = c .before .before .before .before in
+    c .horizon-of .ensures
+    ∙ ap (λ (ns : List ℕ). within longestHorizon (ownHorizon (s .args .set .header .slot) (loadsOf ns (s .args .set .count)))) (c .before .before .figures .ensures)
+    ∙ ap (λ (ls : List Load). within longestHorizon (ownHorizon (s .args .set .header .slot) ls)) (figures-back (s .args .set) (room s))
+    ∙ ap (within longestHorizon) (horizon-of-figures (s .args .set))
 
 pub horizon-within-spec : {M : Type 1} → statement M
 horizon-within-spec =
-    tie.close (tie.spec cast-slot loads-requires least-multiple-of-requires returns)
+    tie.close (tie.spec cast-slot figures-requires slice-aggregate-horizon-of horizon-of-requires returns)

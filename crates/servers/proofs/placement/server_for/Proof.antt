@@ -1,83 +1,141 @@
--- `server_for` meets its contract. The loop's invariant: no server below q takes the task.
+-- `server_for` meets its contract. The loop's invariant: no server above lo, up to q, takes the task.
 -- The measure is what is left of the servers. Assumes nothing.
-use Prim.Native.Nat.{ℕ, suc, _+_, _-_, _≤_, _<_}
-use mathlib.Core.Path.{_≡_, sym, ap, _∙_}
+use Prim.Native.Nat.{ℕ, suc, _+_, _-_, _≤_, _<_, _∣_}
+use mathlib.Core.Path.{_≡_, refl, sym, ap, _∙_}
+use mathlib.Core.Logic.{⊎-elim}
 use mathlib.Core.Bool.{Bool, true, false}
-use mathlib.Core.List.{List}
+use mathlib.Core.List.{List, [], _∷_}
 use borrow.Author.Needs.{needs}
+use native.Mathlib.Numerals.{add-one}
 use native.Mathlib.Omega.{arith}
-use native.Mathlib.Decide.{decLt}
-use lib.ListN.{take}
-use Rattle.demand.specs.Load.{Load, loadAt, loadsOf}
-use Rattle.servers.specs.Placement.{serversIn, takes, fit}
-use Rattle.servers.proofs.FitLaws.{fit-found, fit-new}
+use lib.ListN.{take, getD}
+use Rattle.laws.proofs.Orders.{le-or-lt}
+use Rattle.demand.specs.Load.{Load, Every, loadAt, loadsOf}
+use Rattle.demand.proofs.Demand.{loads-next}
+use Rattle.verdict.specs.Search.{NoneIn, Next}
+use Rattle.verdict.proofs.Bounded.{none-less}
+use Rattle.tasks.specs.declared.set.Header.{Header}
+use Rattle.tasks.specs.Set.{mostTasks}
+use Rattle.places.specs.Places.{chosen}
+use Rattle.members.specs.Charge.{Member}
+use Rattle.members.specs.Server.{Filed}
+use Rattle.servers.specs.Placement.{takes, firstFit, join}
+use Rattle.servers.specs.Totals.{totalIn, Totals}
+use Rattle.servers.proofs.JoinLaws.{join-first, join-none}
+use Rattle.servers.proofs.TotalLaws.{no-room}
 use Rattle.servers.proofs.placement.server_for.Statement.{statement}
 use Rattle.servers.proofs.placement.server_for.Tie as tie
 
+-- the servers that take task i
+abbrev candidates : Header → (figures placement : List ℕ) → (i : ℕ) → ℕ → Bool
+candidates h figures placement i = takes h (loadsOf figures i) (take i placement) (loadAt figures i)
+
 abbrev Inv-loop : tie.InvT-loop
-Inv-loop costs deadlines periods server i count slot loss horizon q₀ q =
-    (1 ≤ q) × (q ≤ count + 1)
-    × ((x : ℕ) → 1 ≤ x → x < q → takes (loadsOf costs deadlines periods i) slot loss (take i server) (loadAt costs deadlines periods i) x ≡ false)
+Inv-loop header figures placement totals i lo count horizon own room q₀ q =
+    (lo ≤ q) × NoneIn (candidates header figures placement i) lo q
 
 abbrev μ-loop : tie.MeasureT-loop
-μ-loop costs deadlines periods server i count slot loss horizon q₀ q = count + 1 - q
+μ-loop header figures placement totals i lo count horizon own room q₀ q = count - q
 
 -- one server more that does not have p
-below-next : (p : ℕ → Bool) (q : ℕ) → ((x : ℕ) → 1 ≤ x → x < q → p x ≡ false) → p q ≡ false → (x : ℕ) → 1 ≤ x → x < q + 1 → p x ≡ false
-below-next p q before here x some h = by (decLt x q)
-  where
-    by : Dec (x < q) → p x ≡ false
-    by (yes l) = before x some l
-    by (no l) = ap p (same l) ∙ here
-      where
-        same : (x < q → ⊥) → x ≡ q
-        same l = omega arith
+none-next : (p : ℕ → Bool) (lo q : ℕ) → NoneIn p lo q → p (q + 1) ≡ false → NoneIn p lo (q + 1)
+none-next p lo q none here x a b =
+    ⊎-elim (λ (h : x ≤ q). none x a h) (λ (h : q < x). let e : x ≡ q + 1 = omega arith in ap p e ∙ here) (le-or-lt x q)
 
-module _ (ls : List Load) (S L : ℕ) (placement : List ℕ) (l : Load) (count q : ℕ) (all : count ≡ serversIn placement)
-    (some : 1 ≤ q) (before : (x : ℕ) → 1 ≤ x → x < q → takes ls S L placement l x ≡ false) where
-  finds : q ≤ count → takes ls S L placement l q ≡ true → q ≡ fit ls S L placement l
-  finds h has =
-      sym (fit-found ls S L placement l q (omega arith) (record { there = some; has = has; before = before }))
+module _ (h : Header) (figures placement : List ℕ) (i H own : ℕ) (file : Filed h figures (i + 1) H)
+    (share : own ≡ totalIn h H (loadAt figures i ∷ [])) where
+  -- a server that the task's share takes past the horizon does not take it
+  past : (q : ℕ) → H < totalIn h H (chosen (loadsOf figures i) (take i placement) q) + own → candidates h figures placement i q ≡ false
+  past q more =
+      no-room h H (loadsOf figures i) (take i placement) (loadAt figures i) q (file .slot) (file .some)
+      (rw (sym (loads-next figures i)) (file .members)) (rw (sym (loads-next figures i)) (file .of-periods)) (omega (arith, share))
 
-  opens : count < q → q ≤ count + 1 → q ≡ fit ls S L placement l
-  opens h g =
-      let e : q ≡ suc (serversIn placement) = omega arith in
-      e ∙ sym (fit-new ls S L placement l (λ x a b. before x a (omega arith)))
+  -- so none does where the share alone is past it
+  none-takes : H < own → (lo count : ℕ) → NoneIn (candidates h figures placement i) lo count
+  none-takes more lo count x a b = past x (omega arith)
 
-loop-holds : tie.Need-loop-holds Inv-loop μ-loop
-loop-holds c = (omega arith, omega arith, λ x a b. absurd (omega arith))
+  -- nor one whose total leaves no room
+  full : (totals : List ℕ) (q room : ℕ) → Totals h H (loadsOf figures i) (take i placement) totals → q < mostTasks → room ≡ H - own → room < getD totals q 0 →
+      candidates h figures placement i (q + 1) ≡ false
+  full totals q room w few e more = ap (candidates h figures placement i) (add-one q) ∙ past (suc q) (omega (arith, w .each q few))
 
-passes-with-requires : tie.Need-passes-with-requires Inv-loop μ-loop
-passes-with-requires c κs = search needs
+share-requires : tie.Need-share-requires Inv-loop μ-loop
+share-requires c κs = search needs
+
+add-result : tie.Need-add-result Inv-loop μ-loop
+add-result c = search needs
 
 returns : tie.Need-returns Inv-loop μ-loop
 returns c =
-    let s = c .before .before .before .before .before .before .before .before in
-    let at = c .before .before .before .loop in
-    finds (loadsOf (s .args .costs .now) (s .args .deadlines .now) (s .args .periods .now) (s .args .i)) (s .args .slot) (s .args .loss) (take (s .args .i) (s .args .server .now)) (loadAt (s .args .costs .now) (s .args .deadlines .now) (s .args .periods .now) (s .args .i))
-    (s .args .count) (at .q) (s .pre .1 .1) (at .inv .0) (at .inv .2) (omega (arith, c .before .before .loop-test .taken)) (sym (c .before .passes-with .ensures) ∙ c .if1 .taken)
+    let s = c .before .before .before .before .before in
+    add-one (s .args .count) ∙
+    sym
+    (join-none (candidates (s .args .header) (s .args .figures .now) (s .args .placement .now) (s .args .i)) (s .args .lo) (s .args .count)
+    (none-takes (s .args .header) (s .args .figures .now) (s .args .placement .now) (s .args .i) (s .args .horizon) (c .before .share .result) (s .pre .0)
+    (c .before .share .ensures) (c .if1 .taken) (s .args .lo) (s .args .count)))
+
+loop-holds : tie.Need-loop-holds Inv-loop μ-loop
+loop-holds c = (omega arith, λ x a b. absurd (omega arith))
 
 add-q : tie.Need-add-q Inv-loop μ-loop
-add-q c = omega arith
+add-q c = search needs
 
-loop-less : tie.Need-loop-less Inv-loop μ-loop
-loop-less c = omega arith
+mul-if2 : tie.Need-mul-if2 Inv-loop μ-loop
+mul-if2 c = search needs
 
-loop-again : tie.Need-loop-again Inv-loop μ-loop
-loop-again c =
+shared-slice-read-if2 : tie.Need-shared-slice-read-if2 Inv-loop μ-loop
+shared-slice-read-if2 c =
     let s = c .before .before .before .before .before .before .before .before in
-    let at = c .before .before .before .loop in (
-      omega arith,
-      omega (arith, c .before .before .loop-test .taken),
-      below-next (takes (loadsOf (s .args .costs .now) (s .args .deadlines .now) (s .args .periods .now) (s .args .i)) (s .args .slot) (s .args .loss) (take (s .args .i) (s .args .server .now)) (loadAt (s .args .costs .now) (s .args .deadlines .now) (s .args .periods .now) (s .args .i))) (at .q) (at .inv .2) (sym (c .before .passes-with .ensures) ∙ c .if1 .left),
-    )
+    omega (arith, c .before .loop-test .taken, s .pre .1 .0 .1, s .pre .1 .1 .room)
+
+takes-task-requires : tie.Need-takes-task-requires Inv-loop μ-loop
+takes-task-requires c κs = search needs
 
 returns-2 : tie.Need-returns-2 Inv-loop μ-loop
 returns-2 c =
-    let s = c .before .before .before .before .before .before in
+    let s = c .before .before .before .before .before .before .before .before .before .before .before in
+    let at = c .before .before .before .before .before .loop in
+    let test = c .before .before .before .before .loop-test in
+    sym
+    (join-first (candidates (s .args .header) (s .args .figures .now) (s .args .placement .now) (s .args .i)) (s .args .lo) (s .args .count) (at .q + 1)
+    (omega (arith, test .taken))
+    (record { above = omega (arith, at .inv .0); has = sym (c .before .takes-task .ensures) ∙ c .if3 .taken; before = λ x a b. at .inv .1 x a (omega arith) }))
+
+loop-less : tie.Need-loop-less Inv-loop μ-loop
+loop-less c = omega (arith, c .before .before .before .before .loop-test .taken)
+
+loop-again : tie.Need-loop-again Inv-loop μ-loop
+loop-again c =
+    let s = c .before .before .before .before .before .before .before .before .before .before .before in
+    let at = c .before .before .before .before .before .loop in
+    (omega (arith, at .inv .0), none-next (candidates (s .args .header) (s .args .figures .now) (s .args .placement .now) (s .args .i)) (s .args .lo) (at .q) (at .inv .1) (sym (c .before .takes-task .ensures) ∙ c .if3 .left))
+
+loop-less-2 : tie.Need-loop-less-2 Inv-loop μ-loop
+loop-less-2 c = omega (arith, c .before .before .loop-test .taken)
+
+loop-again-2 : tie.Need-loop-again-2 Inv-loop μ-loop
+loop-again-2 c =
+    let s = c .before .before .before .before .before .before .before .before .before in
+    let at = c .before .before .before .loop in
+    let share = c .before .before .before .before .before .share in
+    let more : s .args .horizon - share .result < getD (s .args .totals .now) (at .q) 0 = omega (arith, c .if2 .left) in (
+      omega (arith, at .inv .0),
+      none-next (candidates (s .args .header) (s .args .figures .now) (s .args .placement .now) (s .args .i)) (s .args .lo) (at .q) (at .inv .1)
+          (full (s .args .header) (s .args .figures .now) (s .args .placement .now) (s .args .i) (s .args .horizon) (share .result) (s .pre .0) (share .ensures)
+          (s .args .totals .now) (at .q) (s .args .horizon - share .result) (s .pre .1 .1) (omega (arith, c .before .before .loop-test .taken, s .pre .1 .0 .1)) refl more),
+    )
+
+add-result-2 : tie.Need-add-result-2 Inv-loop μ-loop
+add-result-2 c = search needs
+
+returns-3 : tie.Need-returns-3 Inv-loop μ-loop
+returns-3 c =
+    let s = c .before .before .before .before .before .before .before in
     let at = c .before .loop in
-    opens (loadsOf (s .args .costs .now) (s .args .deadlines .now) (s .args .periods .now) (s .args .i)) (s .args .slot) (s .args .loss) (take (s .args .i) (s .args .server .now)) (loadAt (s .args .costs .now) (s .args .deadlines .now) (s .args .periods .now) (s .args .i))
-    (s .args .count) (at .q) (s .pre .1 .1) (at .inv .0) (at .inv .2) (omega (arith, c .loop-test .left)) (at .inv .1)
+    add-one (s .args .count) ∙
+    sym
+    (join-none (candidates (s .args .header) (s .args .figures .now) (s .args .placement .now) (s .args .i)) (s .args .lo) (s .args .count)
+    (none-less (at .inv .1) (omega (arith, c .loop-test .left))))
 
 pub server-for-spec : {M : Type 1} → statement M
 server-for-spec =
@@ -85,10 +143,18 @@ server-for-spec =
     (tie.spec
     Inv-loop
     μ-loop
-    loop-holds
-    passes-with-requires
+    share-requires
+    add-result
     returns
+    loop-holds
     add-q
+    mul-if2
+    shared-slice-read-if2
+    takes-task-requires
+    returns-2
     loop-less
     loop-again
-    returns-2)
+    loop-less-2
+    loop-again-2
+    add-result-2
+    returns-3)

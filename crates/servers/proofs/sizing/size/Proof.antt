@@ -6,17 +6,17 @@ use borrow.Author.Needs.{needs}
 use native.Mathlib.Omega.{arith}
 use lib.ListN.{take}
 use Rattle.demand.specs.Load.{loadsOf}
-use Rattle.servers.specs.Reserve.{reserveIn}
 use Rattle.places.proofs.PaddedLaws.{Filled, filled-none, filled-next, filled-all}
+use Rattle.servers.specs.Reserve.{reserveIn}
 use Rattle.servers.proofs.sizing.size.Statement.{statement}
 use Rattle.servers.proofs.sizing.size.Tie as tie
 
 abbrev Inv-loop : tie.InvT-loop
-Inv-loop costs deadlines periods server n count slot loss horizon reserve₀ at₀ q₀ reserve at q =
-    (q ≤ count) × (at ≡ q) × Filled (reserveIn (loadsOf costs deadlines periods n) slot loss (take n server)) q reserve
+Inv-loop header figures placement n count horizon reserve₀ at₀ q₀ reserve at q =
+    (q ≤ count) × (at ≡ q) × Filled (reserveIn header (loadsOf figures n) (take n placement)) q reserve
 
 abbrev μ-loop : tie.MeasureT-loop
-μ-loop costs deadlines periods server n count slot loss horizon reserve₀ at₀ q₀ reserve at q = count - q
+μ-loop header figures placement n count horizon reserve₀ at₀ q₀ reserve at q = count - q
 
 loop-holds : tie.Need-loop-holds Inv-loop μ-loop
 loop-holds c = (omega arith, refl, filled-none _)

@@ -17,13 +17,17 @@ use Rattle.refusals.specs.declared.Outcome.the-variants.{Done}
 use Rattle.refusals.specs.First.{till}
 use Rattle.tasks.specs.declared.set.Task.{Task}
 use Rattle.tasks.specs.declared.set.TaskSet.{TaskSet}
-use Rattle.taskread.specs.declared.line.HeaderLine.{HeaderLine}
-use Rattle.taskread.specs.declared.line.TaskLine.{TaskLine}
+use Rattle.headerline.specs.declared.HeaderLine.{HeaderLine}
+use Rattle.taskline.specs.declared.TaskLine.{TaskLine}
 use Rattle.tasks.specs.Set.{mostTasks}
-use Rattle.taskread.specs.File.{lineOutcome, headerAt, taskAt}
-use Rattle.taskread.specs.Shape.{Taken, headerOr, taskOr, ofHeader, ofTask}
+use Rattle.taskfile.specs.File.{lineOutcome, headerAt, taskAt}
+use Rattle.taskfile.specs.Taken.{Taken}
+use Rattle.headerline.specs.Answer.{headerOr, ofHeader}
+use Rattle.taskline.specs.Answer.{taskOr, ofTask}
 use Rattle.taskread.specs.Read.{answer}
-use Rattle.taskread.proofs.Reading.{Held, held-few, of-header, of-task, header-refused, task-refused, reads-line, held-header, held-task, task-room, ended-all, ended-none}
+use Rattle.taskread.proofs.Reading.{Held, held-few, reads-line, held-header, held-task, task-room, ended-all, ended-none}
+use Rattle.headerline.proofs.Answers.{of-header, header-refused}
+use Rattle.taskline.proofs.Answers.{of-task, task-refused}
 use Rattle.taskread.proofs.read.read.Statement.{statement}
 use Rattle.taskread.proofs.read.read.Tie as tie
 

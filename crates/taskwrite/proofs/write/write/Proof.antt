@@ -9,10 +9,11 @@ use lib.ListN.{length, length-map}
 use Rattle.refusals.specs.declared.Refusal.the-variants.{Ask, Room}
 use Rattle.refusals.specs.declared.Written.the-variants.{Bytes, Refused}
 use Rattle.tasks.specs.Set.{mostTasks}
-use Rattle.taskwrite.specs.Write.{textOf, writerAsks}
-use Rattle.tasks.proofs.Carried.{ask-count, count-within}
+use Rattle.tasktext.specs.Text.{textOf}
+use Rattle.taskwrite.specs.Write.{writerAsks}
+use Rattle.taskask.proofs.Carried.{ask-count, count-within}
 use Rattle.taskwrite.proofs.WriteAsks.{writer-ask, write-ask, write-room, write-bytes, answered}
-use Rattle.taskwrite.proofs.WriteText.{text-bytes}
+use Rattle.tasktext.proofs.TextLaws.{text-bytes}
 use Rattle.taskwrite.proofs.write.write.Statement.{statement}
 use Rattle.taskwrite.proofs.write.write.Tie as tie
 

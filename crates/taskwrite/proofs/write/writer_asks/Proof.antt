@@ -6,8 +6,8 @@ use mathlib.Core.Bool.{not}
 use lib.Dec.{eqb}
 use borrow.Author.Needs.{needs}
 use Rattle.tasks.specs.Set.{members}
-use Rattle.tasks.specs.Rows.{rangeRow}
-use Rattle.tasks.proofs.Carried.{ask-count, count-within}
+use Rattle.taskrows.specs.Rows.{rangeRow}
+use Rattle.taskask.proofs.Carried.{ask-count, count-within}
 use Rattle.taskwrite.proofs.WriteAsks.{first-some, writer-rows}
 use Rattle.taskwrite.proofs.write.writer_asks.Statement.{statement}
 use Rattle.taskwrite.proofs.write.writer_asks.Tie as tie

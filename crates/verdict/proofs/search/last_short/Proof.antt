@@ -1,25 +1,30 @@
 -- `last_short` meets its contract. The loop's invariant: `supply` is the supply at t, and no length above t is short.
 -- The measure is t. Assumes nothing.
-use Prim.Native.Nat.{_+_, _-_, _^_, _<_}
+use Prim.Native.Nat.{ℕ, _+_, _-_, _^_, _<_}
 use native.Mathlib.Omega.{arith}
 use borrow.Author.Needs.{needs}
-use mathlib.Core.List.{List}
-use Rattle.demand.specs.Load.{Load, loadsOf}
+use Rattle.demand.specs.Load.{loadsOf}
+use Rattle.demand.specs.Demand.{demand}
+use Rattle.demand.specs.Lawful.{Rising}
 use Rattle.demand.proofs.Demand.{demand-room}
+use Rattle.demand.proofs.Claims.{loads-lawful}
 use Rattle.verdict.proofs.Reach.{lastWith}
 use Rattle.verdict.proofs.Descent.{Descended, descent-starts, descent-finds, descent-ends, descent-clears, descent-next}
 use Rattle.verdict.proofs.search.last_short.Statement.{statement}
 use Rattle.verdict.proofs.search.last_short.Tie as tie
 
 abbrev Inv-loop : tie.InvT-loop
-Inv-loop costs deadlines periods n slot gap extra hi usable t₀ supply₀ t supply = Descended (loadsOf costs deadlines periods n) slot gap extra hi t supply
+Inv-loop loads n slot gap extra hi usable t₀ supply₀ t supply = Descended (demand (loadsOf loads n)) slot gap extra hi t supply
 
 abbrev μ-loop : tie.MeasureT-loop
-μ-loop costs deadlines periods n slot gap extra hi usable t₀ supply₀ t supply = t
+μ-loop loads n slot gap extra hi usable t₀ supply₀ t supply = t
 
--- the server's loads
-abbrev loads : tie.Start Inv-loop μ-loop → List Load
-loads s = loadsOf (s .args .costs .now) (s .args .deadlines .now) (s .args .periods .now) (s .args .n)
+-- the demand of the loads, and why it never falls
+abbrev asked : tie.Start Inv-loop μ-loop → ℕ → ℕ
+asked s = demand (loadsOf (s .args .loads .now) (s .args .n))
+
+rising : (s : tie.Start Inv-loop μ-loop) → Rising (asked s)
+rising s = loads-lawful .rising (loadsOf (s .args .loads .now) (s .args .n)) (s .pre .0 .sound)
 
 sub-usable : tie.Need-sub-usable Inv-loop μ-loop
 sub-usable c = omega arith
@@ -35,9 +40,9 @@ demand-at-requires c κs = search needs
 
 add-w : tie.Need-add-w Inv-loop μ-loop
 add-w c =
-    let s = c .before .before .before .before .before .before .before in
+    let s = c .before .before .before .before .before in
     let a = s .args in
-    let room = demand-room (a .costs .now) (a .deadlines .now) (a .periods .now) (a .n) (a .n) (c .before .before .loop .t) (s .pre .0) (omega arith) in
+    let room = demand-room (a .loads .now) (a .n) (a .n) (c .before .before .loop .t) (s .pre .0) (omega arith) (omega arith) in
     omega (arith, c .demand-at .ensures, room)
 
 returns : tie.Need-returns Inv-loop μ-loop
@@ -47,28 +52,28 @@ returns c =
 
 returns-2 : tie.Need-returns-2 Inv-loop μ-loop
 returns-2 c =
-    let s = c .before .before .before .before .before .before .before .before .before in
-    descent-clears (s .pre .0 .sound) (c .before .before .before .before .loop .inv) (omega (arith, c .if2 .taken, c .before .before .demand-at .ensures))
+    let s = c .before .before .before .before .before .before .before in
+    descent-clears (rising s) (c .before .before .before .before .loop .inv) (omega (arith, c .if2 .taken, c .before .before .demand-at .ensures))
 
 sub-supply : tie.Need-sub-supply Inv-loop μ-loop
 sub-supply c = omega arith
 
 -- the turn's jump
 next : (c : tie.Else2 Inv-loop μ-loop) →
-    let s = c .before .before .before .before .before .before .before .before .before in
+    let s = c .before .before .before .before .before .before .before in
     let v = c .before .before .demand-at .result + s .args .extra - 1 in
-    Descended (loads s) (s .args .slot) (s .args .gap) (s .args .extra) (s .args .hi) (lastWith (s .args .slot) (s .args .gap) v) v
+    Descended (asked s) (s .args .slot) (s .args .gap) (s .args .extra) (s .args .hi) (lastWith (s .args .slot) (s .args .gap) v) v
     × (lastWith (s .args .slot) (s .args .gap) v < c .before .before .before .before .loop .t)
 next c =
-    let s = c .before .before .before .before .before .before .before .before .before in
+    let s = c .before .before .before .before .before .before .before in
     let w = c .before .before .demand-at in
-    descent-next (s .pre .0 .sound) (c .before .before .before .before .loop .inv) (w .result + s .args .extra) (s .pre .1 .usable) (omega (arith, w .ensures)) (c .if2 .left) (c .before .if1 .left)
+    descent-next (rising s) (c .before .before .before .before .loop .inv) (w .result + s .args .extra) (s .pre .1 .usable) (omega (arith, w .ensures)) (c .if2 .left) (c .before .if1 .left)
 
 -- so the sums and products on the way fit
 room : (c : tie.Else2 Inv-loop μ-loop) →
-    let s = c .before .before .before .before .before .before .before .before .before in
-    lastWith (s .args .slot) (s .args .gap) (c .before .before .demand-at .result + s .args .extra - 1) < 2 ^ 48
-room c = omega (arith, next c .1, c .before .before .before .before .loop .inv .within, c .before .before .before .before .before .before .before .before .before .pre .1 .small)
+    let s = c .before .before .before .before .before .before .before in
+    lastWith (s .args .slot) (s .args .gap) (c .before .before .demand-at .result + s .args .extra - 1) < 2 ^ 36
+room c = omega (arith, next c .1, c .before .before .before .before .loop .inv .within, c .before .before .before .before .before .before .before .pre .1 .small)
 
 div-t : tie.Need-div-t Inv-loop μ-loop
 div-t c = omega arith

@@ -1,0 +1,98 @@
+-- `header_line` meets its contract: what line 1 is, and what it then answers.
+use mathlib.Core.Path.{_≡_, sym, ap, _∙_}
+use mathlib.Core.Bool.{true, false}
+use mathlib.Core.List.{List, [], _∷_}
+use Prim.Native.Nat.{ℕ, _≤_}
+use native.Mathlib.Omega.{arith}
+use denote.Ref.{now}
+use lib.ListN.{length}
+use Rattle.frames.specs.Line.{formed, kindAt}
+use Rattle.frames.specs.declared.table.Frame.{Frame}
+use Rattle.frames.specs.declared.line.Found.{Found}
+use Rattle.refusals.specs.declared.Outcome.{Outcome}
+use Rattle.headerline.specs.declared.HeaderLine.{HeaderLine}
+use Rattle.taskfile.specs.File.{lineOutcome, headerAt, empty}
+use Rattle.headerline.specs.Answer.{headerOr}
+use Rattle.frames.proofs.KindLaws.{kind-formed, kind-none}
+use Rattle.taskfile.proofs.Past.{nothing-left}
+use Rattle.taskfile.proofs.Lines.{first-missing, first-header, first-task, first-other}
+use Rattle.taskfile.proofs.Standing.{byte-there, other-frame}
+use borrow.Author.Needs.{needs}
+use Rattle.headerline.proofs.header_line.Statement.{statement}
+use Rattle.headerline.proofs.header_line.Tie as tie
+
+-- the answer for an outcome of the line
+abbrev given : List ℕ → Outcome → HeaderLine
+given text o = headerOr o (headerAt text)
+
+returns : tie.Need-returns
+returns c =
+    let text : List ℕ = now (c .before .before .args .text) in
+    sym (ap (given text) (ap (λ (l : List ℕ). lineOutcome l 1) (nothing-left text (omega (arith, c .if1 .taken))) ∙ first-missing))
+
+kind-at-requires : tie.Need-kind-at-requires
+kind-at-requires c κs = search needs
+
+enum-known-found : tie.Need-enum-known-found
+enum-known-found c = search needs
+
+enum-told : tie.Need-enum-told
+enum-told c = search needs
+
+-- the first byte is there
+there : (c : tie.Else1) → empty (now (c .before .before .args .text)) ≡ false
+there c = byte-there 0 (now (c .before .before .args .text)) (omega (arith, c .if1 .left))
+
+returns-2 : tie.Need-returns-2
+returns-2 c =
+    let text : List ℕ = now (c .before .before .before .before .before .args .text) in
+    let nothing : kindAt text ≡ Found.Nothing = sym (c .before .before .kind-at .ensures) ∙ c .enum-told .given .1 in
+    sym (ap (given text) (first-other text (there (c .before .before .before)) (kind-none text nothing Frame.Header) (kind-none text nothing Frame.Task)))
+
+enum-told-2 : tie.Need-enum-told-2
+enum-told-2 c = search needs
+
+-- the frame that was found is formed
+is-formed : (c : tie.After-known-told) → formed (c .before .found .given .0 .0) (now (c .before .before .before .before .before .before .args .text)) ≡ true
+is-formed c =
+    kind-formed (c .before .found .given .0 .0) (now (c .before .before .before .before .before .before .args .text)) (sym (c .before .before .before .kind-at .ensures) ∙ c .before .found .given .1)
+
+header-at-requires : tie.Need-header-at-requires
+header-at-requires c κs = ap (λ (f : Frame). formed f (now (c .before .before .before .before .before .before .before .before .args .text))) (sym (c .enum-told2 .given .1)) ∙ is-formed (c .before .before)
+
+enum-told-3 : tie.Need-enum-told-3
+enum-told-3 c = search needs
+
+returns-3 : tie.Need-returns-3
+returns-3 c =
+    let text : List ℕ = now (c .before .before .before .before .before .before .before .before .before .args .text) in
+    let header : formed Frame.Header text ≡ true = ap (λ (f : Frame). formed f text) (sym (c .before .enum-told2 .given .1)) ∙ is-formed (c .before .before .before) in
+    ap HeaderLine.Header (c .header-at .ensures) ∙ sym (ap (given text) (first-header text header))
+
+returns-4 : tie.Need-returns-4
+returns-4 c =
+    let text : List ℕ = now (c .before .before .before .before .before .before .before .before .args .text) in
+    let task : formed Frame.Task text ≡ true = ap (λ (f : Frame). formed f text) (sym (c .enum-told3 .given .1)) ∙ is-formed (c .before .before) in
+    sym (ap (given text) (first-task text task))
+
+returns-5 : tie.Need-returns-5
+returns-5 c =
+    let text : List ℕ = now (c .before .before .before .before .before .before .before .args .text) in
+    let other = other-frame (c .before .before .found .given .0 .0) text (c .match2 .keys3) (is-formed (c .before)) in
+    sym (ap (given text) (first-other text (there (c .before .before .before .before .before)) (other .0) (other .1)))
+
+pub header-line-spec : {M : Type 1} → statement M
+header-line-spec =
+    tie.close
+    (tie.spec
+    returns
+    kind-at-requires
+    enum-known-found
+    enum-told
+    returns-2
+    enum-told-2
+    header-at-requires
+    enum-told-3
+    returns-3
+    returns-4
+    returns-5)

@@ -1,0 +1,34 @@
+-- `rows::breaks` meets its contract: the row that is named is tried.
+-- Assumes nothing.
+use borrow.Author.Needs.{needs}
+use mathlib.Core.Path.{_≡_, refl, sym, ap, _∙_}
+use mathlib.Core.Bool.{Bool}
+use Rattle.rows.specs.declared.rows.TaskRow.{TaskRow}
+use Rattle.rows.specs.Rows.{slotRow, rowOf}
+use Rattle.rows.proofs.rows.breaks.Statement.{statement}
+use Rattle.rows.proofs.rows.breaks.Tie as tie
+
+enum-told : tie.Need-enum-told
+enum-told c = search needs
+
+enum-told-2 : tie.Need-enum-told-2
+enum-told-2 c = search needs
+
+breaks-tight-requires : tie.Need-breaks-tight-requires
+breaks-tight-requires c κs = search needs
+
+returns : tie.Need-returns
+unfolding slotRow
+returns c =
+    let told = c .before .before in
+    let a = told .before .before .args in
+    sym (ap (λ (r : TaskRow). rowOf r (a .header) (a .task)) (told .enum-told .given .1))
+
+returns-2 : tie.Need-returns-2
+returns-2 c =
+    let told = c .before in
+    let a = told .before .before .args in
+    c .breaks-tight .ensures ∙ sym (ap (λ (r : TaskRow). rowOf r (a .header) (a .task)) (told .enum-told2 .given .1))
+
+pub breaks-spec : {M : Type 1} → statement M
+breaks-spec = tie.close (tie.spec enum-told enum-told-2 breaks-tight-requires returns returns-2)

@@ -1,0 +1,102 @@
+-- Laws of a server's total: one task more, a row of totals while tasks are placed, and servers that cannot take a task.
+use Prim.Native.Nat.{ℕ, suc, _+_, _-_, _≤_, _<_, _∣_, max}
+use native.Mathlib.Omega.{arith}
+use native.Mathlib.Decide.{ℕ-discrete}
+use mathlib.Core.Path.{_≡_, refl, sym, ap, _∙_}
+use mathlib.Core.Bool.{true, false}
+use mathlib.Core.Logic.{_⊎_, inl, inr, ⊎-elim}
+use mathlib.Core.List.{List, [], _∷_, _++_, map, map-append}
+use lib.ListN.{length, getD, set, replicate, length-replicate, length-set, getD-replicate}
+use lib.Seq.{getD-set-same, getD-set-other}
+use Rattle.laws.proofs.Orders.{le-or-lt}
+use Rattle.laws.proofs.Tests.{true-false}
+use Rattle.demand.specs.Load.{Load, Every}
+use Rattle.demand.proofs.Demand.{every-snoc, every-front, every-last}
+use Rattle.tasks.specs.declared.set.Header.{Header}
+use Rattle.tasks.specs.Set.{mostTasks}
+use Rattle.places.specs.Places.{chosen}
+use Rattle.places.proofs.PlacesLaws.{in-joined, in-apart}
+use Rattle.members.specs.Charge.{cacheOf, chargedIn, serverLoads, Member}
+use Rattle.members.specs.Server.{fits, totalOf}
+use Rattle.servers.specs.Placement.{serversIn, takes}
+use Rattle.servers.specs.Totals.{totalIn, Totals}
+use Rattle.servers.specs.Claims.{TakesOrNew}
+use Rattle.members.proofs.ServerLaws.{total-fails}
+use Rattle.servers.proofs.FittingLaws.{in-none, every-chosen, members-with}
+
+-- the totals of two parts add up
+total-append : (H : ℕ) (ls ks : List Load) → totalOf H (ls ++ ks) ≡ totalOf H ls + totalOf H ks
+unfolding totalOf
+total-append H [] ks = omega arith
+total-append H (l ∷ ls) ks = omega (arith, total-append H ls ks)
+
+-- a task more adds its share
+pub total-more : (h : Header) (H : ℕ) (members : List Load) (l : Load) → totalIn h H (members ++ (l ∷ [])) ≡ totalIn h H members + totalIn h H (l ∷ [])
+unfolding serverLoads cacheOf
+total-more h H members l =
+    ap (totalOf H) (map-append (chargedIn h (h .cpmdo)) members (l ∷ [])) ∙
+    total-append H (map (chargedIn h (h .cpmdo)) members) (chargedIn h (h .cpmdo) l ∷ [])
+
+-- no task asks for nothing
+total-none : (h : Header) (H : ℕ) → totalIn h H [] ≡ 0
+unfolding serverLoads totalOf
+total-none h H = refl
+
+-- ---- the row
+
+-- no task yet
+pub totals-none : (h : Header) (H : ℕ) → Totals h H [] [] (replicate mostTasks 0)
+unfolding chosen serverLoads totalOf
+totals-none h H = record { room = length-replicate {A = ℕ} mostTasks 0; each = λ k g. getD-replicate mostTasks k 0 0 g }
+
+-- a task more in server q: its share is added there
+pub totals-next : {h : Header} {H : ℕ} {done : List Load} {placement totals : List ℕ} (l : Load) {q at v : ℕ} →
+    Totals h H done placement totals → length placement ≡ length done → 1 ≤ q → q ≤ mostTasks → at ≡ q - 1 →
+    v ≡ getD totals at 0 + totalIn h H (l ∷ []) →
+    Totals h H (done ++ (l ∷ [])) (placement ++ (q ∷ [])) (set totals at v)
+totals-next {h} {H} {done} {placement} {totals} l {q} {at} {v} w even first few here sum =
+    record { room = length-set totals at v ∙ w .room; each = each }
+  where
+    each : (k : ℕ) → k < mostTasks → getD (set totals at v) k 0 ≡ totalIn h H (chosen (done ++ (l ∷ [])) (placement ++ (q ∷ [])) (suc k))
+    each k g = by (ℕ-discrete at k)
+      where
+        by : Dec (at ≡ k) → getD (set totals at v) k 0 ≡ totalIn h H (chosen (done ++ (l ∷ [])) (placement ++ (q ∷ [])) (suc k))
+        by (yes e) =
+            let own : q ≡ suc k = omega arith in
+            ap (λ (j : ℕ). getD (set totals at v) j 0) (sym e) ∙ getD-set-same totals at v 0 (omega (arith, w .room)) ∙ sum ∙
+            ap (λ (t : ℕ). t + totalIn h H (l ∷ [])) (ap (λ (j : ℕ). getD totals j 0) e ∙ w .each k g) ∙
+            sym (total-more h H (chosen done placement (suc k)) l) ∙
+            ap (totalIn h H) (sym (in-joined done placement l q (suc k) even own))
+        by (no n) =
+            let apart : q ≡ suc k → ⊥ = λ (e : q ≡ suc k). n (omega arith) in
+            getD-set-other totals at k v 0 (λ (e : k ≡ at). n (sym e)) ∙ w .each k g ∙ ap (totalIn h H) (sym (in-apart done placement l q (suc k) even apart))
+
+-- ---- a server whose total leaves no room for the task's share does not take it
+
+module _ (h : Header) (H : ℕ) (done : List Load) (placement : List ℕ) (l : Load) (q : ℕ) (some : 1 ≤ h .slot) (positive : 1 ≤ H)
+    (members : Every (Member h) (done ++ (l ∷ []))) (periods : Every (λ (k : Load). k .period ∣ H) (done ++ (l ∷ []))) where
+  periods-with : Every (λ (k : Load). k .period ∣ H) (chosen done placement q ++ (l ∷ []))
+  periods-with =
+      every-snoc (λ (k : Load). k .period ∣ H) (chosen done placement q) l
+      (every-chosen (λ (k : Load). k .period ∣ H) done placement q (every-front (λ (k : Load). k .period ∣ H) done l periods))
+      (every-last (λ (k : Load). k .period ∣ H) done l periods)
+
+  pub no-room : H < totalIn h H (chosen done placement q) + totalIn h H (l ∷ []) → takes h done placement l q ≡ false
+  unfolding takes
+  no-room above =
+      total-fails h (chosen done placement q ++ (l ∷ [])) (members-with h done placement l members q) some H positive periods-with
+      (omega (arith, total-more h H (chosen done placement q) l))
+
+  -- the total of the server that the task joins is within the horizon, or it is the task's share
+  pub joined-total : TakesOrNew h done placement l q →
+      totalIn h H (chosen done placement q) + totalIn h H (l ∷ []) ≤ max H (totalIn h H (l ∷ []))
+  joined-total o = ⊎-elim (λ w. took (w .2) (le-or-lt (totalIn h H (chosen done placement q) + totalIn h H (l ∷ [])) H)) opened o
+    where
+      took : takes h done placement l q ≡ true →
+          (totalIn h H (chosen done placement q) + totalIn h H (l ∷ []) ≤ H) ⊎ (H < totalIn h H (chosen done placement q) + totalIn h H (l ∷ [])) →
+          totalIn h H (chosen done placement q) + totalIn h H (l ∷ []) ≤ max H (totalIn h H (l ∷ []))
+      took t (inl within) = omega arith
+      took t (inr above) = true-false (sym t ∙ no-room above)
+
+      opened : q ≡ suc (serversIn placement) → totalIn h H (chosen done placement q) + totalIn h H (l ∷ []) ≤ max H (totalIn h H (l ∷ []))
+      opened e = omega (arith, ap (totalIn h H) (in-none done placement q (omega arith)), total-none h H)

@@ -1,0 +1,33 @@
+-- `task_overflows` meets its contract: the line's values are tested.
+-- Assumes nothing.
+use Prim.Native.Nat.{ℕ, _≤_}
+use native.Mathlib.Omega.{arith}
+use mathlib.Core.List.{List}
+use mathlib.Core.Path.{_≡_, sym, _∙_, ap}
+use lib.ListN.{length}
+use borrow.Author.Needs.{needs}
+use Rattle.frames.specs.Line.{lineOverflows}
+use Rattle.frames.specs.Table.{widthsOf, fieldsIn}
+use Rattle.frames.specs.declared.table.Frame.{Frame}
+use Rattle.taskask.specs.Ask.{taskOverflows}
+use Rattle.taskask.proofs.task_overflows.Statement.{statement}
+use Rattle.taskask.proofs.task_overflows.Tie as tie
+
+task-values-requires : tie.Need-task-values-requires
+task-values-requires c κs = search needs
+
+slice-aggregate-overflows : tie.Need-slice-aggregate-overflows
+slice-aggregate-overflows c = search needs
+
+overflows-requires : tie.Need-overflows-requires
+unfolding widthsOf
+overflows-requires c κs = omega (arith, ap length (c .before .task-values .ensures))
+
+returns : tie.Need-returns
+unfolding taskOverflows
+returns c = c .overflows .ensures ∙ ap (lineOverflows Frame.Task) (c .before .before .task-values .ensures)
+
+pub task-overflows-spec : {M : Type 1} → statement M
+task-overflows-spec =
+    tie.close
+    (tie.spec task-values-requires slice-aggregate-overflows overflows-requires returns)

@@ -1,0 +1,35 @@
+-- Row 11 of a task set, with rows 3 and 4 of a set's figures.
+-- Document 01, "Refusal numbers and their order", rows 3, 4 and 11.
+use mathlib.Core.List.{List, [], _∷_}
+use mathlib.Core.Bool.{Bool, false, _||_}
+use lib.Dec.{ltb, eqb}
+use Rattle.frames.specs.Line.{lineOverflows}
+use Rattle.frames.specs.declared.table.Frame.{Frame}
+use Rattle.tasks.specs.declared.set.Header.{Header}
+use Rattle.tasks.specs.declared.set.Task.{Task}
+use Rattle.tasks.specs.declared.set.TaskSet.{TaskSet}
+use Rattle.tasks.specs.Set.{mostTasks, members, hasId}
+use Rattle.tasks.specs.Values.{headerValues, taskValues}
+use Rattle.tasks.specs.Search.{some}
+
+-- 3 COUNT: no task, or a 65th
+unfoldable pub countRow : TaskSet → Bool
+countRow set = eqb (set .count) 0 || ltb mostTasks (set .count)
+
+-- 4 TWICE: an id repeats
+unfoldable pub twiceRow : List Task → Bool
+twiceRow [] = false
+twiceRow (t ∷ ts) = some (hasId (t .id)) ts || twiceRow ts
+
+-- a figure of a header or of a task is too large for its field
+unfoldable pub headerOverflows : Header → Bool
+headerOverflows h = lineOverflows Frame.Header (headerValues h)
+
+unfoldable pub taskOverflows : Task → Bool
+taskOverflows t = lineOverflows Frame.Task (taskValues t)
+
+-- 11 ASK of a set: it breaks row 3 or 4, or holds what no file's lines can carry
+unfoldable pub askRow : TaskSet → Bool
+askRow set =
+    countRow set ||
+    (twiceRow (members set) || (headerOverflows (set .header) || some taskOverflows (members set)))

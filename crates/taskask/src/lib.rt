@@ -1,0 +1,107 @@
+// Row 11 of a task set: it breaks row 3 or 4, or holds what no file's lines can carry.
+// The planner and the task writer ask it first of any set that a caller built.
+use frames::table::Frame;
+use frames::table::overflows;
+use tasks::set::Header;
+use tasks::set::Task;
+use tasks::set::TaskSet;
+use tasks::values::header_values;
+use tasks::values::task_values;
+ghost use mathlib.Core.Path.{_≡_};
+ghost use Prim.Native.Nat.{_+_, _<_, _≤_};
+ghost use lib.ListN.{drop, getD};
+ghost use Rattle.tasks.specs.Set.{members, mostTasks, zeroTask, hasId};
+ghost use Rattle.tasks.specs.Search.{some};
+ghost use Rattle.taskask.specs.Ask.{countRow, twiceRow, headerOverflows, taskOverflows, askRow};
+
+// 3 COUNT.
+pub fn breaks_count(set: TaskSet) -> bool
+    ensures { λ r. ⌜ r ≡ countRow set ⌝ }
+{
+    if set.count == 0 {
+        return true;
+    }
+    TaskSet::MOST_TASKS < set.count
+}
+
+// Whether a task after place `i`, counted from 0, has the id of the one there.
+fn repeats_later(set: TaskSet, i: usize) -> bool
+    requires { ⌜ (set .count ≤ mostTasks) × (i < set .count) ⌝ }
+    ensures { λ r. ⌜ r ≡ some (hasId (getD (set .tasks) i zeroTask .id)) (drop (i + 1) (members set)) ⌝ }
+{
+    let id = set.tasks[i].id;
+    let count = set.count;
+    let mut j = i + 1;
+    while j < count {
+        if set.tasks[j].id == id {
+            return true;
+        }
+        j += 1;
+    }
+    false
+}
+
+// 4 TWICE.
+pub fn breaks_twice(set: TaskSet) -> bool
+    requires { ⌜ set .count ≤ mostTasks ⌝ }
+    ensures { λ r. ⌜ r ≡ twiceRow (members set) ⌝ }
+{
+    let count = set.count;
+    let mut i = 0;
+    while i < count {
+        if repeats_later(set, i) {
+            return true;
+        }
+        i += 1;
+    }
+    false
+}
+
+// A figure of the header is too large for its field.
+fn header_overflows(header: Header) -> bool
+    ensures { λ r. ⌜ r ≡ headerOverflows header ⌝ }
+{
+    let values = header_values(header);
+    overflows(Frame::Header, &values)
+}
+
+// A figure of the task is too large for its field.
+fn task_overflows(task: Task) -> bool
+    ensures { λ r. ⌜ r ≡ taskOverflows task ⌝ }
+{
+    let values = task_values(task);
+    overflows(Frame::Task, &values)
+}
+
+fn tasks_overflow(set: TaskSet) -> bool
+    requires { ⌜ set .count ≤ mostTasks ⌝ }
+    ensures { λ r. ⌜ r ≡ some taskOverflows (members set) ⌝ }
+{
+    let count = set.count;
+    let mut i = 0;
+    while i < count {
+        let task = set.tasks[i];
+        if task_overflows(task) {
+            return true;
+        }
+        i += 1;
+    }
+    false
+}
+
+// 11 ASK of a set.
+pub fn asks(set: TaskSet) -> bool
+    ensures { λ r. ⌜ r ≡ askRow set ⌝ }
+{
+    if breaks_count(set) {
+        return true;
+    }
+    if breaks_twice(set) {
+        return true;
+    }
+    let header = set.header;
+    if header_overflows(header) {
+        return true;
+    }
+    tasks_overflow(set)
+}

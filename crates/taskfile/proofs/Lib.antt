@@ -1,0 +1,4 @@
+pub mod Past
+pub mod AmongLaws
+pub mod Lines
+pub mod Standing

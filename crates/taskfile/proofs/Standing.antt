@@ -1,0 +1,86 @@
+-- What the reader learns at the cursor, after some lines.
+-- Assumes nothing.
+use Prim.Native.Nat.{ℕ, zero, suc, _+_, _<_, _^_}
+use native.Mathlib.Omega.{arith}
+use native.Mathlib.Numerals.{add-one}
+use mathlib.Core.List.{List, [], _∷_, map}
+use mathlib.Core.Bool.{Bool, true, false, _||_}
+use mathlib.Core.Path.{_≡_, refl, sym, _∙_, ap, subst}
+use lib.ListN.{length, drop, length-map}
+use lib.Dec.{eqb}
+use borrow.Author.Tests.{eq-eqb, ne-eqb}
+use Rattle.frames.specs.Line.{formed, fieldOf}
+use types.Run.{OneOf, miss}
+use denote.Enum.Declared.{tagOf}
+use Rattle.frames.proofs.table.Frame.{the-type}
+use Rattle.frames.specs.Table.{widthOf, indexOf, allFrames}
+use Rattle.frames.proofs.KindLaws.{not-formed}
+use Rattle.frames.specs.declared.table.Frame.{Frame}
+use Rattle.refusals.specs.declared.Refusal.the-variants.{Line, Order, Count, Twice}
+use Rattle.refusals.specs.declared.Outcome.the-variants.{Refused}
+use Rattle.refusals.specs.First.{firstOf, when}
+use Rattle.frames.proofs.Formed.{field-below}
+use Rattle.tasks.specs.declared.set.Task.{Task}
+use Rattle.tasks.specs.Set.{mostTasks, hasId}
+use Rattle.tasks.specs.Search.{some}
+use Rattle.taskfile.specs.File.{past, empty, lineOutcome, tasksAmong, taskAt}
+use Rattle.taskfile.specs.Taken.{Taken, idsOf}
+use Rattle.taskfile.proofs.Lines.{line-other, later-header, later-task}
+
+-- a number that is a field of a formed line is below its width's power of 16
+pub field-within : (frame : Frame) (k x : ℕ) (text : List ℕ) → formed frame text ≡ true → x ≡ fieldOf frame k text → x < 16 ^ widthOf frame k
+field-within frame k x text f e = subst (λ (n : ℕ). n < 16 ^ widthOf frame k) (sym e) (field-below frame text f k)
+
+-- a place within a text is followed by a byte
+pub byte-there : (at : ℕ) (text : List ℕ) → at < length text → empty (drop at text) ≡ false
+byte-there at [] lt = absurd (omega arith)
+byte-there zero (b ∷ bs) lt = refl
+byte-there (suc at) (b ∷ bs) lt = byte-there at bs (omega arith)
+
+-- a frame's tag is its index in the table
+tag-index : (frame : Frame) → tagOf the-type frame ≡ indexOf frame
+tag-index Frame.Header = refl
+tag-index Frame.Task = refl
+tag-index Frame.Plan = refl
+tag-index Frame.Server = refl
+tag-index Frame.Placed = refl
+tag-index Frame.Processor = refl
+tag-index Frame.Refused = refl
+
+-- the tags of the frames that are none of a task file's
+abbrev otherTags : List ℕ
+otherTags = drop 2 (map indexOf allFrames)
+
+-- a line of such a frame is neither an 01 nor an 02 line
+pub other-frame : (frame : Frame) (text : List ℕ) → OneOf otherTags (tagOf the-type frame) → formed frame text ≡ true → (formed Frame.Header text ≡ false) × (formed Frame.Task text ≡ false)
+other-frame frame text o f = (
+  not-formed frame Frame.Header (ne-eqb (indexOf frame) 0 (λ (e : indexOf frame ≡ 0). miss otherTags 0 tt (subst (OneOf otherTags) (tag-index frame ∙ e) o))) text f,
+  not-formed frame Frame.Task (ne-eqb (indexOf frame) 1 (λ (e : indexOf frame ≡ 1). miss otherTags 1 tt (subst (OneOf otherTags) (tag-index frame ∙ e) o))) text f,
+)
+
+-- an id is among tasks' ids exactly if a task has it
+pub some-ids : (id : ℕ) (ts : List Task) → some (λ i. eqb i id) (idsOf ts) ≡ some (hasId id) ts
+unfolding some
+some-ids id [] = refl
+some-ids id (t ∷ ts) = ap (λ (b : Bool). eqb (t .id) id || b) (some-ids id ts)
+
+module _ {text : List ℕ} {k at : ℕ} (taken : Taken text k at) where
+  pub said-line : at < length text → formed Frame.Header (drop at text) ≡ false → formed Frame.Task (drop at text) ≡ false → lineOutcome text (k + 1) ≡ Refused (Line (k + 1))
+  said-line lt header task =
+      rw (add-one k)
+      (line-other text k (ap empty (taken .rest) ∙ byte-there at text lt) (ap (formed Frame.Header) (taken .rest) ∙ header) (ap (formed Frame.Task) (taken .rest) ∙ task))
+
+  pub said-order : formed Frame.Header (drop at text) ≡ true → lineOutcome text (k + 1) ≡ Refused (Order (k + 1))
+  said-order e = rw (add-one k) (later-header text k (taken .some-line) (ap (formed Frame.Header) (taken .rest) ∙ e))
+
+  module _ (task : formed Frame.Task (drop at text) ≡ true) (ids : List ℕ) (held : ids ≡ idsOf (tasksAmong text k)) where
+    said-task : lineOutcome text (k + 1) ≡ firstOf (when (eqb (length ids) mostTasks) (Count (k + 1))) (when (some (λ i. eqb i (taskAt (drop at text) .id)) ids) (Twice (k + 1)))
+    said-task =
+        rw (add-one k, held, some-ids (taskAt (drop at text) .id) (tasksAmong text k), length-map, ← taken .rest)
+        (later-task text k (taken .some-line) (ap (formed Frame.Task) (taken .rest) ∙ task))
+
+    pub said-count : length ids ≡ mostTasks → lineOutcome text (k + 1) ≡ Refused (Count (k + 1))
+    said-count full = rw (eq-eqb (length ids) mostTasks full) at said-task
+
+    pub said-twice : (length ids ≡ mostTasks → ⊥) → (b : Bool) → some (λ i. eqb i (taskAt (drop at text) .id)) ids ≡ b → lineOutcome text (k + 1) ≡ when b (Twice (k + 1))
+    said-twice room b seen = rw (ne-eqb (length ids) mostTasks room, seen) at said-task

@@ -1,0 +1,103 @@
+-- A task file's lines, counted from 1, and the rows that reading tests at each line.
+-- Document 01, "Lines of hexadecimal" and rows 1 to 4 of the refusals.
+use Prim.Native.Nat.{ℕ, zero, suc, pred}
+use mathlib.Core.List.{List, [], _∷_, _++_}
+use mathlib.Core.Bool.{Bool, true, false, not, cond, _&&_, _||_}
+use lib.ListN.{length}
+use lib.Dec.{eqb}
+use Rattle.frames.specs.Line.{after, formed, fieldOf}
+use Rattle.frames.specs.declared.table.Frame.{Frame}
+use Rattle.refusals.specs.declared.Refusal.the-variants.{Line, Order, Count, Twice}
+use Rattle.refusals.specs.declared.Outcome.{Outcome}
+use Rattle.refusals.specs.First.{firstOf, when}
+use Rattle.tasks.specs.declared.set.Header.{Header}
+use Rattle.tasks.specs.declared.set.Task.{Task}
+use Rattle.tasks.specs.Set.{mostTasks, hasId}
+use Rattle.tasks.specs.Search.{some}
+
+-- the text past n lines
+unfoldable pub past : ℕ → List ℕ → List ℕ
+past zero text = text
+past (suc n) text = after (past n text)
+
+-- the text from line k on
+abbrev pub from : List ℕ → ℕ → List ℕ
+from text k = past (pred k) text
+
+abbrev pub empty : List ℕ → Bool
+empty [] = true
+empty (b ∷ bs) = false
+
+-- whether line k is there, is an 01 line, is an 02 line
+abbrev pub present : List ℕ → ℕ → Bool
+present text k = not (empty (from text k))
+
+abbrev pub isHeader : List ℕ → ℕ → Bool
+isHeader text k = formed Frame.Header (from text k)
+
+abbrev pub isTask : List ℕ → ℕ → Bool
+isTask text k = formed Frame.Task (from text k)
+
+-- the figures of line 1, and of an 02 line
+unfoldable pub headerAt : List ℕ → Header
+headerAt text =
+    record {
+      processors = fieldOf Frame.Header 0 text;
+      slot = fieldOf Frame.Header 1 text;
+      relj = fieldOf Frame.Header 2 text;
+      relo = fieldOf Frame.Header 3 text;
+      ctswo = fieldOf Frame.Header 4 text;
+      resd = fieldOf Frame.Header 5 text;
+      cpmdo = fieldOf Frame.Header 6 text;
+    }
+
+unfoldable pub taskAt : List ℕ → Task
+taskAt text =
+    record {
+      id = fieldOf Frame.Task 0 text;
+      cost = fieldOf Frame.Task 1 text;
+      deadline = fieldOf Frame.Task 2 text;
+      period = fieldOf Frame.Task 3 text;
+    }
+
+-- the task that line k holds, if it is an 02 line
+abbrev pub taskOn : List ℕ → ℕ → List Task
+taskOn text k = cond (isTask text k) (taskAt (from text k) ∷ []) []
+
+-- the tasks that the 02 lines among the first n lines hold, in order
+unfoldable pub tasksAmong : List ℕ → ℕ → List Task
+tasksAmong text zero = []
+tasksAmong text (suc n) = tasksAmong text n ++ taskOn text (suc n)
+
+-- those of the whole file, which has no more lines than bytes
+abbrev pub fileTasks : List ℕ → List Task
+fileTasks text = tasksAmong text (length text)
+
+-- 1 LINE: a line is not kind 01 or 02 at its exact length in legal digits, or lacks its LF
+unfoldable pub lineRow : List ℕ → ℕ → Bool
+lineRow text k = present text k && not (isHeader text k || isTask text k)
+
+abbrev pub firstLine : Bool → Bool → Bool → Bool
+firstLine true at-one at-later = at-one
+firstLine false at-one at-later = at-later
+
+-- 2 ORDER: line 1 is missing or not 01, or a later line is 01
+unfoldable pub orderRow : List ℕ → ℕ → Bool
+orderRow text k = firstLine (eqb k 1) (not (isHeader text k)) (isHeader text k)
+
+-- 3 COUNT: no 02 line (place 2), or a 65th
+unfoldable pub countLineRow : List ℕ → ℕ → Bool
+countLineRow text k =
+    (eqb k 2 && eqb (length (fileTasks text)) 0) ||
+    (isTask text k && eqb (length (tasksAmong text (pred k))) mostTasks)
+
+-- 4 TWICE: an id repeats
+unfoldable pub twiceLineRow : List ℕ → ℕ → Bool
+twiceLineRow text k = isTask text k && some (hasId (taskAt (from text k) .id)) (tasksAmong text (pred k))
+
+-- at one line the lowest number wins
+unfoldable pub lineOutcome : List ℕ → ℕ → Outcome
+lineOutcome text k =
+    firstOf (when (lineRow text k) (Line k))
+    (firstOf (when (orderRow text k) (Order k))
+    (firstOf (when (countLineRow text k) (Count k)) (when (twiceLineRow text k) (Twice k))))

@@ -1,0 +1,25 @@
+-- Where the reader stands after some lines.
+-- Document 01, "Reading takes lines in order".
+use Prim.Native.Nat.{ℕ, _+_, _≤_}
+use mathlib.Core.List.{List, map}
+use mathlib.Core.Path.{_≡_}
+use lib.ListN.{length, drop}
+use Rattle.refusals.specs.declared.Outcome.the-variants.{Done}
+use Rattle.refusals.specs.First.{till}
+use Rattle.tasks.specs.declared.set.Task.{Task}
+use Rattle.tasks.specs.Set.{mostTasks}
+use Rattle.taskfile.specs.File.{past, lineOutcome, tasksAmong}
+
+-- the reader has taken k lines, at least one: each is clear, and the rest of the text starts at the cursor
+pub record Taken (text : List ℕ) (k at : ℕ) : Type 0 where
+  pub some-line : 1 ≤ k
+  pub within : at ≤ length text
+  pub rest : past k text ≡ drop at text
+  pub clear : till (lineOutcome text) k ≡ Done
+  -- all lines but the first hold a task, and there is room for these
+  pub lines : k ≤ length (tasksAmong text k) + 1
+  pub few : length (tasksAmong text k) ≤ mostTasks
+
+-- the ids of these tasks
+abbrev pub idsOf : List Task → List ℕ
+idsOf ts = map (λ (t : Task). t .id) ts

@@ -1,0 +1,1 @@
+// What the lines of a task file are and answer. No code.

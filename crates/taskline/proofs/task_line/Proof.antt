@@ -1,0 +1,95 @@
+-- `task_line` meets its contract: what a later line is, and what it then answers.
+use mathlib.Core.Path.{_≡_, sym, ap, _∙_}
+use mathlib.Core.Bool.{true}
+use mathlib.Core.List.{List}
+use Prim.Native.Nat.{ℕ}
+use denote.Ref.{now}
+use lib.ListN.{drop}
+use Rattle.frames.specs.Line.{formed, kindAt}
+use Rattle.frames.specs.declared.table.Frame.{Frame}
+use Rattle.frames.specs.declared.line.Found.{Found}
+use Rattle.refusals.specs.declared.Outcome.{Outcome}
+use Rattle.taskline.specs.declared.TaskLine.{TaskLine}
+use Rattle.taskfile.specs.File.{taskAt}
+use Rattle.taskline.specs.Answer.{taskOr}
+use Rattle.frames.proofs.KindLaws.{kind-formed, kind-none}
+use Rattle.taskfile.proofs.Standing.{other-frame, said-line, said-order}
+use borrow.Author.Needs.{needs}
+use Rattle.taskline.proofs.task_line.Statement.{statement}
+use Rattle.taskline.proofs.task_line.Tie as tie
+
+-- the text from the cursor on, and the answer for an outcome of the line
+abbrev rest : tie.Start → List ℕ
+rest s = drop (s .args .at) (now (s .args .text))
+
+abbrev given : tie.Start → Outcome → TaskLine
+given s o = taskOr o (taskAt (rest s))
+
+add-line : tie.Need-add-line
+add-line c = search needs
+
+cast-line : tie.Need-cast-line
+cast-line c = search needs
+
+kind-at-requires : tie.Need-kind-at-requires
+kind-at-requires c κs = search needs
+
+enum-known-found : tie.Need-enum-known-found
+enum-known-found c = search needs
+
+enum-told : tie.Need-enum-told
+enum-told c = search needs
+
+returns : tie.Need-returns
+returns c =
+    let s = c .before .before .before .before .before in
+    let nothing : kindAt (rest s) ≡ Found.Nothing = sym (c .before .before .kind-at .ensures) ∙ c .enum-told .given .1 in
+    sym (ap (given s) (said-line (s .pre .0) (s .pre .1 .0) (kind-none (rest s) nothing Frame.Header) (kind-none (rest s) nothing Frame.Task)))
+
+enum-told-2 : tie.Need-enum-told-2
+enum-told-2 c = search needs
+
+enum-told-3 : tie.Need-enum-told-3
+enum-told-3 c = search needs
+
+-- the frame that was found is formed
+is-formed : (c : tie.After-known-told) → formed (c .before .found .given .0 .0) (rest (c .before .before .before .before .before .before)) ≡ true
+is-formed c =
+    kind-formed (c .before .found .given .0 .0) (rest (c .before .before .before .before .before .before)) (sym (c .before .before .before .kind-at .ensures) ∙ c .before .found .given .1)
+
+listed-line-requires : tie.Need-listed-line-requires
+listed-line-requires c κs =
+    let s = c .before .before .before .before .before .before .before .before in
+    (s .pre .0, (s .pre .1 .1, ap (λ (f : Frame). formed f (rest s)) (sym (c .enum-told3 .given .1)) ∙ is-formed (c .before .before)))
+
+returns-2 : tie.Need-returns-2
+returns-2 c =
+    let s = c .before .before .before .before .before .before .before .before in
+    let header : formed Frame.Header (rest s) ≡ true = ap (λ (f : Frame). formed f (rest s)) (sym (c .enum-told2 .given .1)) ∙ is-formed (c .before .before) in
+    sym (ap (given s) (said-order (s .pre .0) header))
+
+returns-3 : tie.Need-returns-3
+returns-3 c = search needs
+
+returns-4 : tie.Need-returns-4
+returns-4 c =
+    let s = c .before .before .before .before .before .before .before in
+    let other = other-frame (c .before .before .found .given .0 .0) (rest s) (c .match2 .keys3) (is-formed (c .before)) in
+    sym (ap (given s) (said-line (s .pre .0) (s .pre .1 .0) (other .0) (other .1)))
+
+pub task-line-spec : {M : Type 1} → statement M
+task-line-spec =
+    tie.close
+    (tie.spec
+    add-line
+    cast-line
+    kind-at-requires
+    enum-known-found
+    enum-told
+    returns
+    enum-told-2
+    enum-told-3
+    listed-line-requires
+    returns-2
+    returns-3
+    returns-4)

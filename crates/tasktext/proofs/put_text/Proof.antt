@@ -1,0 +1,84 @@
+-- The 01 line of the header's figures, and behind it the 02 lines of the tasks' figures, are the text.
+-- Assumes nothing.
+use Prim.Native.Nat.{_+_, _*_, _≤_}
+use mathlib.Core.Path.{_≡_, sym, _∙_}
+use native.Mathlib.Omega.{arith}
+use borrow.Author.Needs.{needs}
+use lib.ListN.{length, length-map}
+use Rattle.frames.specs.Table.{widthsOf, lengthOf}
+use Rattle.frames.specs.declared.table.Frame.{Frame}
+use Rattle.tasks.specs.Set.{mostTasks}
+use Rattle.tasktext.specs.Text.{mostFigures}
+use Rattle.tasktext.proofs.TextLaws.{text-bytes, text-put, figures-length}
+use Rattle.tasktext.proofs.put_text.Statement.{statement}
+use Rattle.tasktext.proofs.put_text.Tie as tie
+
+full : (s : tie.Start) → length (s .args .set .tasks) ≡ mostTasks
+full s = sym (length-map (s .args .set .tasks) _) ∙ s .good .1 .0 .1 .1 .1 .1 .0 .1 .0 .1
+
+-- the buffer has the room of all lines
+room : (s : tie.Start) → lengthOf Frame.Header + 1 + s .args .set .count * (lengthOf Frame.Task + 1) ≤ length (s .args .out .now)
+room s = omega (arith, s .pre, text-bytes (s .args .set) (omega (arith, full s, s .pre)))
+
+header-values-requires : tie.Need-header-values-requires
+header-values-requires c κs = search needs
+
+slice-aggregate-put-line : tie.Need-slice-aggregate-put-line
+slice-aggregate-put-line c = search needs
+
+put-line-requires : tie.Need-put-line-requires
+unfolding widthsOf
+put-line-requires c κs =
+    let d = c .before .before in
+    rw (d .header-values .ensures) (omega arith, omega (arith, room (d .before .before)))
+
+lines-length-requires : tie.Need-lines-length-requires
+lines-length-requires c κs = omega arith
+
+task-figures-requires : tie.Need-task-figures-requires
+task-figures-requires c κs = c .before .before .before .before .before .before .before .before .pre .0
+
+slice-aggregate-put-lines : tie.Need-slice-aggregate-put-lines
+slice-aggregate-put-lines c = search needs
+
+-- the 02 lines start behind the 01 line
+start : (c : tie.After-lines-length) → c .lines-length .result ≡ lengthOf Frame.Header + 1
+start c = c .lines-length .ensures ∙ omega arith
+
+put-lines-requires : tie.Need-put-lines-requires
+unfolding widthsOf
+put-lines-requires c κs =
+    let d = c .before .before in
+    let written = d .before .before .before .before in
+    let s = written .before .before .before .before .before in
+    let set = s .args .set in (
+      rw (d .task-figures .ensures) (omega (arith, s .pre .0, figures-length (set .tasks) mostFigures (set .count) (omega (arith, s .pre .0)))),
+      omega (arith, room s, start (d .before), written .put-line .kept .0),
+    )
+
+same-length : tie.Need-same-length
+same-length c = search needs
+
+returns : tie.Need-returns
+returns c =
+    let lines = c .before .before in
+    let d = lines .before .before .before in
+    let line = d .before .before .before .before in
+    let first = line .before .before .before in
+    let s = first .before .before in
+    text-put (s .args .out .now) (s .args .set) (omega (arith, full s, s .pre .0)) (s .pre .1)
+    (first .header-values .ensures) (d .task-figures .ensures) (start (d .before)) (line .put-line .ensures) (lines .put-lines .ensures)
+
+pub put-text-spec : {M : Type 1} → statement M
+put-text-spec =
+    tie.close
+    (tie.spec
+    header-values-requires
+    slice-aggregate-put-line
+    put-line-requires
+    lines-length-requires
+    task-figures-requires
+    slice-aggregate-put-lines
+    put-lines-requires
+    same-length
+    returns)
