@@ -75,7 +75,7 @@ module _ {sv : Servers} {tasks S : ℕ} (ok : Layable sv tasks S) where
   reserves = take (sv .count) (sv .reserve)
 
   abbrev placement : List ℕ
-  placement = take tasks (sv .server)
+  placement = take tasks (sv .placement)
 
   counted : sv .count ≡ length reserves
   counted = sym (taken-length (ok .laid))
@@ -85,9 +85,9 @@ module _ {sv : Servers} {tasks S : ℕ} (ok : Layable sv tasks S) where
       w ≡ wholes S (take (sv .count) (sv .reserve)) →
       r ≡ ringProcessors S (take (sv .count) (sv .reserve)) →
       t ≡ ringTicks S (take (sv .count) (sv .reserve)) →
-      servers ≡ padWith zeroServer (upTo (serverOf S cache (take tasks (sv .server)) (take (sv .count) (sv .reserve))) (sv .count)) →
+      servers ≡ padWith zeroServer (upTo (serverOf S cache (take tasks (sv .placement)) (take (sv .count) (sv .reserve))) (sv .count)) →
       first ≡ padWith zeroStand (upTo (firstReserve S (take (sv .count) (sv .reserve))) (r + w)) →
-      plan-of w r (sv .count) S (r * S - t) servers (sv .server) first ≡ laidOut S cache (take tasks (sv .server)) (take (sv .count) (sv .reserve))
+      plan-of w r (sv .count) S (r * S - t) servers (sv .placement) first ≡ laidOut S cache (take tasks (sv .placement)) (take (sv .count) (sv .reserve))
   unfolding laidOut
   laid-made cache {w} {r} {t} p1 p2 p3 p4 p5 =
       let sum : r + w ≡ processorsOf S reserves = rw (p1, p2) in

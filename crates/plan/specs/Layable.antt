@@ -13,4 +13,4 @@ pub record Layable (served : Servers) (tasks S : ℕ) : Type 0 where
   pub servers-few : served .count ≤ mostTasks
   pub laid : SlottedFirst S (served .reserve) (served .count)
   pub reserve-room : padded (take (served .count) (served .reserve)) ≡ served .reserve
-  pub placement-room : padded (take tasks (served .server)) ≡ served .server
+  pub placement-room : padded (take tasks (served .placement)) ≡ served .placement

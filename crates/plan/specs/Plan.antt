@@ -9,12 +9,12 @@ use Rattle.tasks.specs.declared.set.TaskSet.{TaskSet}
 use Rattle.tasks.specs.Set.{mostTasks}
 use Rattle.places.specs.Padded.{padWith, padded, upTo}
 use Rattle.places.specs.Places.{placesIn}
-use Rattle.servers.specs.Placement.{serversIn, placementOf}
-use Rattle.servers.specs.Reserve.{reserveIn}
+use Rattle.servers.specs.Placement.{placementOf}
+use Rattle.servers.specs.Reserve.{reservesOf}
 use Rattle.reserves.specs.Reserves.{reserveOf, wholes, startOf, ringProcessors, idlePositions, processorsOf}
 use Rattle.ring.specs.declared.cover.Stand.{Stand}
 use Rattle.ring.specs.Who.{firstReserve}
-use Rattle.rows.specs.Charge.{loadsOfSet, lossOf}
+use Rattle.rows.specs.Figures.{setFigures}
 use Rattle.plan.specs.declared.plan.Plan.{Plan}
 use Rattle.plan.specs.declared.server.Server.{Server}
 
@@ -81,7 +81,7 @@ laidOut S cache placement reserves =
 
 -- the reserve that document 01 gives each server of a placement of a set's tasks
 unfoldable pub reservesWith : TaskSet → (placement : List ℕ) → List ℕ
-reservesWith set placement = upTo (reserveIn (loadsOfSet set) (set .header .slot) (lossOf (set .header)) placement) (serversIn placement)
+reservesWith set placement = reservesOf (set .header) (setFigures set) placement
 
 -- the plan of a set with any placement
 unfoldable pub planWith : TaskSet → (placement : List ℕ) → Plan
@@ -89,7 +89,7 @@ planWith set placement = laidOut (set .header .slot) (set .header .cpmdo) placem
 
 -- the placement that document 01 gives a set, its reserves and its plan
 unfoldable pub setPlacement : TaskSet → List ℕ
-setPlacement set = placementOf (loadsOfSet set) (set .header .slot) (lossOf (set .header))
+setPlacement set = placementOf (set .header) (setFigures set)
 
 unfoldable pub setReserves : TaskSet → List ℕ
 setReserves set = reservesWith set (setPlacement set)

@@ -116,11 +116,11 @@ fn first_reserves(
 // The plan of so many tasks, placed and sized.
 pub fn lay_out(served: Servers, tasks: usize, slot: u64, cache: u64) -> Plan
     requires { ⌜ Layable served tasks slot ⌝ }
-    ensures { λ r. ⌜ r ≡ laidOut slot cache (take tasks (served .server)) (take (served .count) (served .reserve)) ⌝ }
+    ensures { λ r. ⌜ r ≡ laidOut slot cache (take tasks (served .placement)) (take (served .count) (served .reserve)) ⌝ }
 {
     let n = served.count as usize;
     let reserve = served.reserve;
-    let placement = served.server;
+    let placement = served.placement;
     let whole = whole_count(&reserve, n, slot);
     let ring = ring_processors(&reserve, n, slot);
     let idle = ring * slot - ring_ticks(&reserve, n, slot);

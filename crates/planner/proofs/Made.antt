@@ -3,6 +3,7 @@
 use Prim.Native.Nat.{ℕ, _+_, _^_, _≤_, _<_}
 use mathlib.Core.Path.{_≡_, refl, sym, ap, _∙_}
 use mathlib.Core.Bool.{true, false}
+use mathlib.Core.List.{List}
 use native.Mathlib.Omega.{arith}
 use borrow.Author.Tests.{lt-ltb, le-ltb}
 use lib.ListN.{length, take}
@@ -10,28 +11,29 @@ use Rattle.refusals.specs.declared.Refusal.{Refusal}
 use Rattle.refusals.specs.declared.Refusal.the-variants.{Full, Ask}
 use Rattle.refusals.specs.declared.Outcome.{Outcome}
 use Rattle.refusals.specs.declared.Outcome.the-variants.{Done, Refused}
-use Rattle.demand.specs.Load.{Sound, Every}
-use Rattle.members.specs.Members.{membersOf, memberLoads, Sized}
+use Rattle.demand.specs.Load.{Load, Every, loadsOf}
+use Rattle.members.specs.Charge.{Member}
+use Rattle.members.specs.Server.{Filed}
 use Rattle.servers.specs.Placement.{serversIn}
-use Rattle.servers.specs.Reserve.{reservesOf, serversOf}
+use Rattle.servers.specs.Reserve.{serversOf}
+use Rattle.servers.specs.Claims.{FitAlone}
 use Rattle.servers.specs.declared.Servers.{Servers}
-use Rattle.members.specs.declared.Members.{Members}
-use Rattle.servers.proofs.ReserveLaws.{reserves-count}
 use Rattle.tasks.specs.declared.set.TaskSet.{TaskSet}
 use Rattle.tasks.specs.Set.{mostTasks}
 use Rattle.refusals.specs.First.{firstOf, when}
 use Rattle.taskask.specs.Ask.{askRow}
 use Rattle.taskask.proofs.Carried.{count-within, ask-count}
 use Rattle.plan.specs.declared.plan.Plan.{Plan}
-use Rattle.rows.specs.Charge.{loadsOfSet, lossOf}
+use Rattle.rows.specs.Figures.{setFigures, figureNumbers}
 use Rattle.rows.specs.Rows.{chargedOutcome, horizonOf, Chargeable, RowsClear}
 use Rattle.plan.specs.Plan.{laidOut, reservesWith, planWith, setPlacement, setReserves, planMade, zeroPlan}
 use Rattle.planner.specs.Planner.{Clear, needed, fullRow, planOutcome, answer, planOf}
 use Rattle.plan.specs.Layable.{Layable}
 use Rattle.refusals.proofs.FirstLaws.{first-done, when-done}
-use Rattle.rows.proofs.Clears.{board-slot, charged-clear, loads-sound, loads-length, horizon-of-loads, horizon-short, slot-small, loss-small, members-sized}
+use Rattle.rows.proofs.FigureLaws.{figures-length, figures-back}
+use Rattle.rows.proofs.Clears.{board-slot, charged-clear, figures-members, figures-alone, slot-small, set-filed}
 use Rattle.plan.proofs.Layouts.{processors-few}
-use Rattle.planner.proofs.Served.{count-few, layable, laid-is}
+use Rattle.planner.proofs.Served.{count-few, reserves-count, layable, laid-is}
 
 module _ (set : TaskSet) (full : length (set .tasks) ≡ mostTasks) (clear : Clear set) where
   pub rows-clear : RowsClear set
@@ -49,13 +51,17 @@ module _ (set : TaskSet) (full : length (set .tasks) ≡ mostTasks) (clear : Cle
   pub may-charge : Chargeable set
   may-charge = record { few = count-most; board = rows-clear .board; range = rows-clear .range; tight = rows-clear .tight }
 
-  -- there are at most mostTasks loads
-  pub few-loads : length (loadsOfSet set) ≤ mostTasks
-  few-loads = omega (arith, loads-length set fits, count-most)
+  -- there are as many figures as tasks
+  pub few-figures : length (setFigures set) ≤ mostTasks
+  few-figures = omega (arith, figures-length set fits, count-most)
 
-  -- they are sound
-  pub sound : Every Sound (loadsOfSet set)
-  sound = loads-sound set may-charge
+  -- each may be charged
+  pub members : Every (Member (set .header)) (setFigures set)
+  members = figures-members set may-charge
+
+  -- and fits alone
+  pub alone : FitAlone (set .header) (setFigures set)
+  alone = figures-alone set may-charge
 
   -- the slot is at least 1
   pub slot-some : 1 ≤ set .header .slot
@@ -67,13 +73,13 @@ module _ (set : TaskSet) (full : length (set .tasks) ≡ mostTasks) (clear : Cle
 
   -- the reserves are as many as the servers
   pub set-count : length (setReserves set) ≡ serversIn (setPlacement set)
-  unfolding setReserves reservesWith reservesOf setPlacement
-  set-count = reserves-count (loadsOfSet set) (set .header .slot) (lossOf (set .header))
+  unfolding setReserves reservesWith setPlacement
+  set-count = reserves-count (set .header) (setFigures set) few-figures members alone slot-some slot-below
 
   -- there are at most mostTasks servers
   pub set-few : serversIn (setPlacement set) ≤ mostTasks
   unfolding setPlacement
-  set-few = count-few (loadsOfSet set) (set .header .slot) (lossOf (set .header)) few-loads sound slot-some slot-below
+  set-few = count-few (set .header) (setFigures set) few-figures members alone slot-some slot-below
 
   -- no more processors than tasks are needed
   pub needed-few : needed set ≤ mostTasks
@@ -85,22 +91,22 @@ module _ (set : TaskSet) (full : length (set .tasks) ≡ mostTasks) (clear : Cle
   unfolding planMade planWith laidOut setReserves
   made-servers = omega (arith, set-count, set-few)
 
-  module _ {m : Members} (e : m ≡ membersOf (loadsOfSet set)) where
-    -- the loads may be placed and sized, by the set's horizon
-    pub set-sized : {H : ℕ} → H ≡ horizonOf set → Sized (m .costs) (m .deadlines) (m .periods) (m .count) (set .header .slot) (lossOf (set .header)) H
-    set-sized h =
-        members-sized (loadsOfSet set) few-loads sound e slot-some (omega (arith, loss-small set (clear .carried))) (h ∙ sym (horizon-of-loads set))
-        (omega (arith, h, horizon-short set (rows-clear .horizon)))
+  -- the figures may be placed and sized, by the set's horizon
+  pub filed : {numbers : List ℕ} {H : ℕ} → numbers ≡ figureNumbers set → H ≡ horizonOf set → Filed (set .header) numbers (set .count) H
+  filed e h = rw (e, h) (set-filed set fits may-charge (rows-clear .horizon))
 
-    module _ {sv : Servers} (g : sv ≡ serversOf (memberLoads m) (set .header .slot) (lossOf (set .header))) where
-      -- and then laid out: that is the set's plan
-      pub set-layable : Layable sv (m .count) (set .header .slot)
-      set-layable = layable (loadsOfSet set) (set .header .slot) (lossOf (set .header)) few-loads sound slot-some slot-below e g
+  module _ {numbers : List ℕ} (e : numbers ≡ figureNumbers set) {sv : Servers} (g : sv ≡ serversOf (set .header) (loadsOf numbers (set .count))) where
+    own : sv ≡ serversOf (set .header) (setFigures set)
+    own = g ∙ ap (λ (ns : List ℕ). serversOf (set .header) (loadsOf ns (set .count))) e ∙ ap (serversOf (set .header)) (figures-back set fits)
 
-      -- its layout is the set's plan
-      pub set-laid : laidOut (set .header .slot) (set .header .cpmdo) (take (m .count) (sv .server)) (take (sv .count) (sv .reserve)) ≡ planMade set
-      unfolding planMade planWith reservesWith reservesOf setPlacement
-      set-laid = laid-is (loadsOfSet set) (set .header .slot) (lossOf (set .header)) few-loads sound slot-some slot-below e g (set .header .cpmdo)
+    -- and then laid out
+    pub set-layable : Layable sv (set .count) (set .header .slot)
+    set-layable = layable (set .header) (setFigures set) few-figures members alone slot-some slot-below own (sym (figures-length set fits))
+
+    -- that is the set's plan
+    pub set-laid : laidOut (set .header .slot) (set .header .cpmdo) (take (set .count) (sv .placement)) (take (sv .count) (sv .reserve)) ≡ planMade set
+    unfolding planMade planWith reservesWith setPlacement
+    set-laid = laid-is (set .header) (setFigures set) few-figures members alone slot-some slot-below own (sym (figures-length set fits)) (set .header .cpmdo)
 
 -- the processors of the set's plan are those that it needs
 pub made-needs : (set : TaskSet) → planMade set .ring + planMade set .whole ≡ needed set

@@ -1,95 +1,111 @@
--- What placing and sizing answers for sound loads can be laid out, and its layout is that of the definitions.
+-- What placing and sizing answers for a file's figures can be laid out, and its layout is that of the definitions.
 -- Assumes nothing.
-use Prim.Native.Nat.{ℕ, _^_, _≤_, _<_}
-use mathlib.Core.Path.{_≡_, sym, ap, _∙_}
+use Prim.Native.Nat.{ℕ, suc, _-_, _^_, _≤_, _<_}
+use mathlib.Core.Path.{_≡_, sym, ap, subst, _∙_}
+use mathlib.Core.Logic.{⊎-elim}
 use mathlib.Core.List.{List}
 use native.Mathlib.Omega.{arith}
 use lib.ListN.{length, take, getD}
 use lib.Seq.{getD-take}
-use Rattle.demand.specs.Load.{Load, Sound, Every}
-use Rattle.verdict.specs.Claims.{Asked}
+use Rattle.demand.specs.Load.{Load, Every}
+use Rattle.demand.specs.Supply.{Allowed}
+use Rattle.verdict.specs.Reserve.{Smallest}
+use Rattle.tasks.specs.declared.set.Header.{Header}
 use Rattle.tasks.specs.Set.{mostTasks}
 use Rattle.places.specs.Padded.{padded}
-use Rattle.members.specs.Members.{membersOf, memberLoads}
+use Rattle.places.specs.Places.{chosen}
+use Rattle.members.specs.Charge.{serverLoss, Member}
+use Rattle.members.specs.Server.{serverDemand}
 use Rattle.servers.specs.Placement.{serversIn, placementOf}
-use Rattle.servers.specs.Reserve.{reservesOf, serversOf}
+use Rattle.servers.specs.Reserve.{reservesOf, sized, serversOf}
+use Rattle.servers.specs.Claims.{FitAlone}
 use Rattle.servers.specs.declared.Servers.{Servers}
-use Rattle.members.specs.declared.Members.{Members}
 use Rattle.places.proofs.PaddedLaws.{padded-length, padded-take}
 use Rattle.servers.proofs.PlacementLaws.{placement-length}
-use Rattle.servers.proofs.Claims.{servers-few}
-use Rattle.servers.proofs.ReserveLaws.{reserves-count, reserves-range}
+use Rattle.servers.proofs.Claims.{servers-few, planner-fits, smallest-reserves}
 use Rattle.reserves.specs.Slotted.{SlottedFirst}
 use Rattle.plan.specs.Plan.{laidOut}
 use Rattle.plan.specs.Layable.{Layable}
-use Rattle.rows.proofs.Clears.{members-count, members-loads}
 
-module _ (ls : List Load) (S L : ℕ) (few : length ls ≤ mostTasks) (sound : Every Sound ls) (slot : 1 ≤ S) (small : S < 2 ^ 32) where
-  asked : Asked ls S
-  asked = record { sound = sound; slot = slot }
+-- an allowed reserve lies from 1 to the slot
+allowed-range : {S L R : ℕ} → 1 ≤ S → Allowed S L R → (1 ≤ R) × (R ≤ S)
+allowed-range slot a = ⊎-elim (λ r. (omega arith, omega arith)) (λ e. (omega arith, omega arith)) a
+
+module _ (h : Header) (figures : List Load) (few : length figures ≤ mostTasks) (members : Every (Member h) figures) (alone : FitAlone h figures) (slot : 1 ≤ h .slot) (small : h .slot < 2 ^ 32) where
+  abbrev placement : List ℕ
+  placement = placementOf h figures
+
+  abbrev reserves : List ℕ
+  reserves = reservesOf h figures (placementOf h figures)
 
   -- there are at most mostTasks servers
-  pub count-few : serversIn (placementOf ls S L) ≤ mostTasks
-  count-few = omega (arith, servers-few ls S L)
+  pub count-few : serversIn placement ≤ mostTasks
+  count-few = omega (arith, servers-few h figures)
+
+  -- and one reserve for each
+  pub reserves-count : length reserves ≡ serversIn placement
+  reserves-count = smallest-reserves h figures placement slot members (planner-fits h figures slot members alone) .0
+
+  -- from 1 to the slot
+  pub reserves-range : (i : ℕ) → i < length reserves → (1 ≤ getD reserves i 0) × (getD reserves i 0 ≤ h .slot)
+  reserves-range i l =
+      let own = chosen figures placement (suc i) in
+      let e : suc i - 1 ≡ i = omega arith in
+      let least : Smallest (serverDemand h own) (h .slot) (serverLoss h own) (getD reserves (suc i - 1) 0) = smallest-reserves h figures placement slot members (planner-fits h figures slot members alone) .1 (suc i) (omega arith) (omega (arith, reserves-count)) in
+      allowed-range slot (subst (λ (k : ℕ). Allowed (h .slot) (serverLoss h own) (getD reserves k 0)) e (least .allowed))
 
   -- places that begin with the reserves are laid
-  pub laid-by : (rs : List ℕ) (n : ℕ) → length rs ≡ mostTasks → n ≡ serversIn (placementOf ls S L) → take n rs ≡ reservesOf ls S L → SlottedFirst S rs n
+  pub laid-by : (rs : List ℕ) (n : ℕ) → length rs ≡ mostTasks → n ≡ serversIn placement → take n rs ≡ reserves → SlottedFirst (h .slot) rs n
   laid-by rs n full e t = record {
     there = omega (arith, full, e, count-few);
     few = omega (arith, e, count-few);
     slot-some = slot;
     slot-below = small;
-    some = λ i h. rw (at i h) (reserves-range ls S L asked i (here i h) .0);
-    within = λ i h. rw (at i h) (reserves-range ls S L asked i (here i h) .1);
+    some = λ i l. rw (at i l) (reserves-range i (here i l) .0);
+    within = λ i l. rw (at i l) (reserves-range i (here i l) .1);
   }
     where
-      here : (i : ℕ) → i < n → i < length (reservesOf ls S L)
-      here i h = omega (arith, e, reserves-count ls S L)
+      here : (i : ℕ) → i < n → i < length reserves
+      here i l = omega (arith, e, reserves-count)
 
-      at : (i : ℕ) → i < n → getD rs i 0 ≡ getD (reservesOf ls S L) i 0
-      at i h = sym (getD-take n rs i 0 h) ∙ ap (λ (l : List ℕ). getD l i 0) t
+      at : (i : ℕ) → i < n → getD rs i 0 ≡ getD reserves i 0
+      at i l = sym (getD-take n rs i 0 l) ∙ ap (λ (ns : List ℕ). getD ns i 0) t
 
-  module _ {m : Members} (e : m ≡ membersOf ls) {sv : Servers} (g : sv ≡ serversOf (memberLoads m) S L) where
-    served : sv ≡ serversOf ls S L
-    served = g ∙ ap (λ (k : List Load). serversOf k S L) (members-loads ls few sound e)
+  module _ {sv : Servers} (g : sv ≡ serversOf h figures) {n : ℕ} (tasks : n ≡ length figures) where
+    count-is : sv .count ≡ serversIn placement
+    unfolding sized
+    count-is = ap (λ (s : Servers). s .count) g
 
-    count-is : sv .count ≡ serversIn (placementOf ls S L)
-    unfolding serversOf
-    count-is = ap (λ (s : Servers). s .count) served
+    reserve-is : sv .reserve ≡ padded reserves
+    unfolding sized
+    reserve-is = ap (λ (s : Servers). s .reserve) g
 
-    reserve-is : sv .reserve ≡ padded (reservesOf ls S L)
-    unfolding serversOf
-    reserve-is = ap (λ (s : Servers). s .reserve) served
+    placement-is : sv .placement ≡ padded placement
+    unfolding sized
+    placement-is = ap (λ (s : Servers). s .placement) g
 
-    server-is : sv .server ≡ padded (placementOf ls S L)
-    unfolding serversOf
-    server-is = ap (λ (s : Servers). s .server) served
-
-    tasks-is : m .count ≡ length ls
-    tasks-is = members-count ls few sound e
-
-    front-reserves : take (sv .count) (sv .reserve) ≡ reservesOf ls S L
+    front-reserves : take (sv .count) (sv .reserve) ≡ reserves
     front-reserves =
-        ap (λ (n : ℕ). take n (sv .reserve)) count-is ∙ ap (take (serversIn (placementOf ls S L))) reserve-is
-        ∙ padded-take (reservesOf ls S L) (serversIn (placementOf ls S L)) (reserves-count ls S L)
+        ap (λ (k : ℕ). take k (sv .reserve)) count-is ∙ ap (take (serversIn placement)) reserve-is
+        ∙ padded-take reserves (serversIn placement) reserves-count
 
-    front-servers : take (m .count) (sv .server) ≡ placementOf ls S L
-    front-servers =
-        ap (λ (n : ℕ). take n (sv .server)) tasks-is ∙ ap (take (length ls)) server-is
-        ∙ padded-take (placementOf ls S L) (length ls) (placement-length ls S L)
+    front-placement : take n (sv .placement) ≡ placement
+    front-placement =
+        ap (λ (k : ℕ). take k (sv .placement)) tasks ∙ ap (take (length figures)) placement-is
+        ∙ padded-take placement (length figures) (placement-length h figures)
 
     -- the answer can be laid out
-    pub layable : Layable sv (m .count) S
+    pub layable : Layable sv n (h .slot)
     layable = record {
-      tasks-few = omega (arith, tasks-is);
+      tasks-few = omega (arith, tasks);
       servers-few = omega (arith, count-is, count-few);
-      laid = laid-by (sv .reserve) (sv .count) (ap length reserve-is ∙ padded-length (reservesOf ls S L) (omega (arith, reserves-count ls S L, count-few))) count-is front-reserves;
+      laid = laid-by (sv .reserve) (sv .count) (ap length reserve-is ∙ padded-length reserves (omega (arith, reserves-count, count-few))) count-is front-reserves;
       reserve-room = ap padded front-reserves ∙ sym reserve-is;
-      placement-room = ap padded front-servers ∙ sym server-is;
+      placement-room = ap padded front-placement ∙ sym placement-is;
     }
 
     -- its layout is that of the placement and the reserves
-    pub laid-is : (cache : ℕ) → laidOut S cache (take (m .count) (sv .server)) (take (sv .count) (sv .reserve)) ≡ laidOut S cache (placementOf ls S L) (reservesOf ls S L)
+    pub laid-is : (cache : ℕ) → laidOut (h .slot) cache (take n (sv .placement)) (take (sv .count) (sv .reserve)) ≡ laidOut (h .slot) cache placement reserves
     laid-is cache =
-        ap (λ (p : List ℕ). laidOut S cache p (take (sv .count) (sv .reserve))) front-servers
-        ∙ ap (laidOut S cache (placementOf ls S L)) front-reserves
+        ap (λ (p : List ℕ). laidOut (h .slot) cache p (take (sv .count) (sv .reserve))) front-placement
+        ∙ ap (laidOut (h .slot) cache placement) front-reserves

@@ -4,7 +4,7 @@ use plan::layout::lay_out;
 use plan::plan::Plan;
 use refusals::Outcome;
 use refusals::Refusal;
-use rows::charge;
+use rows::figures;
 use rows::rows::Rows;
 use rows::rows::charged;
 use tasks::set::TaskSet;
@@ -24,20 +24,10 @@ fn lay(set: TaskSet, horizon: u64) -> Plan
     ensures { λ r. ⌜ r ≡ planMade set ⌝ }
 {
     let header = set.header;
-    let slot = header.slot as u64;
-    let loads = charge::loads(set);
-    let n = loads.count;
-    let loss = charge::loss(header);
-    let served = servers::serve(
-        &loads.costs,
-        &loads.deadlines,
-        &loads.periods,
-        n,
-        slot,
-        loss,
-        horizon,
-    );
-    lay_out(served, n, slot, header.cpmdo as u64)
+    let n = set.count;
+    let numbers = figures(set);
+    let served = servers::serve(header, &numbers, n, horizon);
+    lay_out(served, n, header.slot as u64, header.cpmdo as u64)
 }
 
 fn refused(refusal: Refusal) -> PlanAnswer

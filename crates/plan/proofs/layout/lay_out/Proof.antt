@@ -10,8 +10,8 @@ use Rattle.plan.proofs.layout.lay_out.Statement.{statement}
 use Rattle.plan.proofs.layout.lay_out.Tie as tie
 
 -- the placement has a place for each task
-full : (c : tie.Start) → length (c .args .served .server) ≡ mostTasks
-full c = sym (length-map (c .args .served .server) _) ∙ c .good .0 .1 .1 .1 .0 .1 .0 .1
+full : (c : tie.Start) → length (c .args .served .placement) ≡ mostTasks
+full c = sym (length-map (c .args .served .placement) _) ∙ c .good .0 .1 .1 .1 .0 .1 .0 .1
 
 slice-aggregate-whole-count : tie.Need-slice-aggregate-whole-count
 slice-aggregate-whole-count c = search needs
