@@ -1,6 +1,5 @@
 -- The claims of specs/Claims.antt, proved.
-use Prim.Native.Nat.{ℕ, zero, suc, _-_, _≤_}
-use native.Mathlib.Numerals.{add-one}
+use Prim.Native.Nat.{ℕ, suc, _≤_}
 use native.Mathlib.Omega.{arith}
 use mathlib.Core.Path.{_≡_, sym, ap, subst, _∙_}
 use mathlib.Core.Logic.{_⊎_, inl, inr, ⊎-elim}
@@ -10,23 +9,19 @@ use lib.ListN.{length, getD, take}
 use lib.Seq.{take-at, getD-at, append-snoc}
 use Rattle.laws.proofs.Tests.{true-false}
 use Rattle.demand.specs.Load.{Load, Every}
-use Rattle.demand.proofs.Demand.{every-snoc, every-front, every-last}
+use Rattle.demand.proofs.Demand.{every-front, every-last}
 use Rattle.verdict.specs.Search.{NoneIn, Next}
-use Rattle.verdict.specs.Reserve.{Smallest}
 use Rattle.tasks.specs.declared.set.Header.{Header}
 use Rattle.places.specs.Places.{chosen}
-use Rattle.places.proofs.PaddedLaws.{up-length, up-at}
-use Rattle.members.specs.Charge.{serverLoss, Member}
-use Rattle.members.specs.Server.{serverDemand, serverHorizon, fits, reserveFor}
-use Rattle.servers.specs.Placement.{serversIn, takes, firstFit, join, Step, placeBy, fit, placementOf}
-use Rattle.servers.specs.Fitting.{PassesWhole, Fitting}
-use Rattle.servers.specs.Reserve.{reserveIn, reservesOf}
-use Rattle.servers.specs.Claims.{TakesOrNew, TakesOrOpens, FitAlone, FirstFitPicks, JoinTakesOrOpens, OneMoreFits, PlacedFits, PlannerFits, PassesWith, Lowest, Opened, FirstFit, SmallestReserves}
-use Rattle.members.proofs.ServerLaws.{server-lawful, fits-passes, passes-fits}
-use Rattle.verdict.proofs.Claims.{reserve-means}
+use Rattle.members.specs.Charge.{Member}
+use Rattle.members.specs.Server.{fits}
+use Rattle.servers.specs.Placement.{serversIn, takes, firstFit, fit, placementOf}
+use Rattle.servers.specs.Fitting.{Fitting}
+use Rattle.servers.specs.Claims.{TakesOrOpens, FitAlone, FirstFitPicks, JoinTakesOrOpens, OneMoreFits, PlacedFits, PlannerFits, PassesWith, Lowest, Opened, FirstFit}
+use Rattle.members.proofs.ServerLaws.{fits-passes, passes-fits}
 use Rattle.servers.proofs.PlacementLaws.{placed, placed-length, placed-more, placed-keeps, placed-grows}
 use Rattle.servers.proofs.JoinLaws.{join-view, first-picked, fit-view}
-use Rattle.servers.proofs.FittingLaws.{every-chosen, in-range, fitting-none, few-more, members-with, fitting-more}
+use Rattle.servers.proofs.FittingLaws.{in-range, fitting-none, few-more, members-with, fitting-more}
 
 -- ---- one step, whatever the rule
 
@@ -132,26 +127,3 @@ first-fit h before l after some members = (
         placed-grows (fit h) (before ++ (l ∷ [])) after .1 ∙
         ap (λ (placement : List ℕ). placement ++ rest) (placed-more (fit h) before l) ∙
         append-snoc p q rest
-
--- ---- reserves
-
--- members that pass with a whole processor have their smallest reserve
-reserve-for : (h : Header) (members : List Load) → 1 ≤ h .slot → Every (Member h) members → PassesWhole h members →
-    Smallest (serverDemand h members) (h .slot) (serverLoss h members) (reserveFor h members)
-unfolding reserveFor
-reserve-for h members some ok whole =
-    reserve-means (serverDemand h members) (serverHorizon h members) (h .slot) (serverLoss h members) (server-lawful h members ok some) some whole
-
-pub smallest-reserves : SmallestReserves
-unfolding reservesOf
-smallest-reserves h figures placement some members w = (up-length (reserveIn h figures placement) (serversIn placement), each)
-  where
-    each : (q : ℕ) → 1 ≤ q → q ≤ serversIn placement →
-        Smallest (serverDemand h (chosen figures placement q)) (h .slot) (serverLoss h (chosen figures placement q)) (getD (reservesOf h figures placement) (q - 1) 0)
-    each zero first there = absurd (omega arith)
-    each (suc q) first there =
-        let e : suc q - 1 ≡ q = omega arith in
-        let own = chosen figures placement (suc q) in
-        subst (Smallest (serverDemand h own) (h .slot) (serverLoss h own))
-        (sym (ap (λ (k : ℕ). getD (reservesOf h figures placement) k 0) e ∙ up-at (reserveIn h figures placement) (serversIn placement) q there ∙ ap (reserveIn h figures placement) (add-one q)))
-        (reserve-for h own some (every-chosen (Member h) figures placement (suc q) members) (w .passes (suc q) first there))

@@ -10,9 +10,8 @@ use Rattle.tasks.specs.declared.set.Header.{Header}
 use Rattle.tasks.specs.Set.{mostTasks}
 use Rattle.places.specs.Padded.{padded}
 use Rattle.places.proofs.PaddedLaws.{padded-length, padded-take, padded-more}
-use Rattle.servers.specs.Placement.{serversIn, takes, firstFit, join, fit, placeBy, placementOf}
+use Rattle.servers.specs.Placement.{serversIn, takes, firstFit, join, fit, placeBy, placementOf, placed}
 use Rattle.servers.specs.Totals.{totalIn, Totals}
-use Rattle.servers.specs.Reserve.{placed}
 use Rattle.servers.specs.Claims.{TakesOrNew}
 use Rattle.servers.specs.declared.placement.Placed.{Placed}
 use Rattle.servers.proofs.PlacementLaws.{servers-more, placement-length, placement-more}

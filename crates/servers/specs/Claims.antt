@@ -1,20 +1,18 @@
--- What is claimed of placing and sizing, each claim as a type. The proofs stand under the same names in proofs/Claims.antt.
--- Document 01, "From tasks to servers to ring", rules 1 and 2.
-use Prim.Native.Nat.{ℕ, suc, _-_, _≤_, _<_}
+-- What is claimed of placing, each claim as a type. The proofs stand under the same names in proofs/Claims.antt.
+-- Document 01, "From tasks to servers to ring", rule 1.
+use Prim.Native.Nat.{ℕ, suc, _≤_, _<_}
 use mathlib.Core.Path.{_≡_}
 use mathlib.Core.Logic.{_⊎_}
 use mathlib.Core.Bool.{Bool, true}
 use mathlib.Core.List.{List, [], _∷_, _++_}
 use lib.ListN.{length, getD, take}
 use Rattle.demand.specs.Load.{Load, Every}
-use Rattle.verdict.specs.Reserve.{Smallest}
 use Rattle.tasks.specs.declared.set.Header.{Header}
 use Rattle.places.specs.Places.{chosen}
-use Rattle.members.specs.Charge.{serverLoss, Member}
-use Rattle.members.specs.Server.{serverDemand, fits}
+use Rattle.members.specs.Charge.{Member}
+use Rattle.members.specs.Server.{fits}
 use Rattle.servers.specs.Placement.{serversIn, takes, Rule, firstFit, join, Step, placeBy, placementOf}
-use Rattle.servers.specs.Fitting.{Parted, PassesWhole, Fitting}
-use Rattle.servers.specs.Reserve.{reservesOf}
+use Rattle.servers.specs.Fitting.{PassesWhole, Fitting}
 
 -- ---- one step, whatever the rule
 
@@ -93,14 +91,3 @@ FirstFit =
     let q = getD all (length before) 0 in
     (take (length before) all ≡ placementOf h before)
     × (Lowest h before (placementOf h before) l q ⊎ Opened h before (placementOf h before) l q)
-
--- ---- reserves
-
--- A fitting placement has one reserve for each server: allowed, the server passes with it over all lengths, and with no smaller
--- allowed one.
-abbrev pub SmallestReserves : Type 0
-SmallestReserves =
-    (h : Header) (figures : List Load) (placement : List ℕ) → 1 ≤ h .slot → Every (Member h) figures → Fitting h figures placement
-    → (length (reservesOf h figures placement) ≡ serversIn placement)
-    × ((q : ℕ) → 1 ≤ q → q ≤ serversIn placement
-    → Smallest (serverDemand h (chosen figures placement q)) (h .slot) (serverLoss h (chosen figures placement q)) (getD (reservesOf h figures placement) (q - 1) 0))

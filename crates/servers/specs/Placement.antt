@@ -7,8 +7,10 @@ use mathlib.Core.Bool.{Bool}
 use Rattle.demand.specs.Load.{Load}
 use Rattle.verdict.specs.Search.{firstAfter, orElse}
 use Rattle.tasks.specs.declared.set.Header.{Header}
+use Rattle.places.specs.Padded.{padded}
 use Rattle.places.specs.Places.{chosen}
 use Rattle.members.specs.Server.{fits}
+use Rattle.servers.specs.declared.placement.Placed.{Placed}
 
 -- how many servers there are: they are numbered without gaps
 unfoldable pub serversIn : (placement : List ℕ) → ℕ
@@ -47,3 +49,7 @@ fit h done placement l = join firstFit (takes h done placement l) 0 (serversIn p
 
 unfoldable pub placementOf : Header → (figures : List Load) → List ℕ
 placementOf h figures = placeBy (fit h) [] [] figures
+
+-- a placement in a struct: how many servers there are, and the tasks' servers
+unfoldable pub placed : (placement : List ℕ) → Placed
+placed placement = record { count = serversIn placement; placement = padded placement }

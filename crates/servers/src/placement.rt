@@ -13,9 +13,8 @@ ghost use lib.ListN.{length, take};
 ghost use Rattle.demand.specs.Load.{loadAt, loadsOf};
 ghost use Rattle.tasks.specs.Set.{mostTasks};
 ghost use Rattle.members.specs.Server.{Filed};
-ghost use Rattle.servers.specs.Placement.{serversIn, takes, firstFit, join, placementOf};
+ghost use Rattle.servers.specs.Placement.{takes, firstFit, join, placementOf, placed};
 ghost use Rattle.servers.specs.Totals.{totalIn, Totals};
-ghost use Rattle.servers.specs.Reserve.{placed};
 
 // What task i, alone, asks of the horizon.
 fn share(header: Header, figures: &[u64], i: usize, horizon: u64) -> u64

@@ -1,13 +1,12 @@
--- `leastMultiple` and `leastMultipleOf` are the least common multiple, and nothing else is; how the list's grows with the list.
+-- `leastMultiple` and `leastMultipleOf` are the least common multiple, and nothing else is; a list in two parts.
 -- Assumes nothing.
-use Prim.Native.Nat.{ℕ, zero, suc, _+_, _*_, _-_, _/_, _≤_, _<_, _∣_, zero-le, suc-le-suc}
+use Prim.Native.Nat.{ℕ, zero, suc, _*_, _/_, _≤_, _<_, _∣_, zero-le, suc-le-suc}
 use mathlib.Core.Path.{_≡_, refl, sym, ap, subst, _∙_}
 use mathlib.Core.Logic.{_⊎_, inl, inr}
 use mathlib.Core.List.{List, [], _∷_, _++_}
 use native.Mathlib.Nat.{
   le-of-suc-le-suc,
   not-suc-le-zero,
-  add-sub-of-le,
   mul-assoc,
   mul-comm,
   mul-zero,
@@ -26,14 +25,10 @@ use native.Mathlib.Nat.{
   eq-zero-of-zero-dvd,
   dvd-antisymm,
   pos-of-dvd-of-pos,
-  le-of-dvd,
 }
-use native.Mathlib.Numerals.{add-one}
-use native.Mathlib.Omega.{arith}
-use lib.ListN.{length, getD, take, drop}
-use lib.Seq.{length-take-le, take-add, take-suc, getD-take}
+use lib.ListN.{length, getD}
 use Rattle.wholes.specs.Measure.{CommonMeasure, commonMeasure}
-use Rattle.wholes.specs.Multiple.{LeastMultiple, leastMultiple, Divide, LeastMultipleOf, leastMultipleOf, AllPositive, Positive}
+use Rattle.wholes.specs.Multiple.{LeastMultiple, leastMultiple, Divide, LeastMultipleOf, leastMultipleOf, AllPositive}
 use Rattle.wholes.proofs.MeasureLaws.{common-measure, scaled-measure}
 
 module _ (a b : ℕ) where
@@ -145,49 +140,12 @@ first-divides-of a bs = least-multiple-of a bs .of-first
 pub others-divide-of : (a : ℕ) (bs : List ℕ) (i : ℕ) → i < length bs → getD bs i 0 ∣ leastMultipleOf a bs
 others-divide-of a bs = least-multiple-of a bs .of-others
 
--- it divides every common multiple, and is at most each that is positive
+-- it divides every common multiple
 pub multiple-of-divides : (a : ℕ) (bs : List ℕ) (n : ℕ) → a ∣ n → Divide bs n → leastMultipleOf a bs ∣ n
 multiple-of-divides a bs = least-multiple-of a bs .least
-
-pub multiple-of-le : (a : ℕ) (bs : List ℕ) (n : ℕ) → 1 ≤ n → a ∣ n → Divide bs n → leastMultipleOf a bs ≤ n
-multiple-of-le a bs n h p q = le-of-dvd h (multiple-of-divides a bs n p q)
 
 -- a list in two parts
 pub multiple-of-append : (a : ℕ) (bs cs : List ℕ) → leastMultipleOf a (bs ++ cs) ≡ leastMultipleOf (leastMultipleOf a bs) cs
 unfolding leastMultipleOf
 multiple-of-append a [] cs = refl
 multiple-of-append a (b ∷ bs) cs = multiple-of-append (leastMultiple a b) bs cs
-
--- each of the first n divides the multiple of the first n
-pub taken-divides : (a : ℕ) (bs : List ℕ) (n i : ℕ) → n ≤ length bs → i < n → getD bs i 0 ∣ leastMultipleOf a (take n bs)
-taken-divides a bs n i h l =
-    subst (λ (x : ℕ). x ∣ leastMultipleOf a (take n bs)) (getD-take n bs i 0 l)
-    (others-divide-of a (take n bs) i (subst (λ (k : ℕ). i < k) (sym (length-take-le n bs h)) l))
-
-module _ {a : ℕ} {bs : List ℕ} {n : ℕ} (s : Positive a bs n) where
-  some-taken : (k : ℕ) → k ≤ n → AllPositive (take k bs)
-  some-taken k h i l =
-      let short : length (take k bs) ≡ k = length-take-le k bs (omega (arith, s .there)) in
-      let i<k : i < k = subst (λ (m : ℕ). i < m) short l in
-      subst (λ (x : ℕ). 1 ≤ x) (sym (getD-take k bs i 0 i<k)) (s .others-some i (omega arith))
-
-  -- of the first k, it is positive
-  pub taken-pos : (k : ℕ) → k ≤ n → 1 ≤ leastMultipleOf a (take k bs)
-  taken-pos k h = multiple-of-pos a (take k bs) (s .first-some) (some-taken k h)
-
-  -- one number more
-  pub taken-more : (i : ℕ) → i < n → leastMultipleOf a (take (i + 1) bs) ≡ leastMultiple (leastMultipleOf a (take i bs)) (getD bs i 0)
-  unfolding leastMultipleOf
-  taken-more i h =
-      ap (λ (k : ℕ). leastMultipleOf a (take k bs)) (add-one i)
-      ∙ ap (leastMultipleOf a) (take-suc bs i 0 (omega (arith, s .there)))
-      ∙ multiple-of-append a (take i bs) (getD bs i 0 ∷ [])
-
-  -- with more numbers it does not fall
-  pub taken-grows : (k : ℕ) → k ≤ n → leastMultipleOf a (take k bs) ≤ leastMultipleOf a (take n bs)
-  taken-grows k h = le-of-dvd (taken-pos n (omega arith)) (subst (λ (m : ℕ). leastMultipleOf a (take k bs) ∣ m) (sym e) (first-divides-of _ _))
-    where
-      e : leastMultipleOf a (take n bs) ≡ leastMultipleOf (leastMultipleOf a (take k bs)) (take (n - k) (drop k bs))
-      e =
-          ap (λ (m : ℕ). leastMultipleOf a (take m bs)) (sym (add-sub-of-le h)) ∙ ap (leastMultipleOf a) (take-add k (n - k) bs)
-          ∙ multiple-of-append a (take k bs) (take (n - k) (drop k bs))

@@ -39,9 +39,3 @@ within limit m = cond (leb m limit) (Within m) Past
 -- every number of the list is at least 1
 abbrev pub AllPositive : List ℕ → Type 0
 AllPositive bs = (i : ℕ) → i < length bs → 1 ≤ getD bs i 0
-
--- what a function over the first n of a slice asks of them
-pub record Positive (first : ℕ) (others : List ℕ) (n : ℕ) : Type 0 where
-  pub there : n ≤ length others
-  pub first-some : 1 ≤ first
-  pub others-some : (i : ℕ) → i < n → 1 ≤ getD others i 0

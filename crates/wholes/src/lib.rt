@@ -2,9 +2,8 @@
 // The horizon of a task set and the processors of a ring are counted with them.
 ghost use mathlib.Core.Path.{_≡_};
 ghost use Prim.Native.Nat.{_≤_};
-ghost use lib.ListN.{take};
 ghost use Rattle.wholes.specs.Measure.{commonMeasure};
-ghost use Rattle.wholes.specs.Multiple.{leastMultiple, leastMultipleOf, within, Positive};
+ghost use Rattle.wholes.specs.Multiple.{leastMultiple, within};
 ghost use Rattle.wholes.specs.Ceiling.{ceilingOf};
 
 // By remainders: the second number falls at each call.
@@ -34,26 +33,6 @@ pub fn least_multiple(a: u64, b: u64, limit: u64) -> Multiple
     } else {
         Multiple::Past
     }
-}
-
-// Of `first` and the first n of `others`. Positive multiples only grow, so the first that is past the limit decides.
-pub fn least_multiple_of(first: u64, others: &[u64], n: usize, limit: u64) -> Multiple
-    requires { ⌜ Positive first (now others) n ⌝ }
-    ensures { λ r. ⌜ r ≡ within limit (leastMultipleOf first (take n (now (others .entry)))) ⌝ }
-{
-    if limit < first {
-        return Multiple::Past;
-    }
-    let mut m = first;
-    let mut i = 0;
-    while i < n {
-        let Multiple::Within(next) = least_multiple(m, others[i], limit) else {
-            return Multiple::Past;
-        };
-        m = next;
-        i += 1;
-    }
-    Multiple::Within(m)
 }
 
 // The least number of b's that hold a.

@@ -12,9 +12,8 @@ use Rattle.demand.proofs.Demand.{loads-next}
 use Rattle.tasks.specs.Set.{mostTasks}
 use Rattle.members.proofs.FiledLaws.{filed-first}
 use Rattle.places.specs.Places.{chosen}
-use Rattle.servers.specs.Placement.{fit, placementOf}
+use Rattle.servers.specs.Placement.{fit, placementOf, placed}
 use Rattle.servers.specs.Totals.{totalIn}
-use Rattle.servers.specs.Reserve.{placed}
 use Rattle.servers.proofs.TotalLaws.{joined-total}
 use Rattle.servers.proofs.SoFarLaws.{SoFar, so-far-none, so-far-room, so-far-few, so-far-totals, so-far-fit, so-far-takes, so-far-range, so-far-next, so-far-placed}
 use Rattle.servers.proofs.placement.place.Statement.{statement}

@@ -1,18 +1,23 @@
 -- `takes_task` meets its contract: the members of the server and the task behind them, charged, are the server's loads, and their own
 -- horizon decides. Assumes nothing.
-use Prim.Native.Nat.{ℕ, _+_, _^_, _≤_, _<_}
-use mathlib.Core.Path.{_≡_, refl, sym, ap, ap₂, _∙_}
+use Prim.Native.Nat.{ℕ, _+_, _<_}
+use mathlib.Core.Path.{_≡_, refl, sym, ap₂, _∙_}
 use mathlib.Core.Logic.{inr}
 use mathlib.Core.List.{List, [], _∷_, _++_}
 use borrow.Author.Needs.{needs}
 use native.Mathlib.Omega.{arith}
-use lib.ListN.{length, take}
-use Rattle.demand.specs.Load.{Load, Every, loadAt, loadsOf}
+use lib.ListN.{take, set}
+use Rattle.wholes.specs.Multiple.{within}
+use Rattle.wholes.specs.declared.Multiple.{Multiple}
+use Rattle.wholes.specs.declared.Multiple.the-variants.{Within}
+use Rattle.demand.specs.Load.{Load, Loaded, loadAt, loadsOf}
 use Rattle.demand.specs.Demand.{demand}
 use Rattle.demand.proofs.Demand.{loads-next}
-use Rattle.verdict.specs.Verdict.{passing}
+use Rattle.verdict.specs.Verdict.{ownHorizon, passing}
+use Rattle.tasks.specs.Set.{mostTasks}
 use Rattle.places.specs.Places.{chosen}
-use Rattle.members.specs.Charge.{Member, Overheads}
+use Rattle.members.specs.Charge.{serverLoads, Overheads}
+use Rattle.members.specs.Server.{serverHorizon}
 use Rattle.servers.specs.Placement.{takes}
 use Rattle.servers.proofs.FittingLaws.{members-with}
 use Rattle.servers.proofs.ChargedLaws.{Standing, standing-joined, place-free, may-charge, whole-testable, charged-loads, charged-loaded, charged-timed, horizon-found, horizon-not-past, fits-whole}
@@ -20,8 +25,59 @@ use Rattle.servers.proofs.placement.takes_task.Statement.{statement}
 use Rattle.servers.proofs.placement.takes_task.Tie as tie
 
 -- the header's overheads are numbers of two bytes
-overheads : (c : tie.Start) → Overheads (c .args .header)
-overheads c = record { release = search needs; switch = search needs; delay = search needs; cache = search needs }
+overheads : (s : tie.Start) → Overheads (s .args .header)
+overheads s = record { release = search needs; switch = search needs; delay = search needs; cache = search needs }
+
+-- the members of the server with the task
+abbrev members : (s : tie.Start) → List Load
+members s =
+    chosen (loadsOf (s .args .figures .now) (s .args .i)) (take (s .args .i) (s .args .placement .now)) (s .args .q)
+    ++ (loadAt (s .args .figures .now) (s .args .i) ∷ [])
+
+-- once the members' places are found
+module _ (c : tie.After-places2) where
+  abbrev start : tie.Start
+  start = c .before .before .before .before .before
+
+  abbrev found : List ℕ
+  found = c .before .places-of .last .1 .1 .1 .0
+
+  below : start .args .i < mostTasks
+  below = omega (arith, start .pre .0 .few)
+
+  free : c .before .places-of .result < mostTasks
+  free =
+      place-free (start .args .figures .now) (start .args .placement .now) _ (start .args .i) (start .args .q) (start .pre .1) refl
+      (c .before .places-of .ensures .0) (c .before .places-of .ensures .1) below
+
+  standing : Standing (start .args .figures .now) (start .args .i + 1) (members start) (set found (c .before .places-of .result) (start .args .i)) (c .before .places-of .result + 1)
+  standing =
+      standing-joined (start .args .figures .now) (start .args .placement .now) _ (start .args .i) (start .args .q) (start .pre .1) refl
+      (c .before .places-of .ensures .0) (c .before .places-of .ensures .1) below
+
+-- once they are charged
+module _ (c : tie.After-charge) where
+  abbrev at-places : tie.After-places2
+  at-places = c .before .before .before .before
+
+  abbrev from : tie.Start
+  from = start at-places
+
+  abbrev loads : List ℕ
+  loads = c .charge .last .1 .1 .1 .1 .1 .0
+
+  abbrev count : ℕ
+  count = at-places .before .places-of .result + 1
+
+  own-loads : loadsOf loads count ≡ serverLoads (from .args .header) (members from)
+  own-loads = charged-loads (from .pre .0) (standing at-places) _ refl (c .charge .ensures)
+
+  own-loaded : Loaded loads count
+  own-loaded = charged-loaded (from .pre .0) (standing at-places) _ refl (c .charge .ensures) (overheads from)
+
+  own-horizon : {r : Multiple} {own : ℕ} → r ≡ within (from .args .horizon) (ownHorizon (from .args .header .slot) (loadsOf loads count)) → r ≡ Within own →
+      own ≡ serverHorizon (from .args .header) (members from)
+  own-horizon e f = horizon-found (from .pre .0) (standing at-places) _ refl (c .charge .ensures) e f
 
 slice-aggregate-places-of : tie.Need-slice-aggregate-places-of
 slice-aggregate-places-of c = search needs
@@ -33,14 +89,10 @@ cast-places : tie.Need-cast-places
 cast-places c = search needs
 
 array-write-places : tie.Need-array-write-places
-array-write-places c =
-    let s = c .before .before .before .before .before in
-    omega (arith, place-free (s .args .figures .now) (s .args .placement .now) _ (s .args .i) (s .args .q) (s .pre .1) refl (c .before .places-of .ensures .0) (c .before .places-of .ensures .1) (omega (arith, s .pre .0 .few)))
+array-write-places c = omega (arith, free c)
 
 add-n : tie.Need-add-n
-add-n c =
-    let s = c .before .before .before .before .before in
-    omega (arith, place-free (s .args .figures .now) (s .args .placement .now) _ (s .args .i) (s .args .q) (s .pre .1) refl (c .before .places-of .ensures .0) (c .before .places-of .ensures .1) (omega (arith, s .pre .0 .few)))
+add-n c = omega (arith, free c)
 
 cast-charge : tie.Need-cast-charge
 cast-charge c = search needs
@@ -53,11 +105,9 @@ slice-aggregate-charge-2 c = search needs
 
 charge-requires : tie.Need-charge-requires
 charge-requires c κs =
-    let s = c .before .before .before .before .before .before .before .before in
-    let found = c .before .before .before .before .places-of in
-    let w = standing-joined (s .args .figures .now) (s .args .placement .now) _ (s .args .i) (s .args .q) (s .pre .1) refl (found .ensures .0) (found .ensures .1) (omega (arith, s .pre .0 .few)) in
-    let o = overheads s in
-    may-charge (s .pre .0) w (s .args .header .cpmdo) _ (omega (arith, o .cache)) refl
+    let at = c .before .before .before in
+    let o = overheads (start at) in
+    may-charge (start at .pre .0) (standing at) (start at .args .header .cpmdo) _ (omega (arith, o .cache)) refl
 
 cast-slot : tie.Need-cast-slot
 cast-slot c = search needs
@@ -67,10 +117,8 @@ slice-aggregate-horizon-of c = search needs
 
 horizon-of-requires : tie.Need-horizon-of-requires
 horizon-of-requires c κs =
-    let s = c .before .before .before .before .before .before .before .before .before .before .before .before in
-    let found = c .before .before .before .before .before .before .before .before .places-of in
-    let w = standing-joined (s .args .figures .now) (s .args .placement .now) _ (s .args .i) (s .args .q) (s .pre .1) refl (found .ensures .0) (found .ensures .1) (omega (arith, s .pre .0 .few)) in
-    charged-timed (s .pre .0) w _ refl (c .before .before .before .charge .ensures)
+    let at = c .before .before .before in
+    charged-timed (from at .pre .0) (standing (at-places at)) _ refl (at .charge .ensures)
 
 enum-known-own : tie.Need-enum-known-own
 enum-known-own c = search needs
@@ -78,38 +126,30 @@ enum-known-own c = search needs
 enum-told : tie.Need-enum-told
 enum-told c = search needs
 
+-- the horizon is within the file's
 returns : tie.Need-returns
 returns c =
-    let s = c .before .before .before .before .before .before .before .before .before .before .before .before .before .before .before in
-    let found = c .before .before .before .before .before .before .before .before .before .before .before .places-of in
-    let w = standing-joined (s .args .figures .now) (s .args .placement .now) _ (s .args .i) (s .args .q) (s .pre .1) refl (found .ensures .0) (found .ensures .1) (omega (arith, s .pre .0 .few)) in
-    horizon-not-past (s .pre .0) w _ refl (c .before .before .before .before .before .before .charge .ensures) (c .before .before .horizon-of .ensures) (c .enum-told .given .1)
+    let at = c .before .before .before .before .before .before in
+    horizon-not-past (from at .pre .0) (standing (at-places at)) _ refl (at .charge .ensures) (c .before .before .horizon-of .ensures) (c .enum-told .given .1)
 
 slice-aggregate-passes : tie.Need-slice-aggregate-passes
 slice-aggregate-passes c = search needs
 
 passes-requires : tie.Need-passes-requires
 passes-requires c κs =
-    let s = c .before .before .before .before .before .before .before .before .before .before .before .before .before .before .before .before .before in
-    let found = c .before .before .before .before .before .before .before .before .before .before .before .before .before .places-of in
-    let w = standing-joined (s .args .figures .now) (s .args .placement .now) _ (s .args .i) (s .args .q) (s .pre .1) refl (found .ensures .0) (found .ensures .1) (omega (arith, s .pre .0 .few)) in
-    let charged = c .before .before .before .before .before .before .before .before .charge .ensures in
-    let own = horizon-found (s .pre .0) w _ refl charged (c .before .before .before .before .horizon-of .ensures) (c .before .before .own .given .1) in
-    (charged-loaded (s .pre .0) w _ refl charged (overheads s), (whole-testable (s .pre .0) w own (overheads s), inr refl))
+    let at = c .before .before .before .before .before .before .before .before in
+    let own = own-horizon at (c .before .before .before .before .horizon-of .ensures) (c .before .before .own .given .1) in
+    (own-loaded at, (whole-testable (from at .pre .0) (standing (at-places at)) own (overheads (from at)), inr refl))
 
 returns-2 : tie.Need-returns-2
 unfolding takes
 returns-2 c =
-    let s = c .before .before .before .before .before .before .before .before .before .before .before .before .before .before .before .before .before .before in
-    let found = c .before .before .before .before .before .before .before .before .before .before .before .before .before .before .places-of in
-    let w = standing-joined (s .args .figures .now) (s .args .placement .now) _ (s .args .i) (s .args .q) (s .pre .1) refl (found .ensures .0) (found .ensures .1) (omega (arith, s .pre .0 .few)) in
-    let charged = c .before .before .before .before .before .before .before .before .before .charge .ensures in
-    let own = horizon-found (s .pre .0) w _ refl charged (c .before .before .before .before .before .horizon-of .ensures) (c .before .before .before .own .given .1) in
-    let slot = s .args .header .slot in
-    let members = chosen (loadsOf (s .args .figures .now) (s .args .i)) (take (s .args .i) (s .args .placement .now)) (s .args .q) ++ (loadAt (s .args .figures .now) (s .args .i) ∷ []) in
+    let at = c .before .before .before .before .before .before .before .before .before in
+    let s = from at in
+    let own = own-horizon at (c .before .before .before .before .before .horizon-of .ensures) (c .before .before .before .own .given .1) in
     c .passes .ensures ∙
-    ap₂ (λ (ls : List Load) (H : ℕ). passing (demand ls) H slot 0 slot) (charged-loads (s .pre .0) w _ refl charged) own ∙
-    fits-whole (s .args .header) members
+    ap₂ (λ (ls : List Load) (H : ℕ). passing (demand ls) H (s .args .header .slot) 0 (s .args .header .slot)) (own-loads at) own ∙
+    fits-whole (s .args .header) (members s)
     (members-with (s .args .header) (loadsOf (s .args .figures .now) (s .args .i)) (take (s .args .i) (s .args .placement .now)) (loadAt (s .args .figures .now) (s .args .i))
     (rw (sym (loads-next (s .args .figures .now) (s .args .i))) (s .pre .0 .members)) (s .args .q))
     (s .pre .0 .slot)

@@ -7,9 +7,9 @@ use native.Mathlib.Omega.{arith}
 use lib.ListN.{take}
 use Rattle.demand.specs.Load.{loadsOf}
 use Rattle.places.proofs.PaddedLaws.{Filled, filled-none, filled-next, filled-all}
-use Rattle.servers.specs.Reserve.{reserveIn}
-use Rattle.servers.proofs.sizing.size.Statement.{statement}
-use Rattle.servers.proofs.sizing.size.Tie as tie
+use Rattle.sizing.specs.Reserve.{reserveIn}
+use Rattle.sizing.proofs.size.Statement.{statement}
+use Rattle.sizing.proofs.size.Tie as tie
 
 abbrev Inv-loop : tie.InvT-loop
 Inv-loop header figures placement n count horizon reserve₀ at₀ q₀ reserve at q =

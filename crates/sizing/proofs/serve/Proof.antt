@@ -8,10 +8,10 @@ use Rattle.demand.specs.Load.{Load, loadsOf}
 use Rattle.demand.proofs.Demand.{loads-length}
 use Rattle.tasks.specs.declared.set.Header.{Header}
 use Rattle.places.specs.Padded.{padded, upTo}
-use Rattle.servers.specs.Reserve.{reserveIn, reservesOf, sized, serversOf}
+use Rattle.sizing.specs.Reserve.{reserveIn, reservesOf, sized, serversOf}
 use Rattle.servers.proofs.SoFarLaws.{Held, held}
-use Rattle.servers.proofs.serve.Statement.{statement}
-use Rattle.servers.proofs.serve.Tie as tie
+use Rattle.sizing.proofs.serve.Statement.{statement}
+use Rattle.sizing.proofs.serve.Tie as tie
 
 -- a placement and the reserves of its servers are the answer
 served : {h : Header} {figures : List Load} {n : ℕ} {placement : List ℕ} {count : ℕ} → Held h figures n placement count →

@@ -7,9 +7,8 @@ use Rattle.tasks.specs.declared.set.Header.{Header}
 use Rattle.places.specs.Padded.{padded, upTo}
 use Rattle.places.specs.Places.{chosen}
 use Rattle.members.specs.Server.{reserveFor}
 use Rattle.servers.specs.Placement.{serversIn, placementOf}
-use Rattle.servers.specs.declared.Servers.{Servers}
-use Rattle.servers.specs.declared.placement.Placed.{Placed}
+use Rattle.sizing.specs.declared.Servers.{Servers}
 
 -- the smallest allowed reserve with which server q of a placement passes
 abbrev pub reserveIn : Header → (figures : List Load) → (placement : List ℕ) → (q : ℕ) → ℕ
@@ -17,10 +16,6 @@ reserveIn h figures placement q = reserveFor h (chosen figures placement q)
 
 unfoldable pub reservesOf : Header → (figures : List Load) → (placement : List ℕ) → List ℕ
 reservesOf h figures placement = upTo (reserveIn h figures placement) (serversIn placement)
-
--- a placement in a struct: how many servers there are, and the tasks' servers
-unfoldable pub placed : (placement : List ℕ) → Placed
-placed placement = record { count = serversIn placement; placement = padded placement }
 
 -- a placement with its reserves
 unfoldable pub sized : Header → (figures : List Load) → (placement : List ℕ) → Servers

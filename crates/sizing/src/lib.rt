@@ -1,9 +1,10 @@
-// The smallest reserve of each server of a placement. What it means stands in specs/Reserve.antt.
-// The server of each task stands in a slice, of which the first n count.
+// Sizing: the smallest reserve of each server of a placement; and placing and sizing in one. What they mean stands in specs/Reserve.antt.
+// The tasks' own figures stand in one slice, three for each, and the server of each task in another, of which the first n count.
 use members::charge;
 use members::horizon_of;
 use members::loss;
 use places::places_of;
+use servers::placement::place;
 use tasks::set::Header;
 use tasks::set::TaskSet;
 use wholes::Multiple;
@@ -14,7 +15,7 @@ ghost use Rattle.demand.specs.Load.{loadsOf};
 ghost use Rattle.places.specs.Padded.{padded, upTo};
 ghost use Rattle.tasks.specs.Set.{mostTasks};
 ghost use Rattle.members.specs.Server.{Filed};
-ghost use Rattle.servers.specs.Reserve.{reserveIn};
+ghost use Rattle.sizing.specs.Reserve.{reserveIn, serversOf};
 
 // The smallest allowed reserve with which server q passes, by its own loss and its own horizon.
 pub fn reserve_of(
@@ -63,4 +64,26 @@ pub fn size(
         at += 1;
     }
     reserve
+}
+
+// The server of each task in file order, and the reserve of each server; servers count from 1, unused room is zero.
+pub struct Servers {
+    pub count: u64,
+    pub placement: [u64; TaskSet::MOST_TASKS],
+    pub reserve: [u64; TaskSet::MOST_TASKS],
+}
+
+// The tasks are placed, and then each server is sized. The horizon is the file's, or another multiple of the slot and the periods.
+pub fn serve(header: Header, figures: &[u64], n: usize, horizon: u64) -> Servers
+    requires { ⌜ Filed header (now figures) n horizon ⌝ }
+    ensures { λ r. ⌜ r ≡ serversOf header (loadsOf (now (figures .entry)) n) ⌝ }
+{
+    let placed = place(header, figures, n, horizon);
+    let placement = placed.placement;
+    let reserve = size(header, figures, &placement, n, placed.count, horizon);
+    Servers {
+        count: placed.count,
+        placement,
+        reserve,
+    }
 }
