@@ -1,2 +1,2 @@
 pub mod Table
-pub mod Line
+pub mod Overflow

@@ -5,7 +5,7 @@ ghost use mathlib.Core.Path.{_≡_};
 ghost use Prim.Native.Nat.{_<_, _≤_};
 ghost use lib.ListN.{length as count};
 ghost use Rattle.frames.specs.Table.{rowOf, widthOf, fieldsIn, fieldStart, lengthOf, indexOf, mostFields};
-ghost use Rattle.frames.specs.Line.{lineOverflows};
+ghost use Rattle.frames.specs.Overflow.{lineOverflows};
 
 pub enum Frame {
     Header,

@@ -8,8 +8,8 @@ use borrow.Author.Tests.{eq-eqb, eqb-true}
 use lib.Dec.{eqb}
 use lib.ListN.{take}
 use Rattle.laws.proofs.Tests.{and-left, and-right}
-use Rattle.frames.specs.Line.{same}
-use Rattle.frames.proofs.Cuts.{same-equal, equal-same}
+use Rattle.laws.specs.Same.{same}
+use Rattle.laws.proofs.SameLaws.{same-equal, equal-same}
 use Rattle.plan.specs.declared.plan.Plan.{Plan}
 use Rattle.plancheck.specs.Agrees.{sameFront, sameFigures, sameServers, sameProcessors, agrees, SamePlan}
 

@@ -9,7 +9,7 @@ use native.Mathlib.Omega.{arith}
 use borrow.Author.Tests.{eq-eqb, ne-eqb}
 use lib.ListN.{length, take, drop, getD, drop-of-length-le}
 use lib.Seq.{drop-cons, getD-take, length-take-le}
-use Rattle.frames.specs.Line.{same}
+use Rattle.laws.specs.Same.{same}
 use Rattle.plancheck.specs.Agrees.{sameFront}
 
 module _ (a b : List ℕ) (n : ℕ) (a-there : n ≤ length a) (b-there : n ≤ length b) (i : ℕ) where

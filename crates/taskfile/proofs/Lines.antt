@@ -9,7 +9,7 @@ use mathlib.Core.Path.{_≡_, refl, sym, _∙_, ap}
 use lib.ListN.{length}
 use lib.Dec.{eqb}
 use borrow.Author.Tests.{eq-eqb, ne-eqb, not-false}
-use Rattle.frames.specs.Line.{formed, closed}
+use Rattle.frameread.specs.Line.{formed, closed}
 use Rattle.frames.specs.declared.table.Frame.{Frame}
 use Rattle.refusals.specs.declared.Refusal.{Refusal}
 use Rattle.refusals.specs.declared.Refusal.the-variants.{Line, Order, Count, Twice}
@@ -19,7 +19,7 @@ use Rattle.refusals.specs.First.{firstOf, when, till}
 use Rattle.tasks.specs.Set.{mostTasks, hasId}
 use Rattle.tasks.specs.Search.{some}
 use Rattle.taskfile.specs.File.{past, empty, lineRow, orderRow, countLineRow, twiceLineRow, lineOutcome, taskAt, tasksAmong, fileTasks}
-use Rattle.frames.proofs.KindLaws.{not-formed}
+use Rattle.frameread.proofs.KindLaws.{not-formed}
 use Rattle.refusals.proofs.FirstLaws.{done-refused, till-done, done-till}
 use Rattle.taskfile.proofs.Past.{absent-later, absent-past}
 use Rattle.taskfile.proofs.AmongLaws.{task-counts}

@@ -9,17 +9,17 @@ use mathlib.Core.Path.{_≡_, refl, sym, _∙_, ap, subst}
 use lib.ListN.{length, drop, length-map}
 use lib.Dec.{eqb}
 use borrow.Author.Tests.{eq-eqb, ne-eqb}
-use Rattle.frames.specs.Line.{formed, fieldOf}
+use Rattle.frameread.specs.Line.{formed, fieldOf}
 use types.Run.{OneOf, miss}
 use denote.Enum.Declared.{tagOf}
 use Rattle.frames.proofs.table.Frame.{the-type}
 use Rattle.frames.specs.Table.{widthOf, indexOf, allFrames}
-use Rattle.frames.proofs.KindLaws.{not-formed}
+use Rattle.frameread.proofs.KindLaws.{not-formed}
 use Rattle.frames.specs.declared.table.Frame.{Frame}
 use Rattle.refusals.specs.declared.Refusal.the-variants.{Line, Order, Count, Twice}
 use Rattle.refusals.specs.declared.Outcome.the-variants.{Refused}
 use Rattle.refusals.specs.First.{firstOf, when}
-use Rattle.frames.proofs.Formed.{field-below}
+use Rattle.frameread.proofs.Formed.{field-below}
 use Rattle.tasks.specs.declared.set.Task.{Task}
 use Rattle.tasks.specs.Set.{mostTasks, hasId}
 use Rattle.tasks.specs.Search.{some}

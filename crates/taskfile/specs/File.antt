@@ -5,7 +5,7 @@ use mathlib.Core.List.{List, [], _∷_, _++_}
 use mathlib.Core.Bool.{Bool, true, false, not, cond, _&&_, _||_}
 use lib.ListN.{length}
 use lib.Dec.{eqb}
-use Rattle.frames.specs.Line.{after, formed, fieldOf}
+use Rattle.frameread.specs.Line.{after, formed, fieldOf}
 use Rattle.frames.specs.declared.table.Frame.{Frame}
 use Rattle.refusals.specs.declared.Refusal.the-variants.{Line, Order, Count, Twice}
 use Rattle.refusals.specs.declared.Outcome.{Outcome}

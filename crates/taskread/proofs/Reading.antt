@@ -9,7 +9,7 @@ use mathlib.Core.Bool.{true}
 use mathlib.Core.Path.{_≡_, refl, sym, _∙_, ap, subst}
 use lib.ListN.{length, drop, take, set as put, length-append, length-set, drop-of-length-le}
 use lib.Seq.{take-suc-set}
-use Rattle.frames.specs.Line.{formed, closed}
+use Rattle.frameread.specs.Line.{formed, closed}
 use Rattle.frames.specs.Table.{lengthOf}
 use Rattle.frames.specs.declared.table.Frame.{Frame}
 use Rattle.refusals.specs.declared.Refusal.{Refusal}

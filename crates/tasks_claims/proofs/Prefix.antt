@@ -8,14 +8,14 @@ use mathlib.Core.Path.{_≡_, refl, sym, _∙_, ap, ap₂}
 use lib.ListN.{length, take, drop}
 use lib.Seq.{take-all, take-take, take-add, drop-at, length-take-le}
 use lib.Dec.{eqb}
-use Rattle.frames.specs.Line.{formed, fieldOf, line}
+use Rattle.frameread.specs.Line.{formed, fieldOf, line}
 use Rattle.frames.specs.Table.{lengthOf, widthsOf, sum}
 use Rattle.frames.specs.declared.table.Frame.{Frame}
 use Rattle.refusals.specs.declared.Refusal.{Refusal}
 use Rattle.refusals.specs.declared.Refusal.the-variants.{Count, Twice}
 use Rattle.refusals.specs.declared.Outcome.{Outcome}
 use Rattle.refusals.specs.declared.Outcome.the-variants.{Done, Refused}
-use Rattle.frames.proofs.Formed.{formed-line}
+use Rattle.frameread.proofs.Formed.{formed-line}
 use Rattle.frames_claims.proofs.LineLaws.{formed-prefix}
 use Rattle.tasks.specs.declared.set.Task.{Task}
 use Rattle.refusals.specs.First.{firstOf, when, till}

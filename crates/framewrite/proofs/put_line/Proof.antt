@@ -7,10 +7,10 @@ use native.Mathlib.Omega.{arith}
 use lib.ListN.{length}
 use Rattle.frames.specs.declared.table.Row.{Row}
 use Rattle.frames.specs.Table.{rowOf, widthsOf}
-use Rattle.frames.specs.Line.{fields}
+use Rattle.framewrite.specs.Line.{fields}
 use Rattle.digits.specs.Stored.{stored}
 use Rattle.frames.proofs.Tables.{kind-length}
-use Rattle.frames.proofs.Lines.{line-stored}
+use Rattle.framewrite.proofs.LineLaws.{line-stored}
 use borrow.Author.Needs.{needs}
 use Rattle.framewrite.proofs.put_line.Statement.{statement}
 use Rattle.framewrite.proofs.put_line.Tie as tie

@@ -6,14 +6,14 @@ use Prim.Native.Nat.{ℕ, _≤_}
 use native.Mathlib.Omega.{arith}
 use denote.Ref.{now}
 use lib.ListN.{length}
-use Rattle.frames.specs.Line.{formed, kindAt}
+use Rattle.frameread.specs.Line.{formed, kindAt}
 use Rattle.frames.specs.declared.table.Frame.{Frame}
-use Rattle.frames.specs.declared.line.Found.{Found}
+use Rattle.frameread.specs.declared.Found.{Found}
 use Rattle.refusals.specs.declared.Outcome.{Outcome}
 use Rattle.headerline.specs.declared.HeaderLine.{HeaderLine}
 use Rattle.taskfile.specs.File.{lineOutcome, headerAt, empty}
 use Rattle.headerline.specs.Answer.{headerOr}
-use Rattle.frames.proofs.KindLaws.{kind-formed, kind-none}
+use Rattle.frameread.proofs.KindLaws.{kind-formed, kind-none}
 use Rattle.taskfile.proofs.Past.{nothing-left}
 use Rattle.taskfile.proofs.Lines.{first-missing, first-header, first-task, first-other}
 use Rattle.taskfile.proofs.Standing.{byte-there, other-frame}

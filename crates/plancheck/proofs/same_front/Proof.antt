@@ -5,7 +5,7 @@ use Prim.Native.Nat.{_-_, _≤_}
 use mathlib.Core.Path.{_≡_, refl, sym}
 use native.Mathlib.Omega.{arith}
 use lib.ListN.{take, drop}
-use Rattle.frames.specs.Line.{same}
+use Rattle.laws.specs.Same.{same}
 use Rattle.plancheck.specs.Agrees.{sameFront}
 use Rattle.plancheck.proofs.Fronts.{front-apart, front-next, front-end}
 use Rattle.plancheck.proofs.same_front.Statement.{statement}

@@ -5,14 +5,14 @@ use mathlib.Core.List.{List}
 use Prim.Native.Nat.{ℕ}
 use denote.Ref.{now}
 use lib.ListN.{drop}
-use Rattle.frames.specs.Line.{formed, kindAt}
+use Rattle.frameread.specs.Line.{formed, kindAt}
 use Rattle.frames.specs.declared.table.Frame.{Frame}
-use Rattle.frames.specs.declared.line.Found.{Found}
+use Rattle.frameread.specs.declared.Found.{Found}
 use Rattle.refusals.specs.declared.Outcome.{Outcome}
 use Rattle.taskline.specs.declared.TaskLine.{TaskLine}
 use Rattle.taskfile.specs.File.{taskAt}
 use Rattle.taskline.specs.Answer.{taskOr}
-use Rattle.frames.proofs.KindLaws.{kind-formed, kind-none}
+use Rattle.frameread.proofs.KindLaws.{kind-formed, kind-none}
 use Rattle.taskfile.proofs.Standing.{other-frame, said-line, said-order}
 use borrow.Author.Needs.{needs}
 use Rattle.taskline.proofs.task_line.Statement.{statement}

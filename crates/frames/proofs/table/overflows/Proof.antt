@@ -7,7 +7,7 @@ use lib.ListN.{drop, getD}
 use borrow.Author.Needs.{needs}
 use Rattle.digits.specs.Number.{tooLarge}
 use Rattle.frames.specs.Table.{widthsOf}
-use Rattle.frames.specs.Line.{someTooLarge, lineOverflows}
+use Rattle.frames.specs.Overflow.{someTooLarge, lineOverflows}
 use Rattle.frames.proofs.Tables.{fields-most}
 use Rattle.frames.proofs.TooLarge.{large-found, large-next, large-over}
 use Rattle.frames.proofs.table.overflows.Statement.{statement}
