@@ -2,8 +2,8 @@
 pub mod figures; // figures.rt: figures copied to their place among numbers
 
 use frames::table::Frame;
-use frames::table::fields_in;
-use frames::table::length;
+use framesizes::fields_in;
+use framesizes::length;
 use framewrite::put_line;
 ghost use mathlib.Core.Path.{_≡_};
 ghost use Prim.Native.Nat.{_+_, _*_, _≤_};

@@ -1,2 +1,2 @@
-// Frames: the one table of kinds and widths, and what follows from it: lengths, starts, and which values fit.
+// Frames: the one table of kinds and widths.
 pub mod table;

@@ -9,7 +9,7 @@ use Rattle.frames.specs.declared.table.Frame.{Frame}
 use Rattle.frames.specs.Table.{allFrames, kindOf, fieldsIn, lengthOf}
 use Rattle.frameread.specs.Line.{after, formed}
 use Rattle.framewrite.specs.Line.{lineOf}
-use Rattle.frames.specs.Overflow.{lineOverflows}
+use Rattle.framesizes.specs.Overflow.{lineOverflows}
 use Rattle.frames_claims.specs.Values.{fieldsOf}
 
 -- the digits of a line of each kind, in the table's order

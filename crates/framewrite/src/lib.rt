@@ -1,10 +1,10 @@
 // A line of a frame, written to a place in a lent buffer from the values of its fields.
 use digits::put_number;
 use frames::table::Frame;
-use frames::table::fields_in;
-use frames::table::length;
 use frames::table::row_of;
-use frames::table::width;
+use framesizes::fields_in;
+use framesizes::length;
+use framesizes::width;
 ghost use mathlib.Core.Path.{_≡_};
 ghost use Prim.Native.Nat.{_+_, _≤_};
 ghost use lib.ListN.{length as count};
@@ -82,5 +82,5 @@ pub fn put_line(out: &mut [u8], at: usize, frame: Frame, values: &[u64])
     put_bytes(out, at, &kind);
     put_fields(out, at + 2, frame, values);
     let end = at + length(frame);
-    put_bytes(out, end, b"\n");
+    out[end] = b'\n';
 }

@@ -21,7 +21,7 @@ use Rattle.frames.specs.Table.{kindOf, widthsOf, sum}
 use Rattle.frameread.specs.Line.{line, after, closed, formed, fieldOf}
 use Rattle.laws.specs.Same.{same}
 use Rattle.framewrite.specs.Line.{fields, lineOf}
-use Rattle.frames.specs.Overflow.{lineOverflows, someTooLarge}
+use Rattle.framesizes.specs.Overflow.{lineOverflows, someTooLarge}
 use Rattle.tasks.specs.Set.{setOf}
 use Rattle.tasks.specs.Search.{some, firstFrom}
 use Rattle.taskask.specs.Ask.{countRow, twiceRow, headerOverflows, taskOverflows, askRow}

@@ -12,7 +12,7 @@ use Rattle.laws.proofs.Tests.{or-neither}
 use Rattle.frames.specs.Table.{widthsOf}
 use Rattle.frameread.specs.Line.{after, formed, fieldOf}
 use Rattle.framewrite.specs.Line.{lineOf}
-use Rattle.frames.specs.Overflow.{lineOverflows, someTooLarge}
+use Rattle.framesizes.specs.Overflow.{lineOverflows, someTooLarge}
 use Rattle.frames.specs.declared.table.Frame.{Frame}
 use Rattle.refusals.specs.declared.Refusal.{Refusal}
 use Rattle.refusals.specs.declared.Refusal.the-variants.{Count, Twice}

@@ -1,14 +1,15 @@
 -- `framelines::put_lines` meets its contract: the lines put so far are stored, one behind the other.
 -- Assumes nothing.
-use Prim.Native.Nat.{ℕ, _-_}
+use Prim.Native.Nat.{ℕ, _+_, _-_, _≤_}
 use mathlib.Core.Path.{_∙_, ap}
 use mathlib.Core.List.{List}
 use native.Mathlib.Omega.{arith}
-use lib.ListN.{length-drop}
+use lib.ListN.{length, length-drop}
 use borrow.Author.Needs.{needs}
 use borrow.Rule.Slice.PartAt.{part-to-end}
 use Rattle.digits.specs.Stored.{stored}
 use Rattle.framewrite.specs.Line.{lineOf}
+use Rattle.frames.specs.Table.{fieldsIn, lengthOf}
 use Rattle.frames.proofs.Tables.{length-most}
 use Rattle.framelines.proofs.LinesLaws.{Put, put-none, put-room, put-values, put-next, put-all}
 use Rattle.framelines.proofs.put_lines.Statement.{statement}
@@ -32,31 +33,41 @@ fields-in-requires c κs = search needs
 loop-holds : tie.Need-loop-holds Inv-loop μ-loop
 loop-holds c = put-none _ _ _ _ _
 
+-- the next line's values are there, and there is room for it
+values-there : (c : tie.In-loop Inv-loop μ-loop) →
+    let a = c .before .before .before .before .before .before .args in
+    c .before .loop .from + fieldsIn (a .frame) ≤ length (a .values .now)
+values-there c = put-values (c .before .loop .inv) (c .loop-test .taken) (c .before .before .before .before .before .before .pre .0)
+
+room-there : (c : tie.In-loop Inv-loop μ-loop) →
+    let a = c .before .before .before .before .before .before .args in
+    c .before .loop .next + (lengthOf (a .frame) + 1) ≤ length (a .out .now)
+room-there c = put-room (c .before .loop .inv) (c .loop-test .taken) (c .before .before .before .before .before .before .pre .1)
+
 mul-put-line : tie.Need-mul-put-line Inv-loop μ-loop
-mul-put-line c = omega (arith, put-values (c .before .before .loop .inv) (omega arith) (omega arith))
+mul-put-line c = omega (arith, values-there (c .before))
 
 sub-put-line : tie.Need-sub-put-line Inv-loop μ-loop
-sub-put-line c = omega (arith, put-values (c .before .before .loop .inv) (omega arith) (omega arith))
+sub-put-line c = omega (arith, values-there (c .before))
 
 part-put-line-start : tie.Need-part-put-line-start Inv-loop μ-loop
-part-put-line-start c = omega (arith, put-values (c .before .before .loop .inv) (omega arith) (omega arith))
+part-put-line-start c = omega (arith, values-there (c .before))
 
 part-put-line-end : tie.Need-part-put-line-end Inv-loop μ-loop
 part-put-line-end c = search needs
 
 put-line-requires : tie.Need-put-line-requires Inv-loop μ-loop
 put-line-requires c κs =
-    let a = c .before .before .before .before .before .before .before .before .args in
-    let l = c .before .before .before .loop in (
-      rw part-to-end (simp length-drop (omega (arith, put-values (l .inv) (omega arith) (omega arith)))),
-      omega (arith, put-room (l .inv) (omega arith) (omega arith), l .inv .same),
+    let here = c .before .before in (
+      rw part-to-end (simp length-drop (omega (arith, values-there here))),
+      omega (arith, room-there here, here .before .loop .inv .same),
     )
 
 add-next : tie.Need-add-next Inv-loop μ-loop
-add-next c = omega (arith, put-room (c .before .before .before .before .before .before .loop .inv) (omega arith) (omega arith), c .before .before .before .before .before .before .before .before .length .ensures, c .before .before .before .before .before .before .before .before .before .before .before .good)
+add-next c = omega (arith, room-there (c .before .before .before .before .before), c .before .before .before .before .before .before .before .before .length .ensures, c .before .before .before .before .before .before .before .before .before .before .before .good)
 
 add-from : tie.Need-add-from Inv-loop μ-loop
-add-from c = omega (arith, put-values (c .before .before .before .before .before .before .loop .inv) (omega arith) (omega arith), c .before .before .before .before .before .before .before .fields-in .ensures, c .before .before .before .before .before .before .before .before .before .before .before .good)
+add-from c = omega (arith, values-there (c .before .before .before .before .before), c .before .before .before .before .before .before .before .fields-in .ensures, c .before .before .before .before .before .before .before .before .before .before .before .good)
 
 add-done : tie.Need-add-done Inv-loop μ-loop
 add-done c = omega arith
@@ -66,11 +77,12 @@ loop-less c = omega arith
 
 loop-again : tie.Need-loop-again Inv-loop μ-loop
 loop-again c =
-    let a = c .before .before .before .before .before .before .before .before .before .before .before .args in
-    let l = c .before .before .before .before .before .before .loop in
+    let here = c .before .before .before .before .before in
+    let s = here .before .before .before .before .before .before in
+    let l = here .before .loop in
     let written = c .before .before .put-line in
     rw (c .before .before .before .before .before .before .before .before .length .ensures, c .before .before .before .before .before .before .before .fields-in .ensures)
-    (put-next (l .inv) (omega arith) (omega arith) (written .ensures ∙ ap (λ (vs : List ℕ). stored (l .out) (l .next) (lineOf (a .frame) vs)) (part-to-end (a .values .now) (l .from))) (written .kept .0))
+    (put-next (l .inv) (here .loop-test .taken) (s .pre .1) (written .ensures ∙ ap (λ (vs : List ℕ). stored (l .out) (l .next) (lineOf (s .args .frame) vs)) (part-to-end (s .args .values .now) (l .from))) (written .kept .0))
 
 same-length : tie.Need-same-length Inv-loop μ-loop
 same-length c = c .before .loop .inv .same

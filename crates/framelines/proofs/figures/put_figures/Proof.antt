@@ -1,26 +1,21 @@
--- The figures copied so far are stored, one by one.
+-- `framelines::figures::put_figures` meets its contract: the figures copied so far are stored, one by one.
 -- Assumes nothing.
-use Prim.Native.Nat.{ℕ, _+_, _-_, _≤_}
-use mathlib.Core.Path.{_≡_, refl, sym, _∙_, ap}
-use mathlib.Core.List.{List}
+use Prim.Native.Nat.{_-_}
 use native.Mathlib.Omega.{arith}
 use borrow.Author.Needs.{needs}
-use lib.ListN.{length, take, getD, set, length-set}
-use lib.Seq.{take-all}
-use Rattle.digits.specs.Stored.{stored}
-use Rattle.digits.proofs.Stored.{stored-nil, stored-next}
+use lib.ListN.{length}
+use Rattle.digits.proofs.CopyLaws.{Copied, copied-none, copied-next, copied-all}
 use Rattle.framelines.proofs.figures.put_figures.Statement.{statement}
 use Rattle.framelines.proofs.figures.put_figures.Tie as tie
 
 abbrev Inv-loop : tie.InvT-loop
-Inv-loop numbers₀ at figures i₀ numbers i =
-    (i ≤ length figures) × (length numbers ≡ length numbers₀) × (numbers ≡ stored numbers₀ at (take i figures))
+Inv-loop numbers₀ at figures i₀ numbers i = Copied numbers₀ at figures numbers i
 
 abbrev μ-loop : tie.MeasureT-loop
 μ-loop numbers₀ at figures i₀ numbers i = length figures - i
 
 loop-holds : tie.Need-loop-holds Inv-loop μ-loop
-loop-holds c = (omega arith, refl, sym (stored-nil _ _))
+loop-holds c = copied-none _ _ _
 
 add-j : tie.Need-add-j Inv-loop μ-loop
 add-j c = omega arith
@@ -44,23 +39,13 @@ loop-less : tie.Need-loop-less Inv-loop μ-loop
 loop-less c = omega arith
 
 loop-again : tie.Need-loop-again Inv-loop μ-loop
-loop-again c =
-    let a = c .before .before .before .args in
-    let l = c .before .before .loop in (
-      omega arith,
-      simp length-set (omega arith),
-      ap (λ (o : List ℕ). set o (a .at + l .i) (getD (a .figures .now) (l .i) 0)) (l .inv .2)
-          ∙ stored-next (a .numbers .now) (a .at) (a .figures .now) (l .i) (omega arith) (omega arith),
-    )
+loop-again c = copied-next (c .before .before .loop .inv) (omega arith) (omega arith)
 
 same-length : tie.Need-same-length Inv-loop μ-loop
-same-length c = c .before .loop .inv .1
+same-length c = c .before .loop .inv .same
 
 returns : tie.Need-returns Inv-loop μ-loop
-returns c =
-    let a = c .before .before .args in
-    let l = c .before .loop in
-    l .inv .2 ∙ ap (stored (a .numbers .now) (a .at)) (take-all (l .i) (a .figures .now) (omega arith))
+returns c = copied-all (c .before .loop .inv) (omega arith)
 
 pub put-figures-spec : {M : Type 1} → statement M
 put-figures-spec =

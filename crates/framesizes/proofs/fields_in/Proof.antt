@@ -1,11 +1,11 @@
--- `frames::table::fields_in` meets its contract: the row says it.
+-- `framesizes::fields_in` meets its contract: the row says it.
 -- Assumes nothing.
 use mathlib.Core.Path.{ap}
 use borrow.Author.Needs.{needs}
 use Rattle.frames.specs.declared.table.Row.{Row}
 use Rattle.frames.specs.Table.{rowOf}
-use Rattle.frames.proofs.table.fields_in.Statement.{statement}
-use Rattle.frames.proofs.table.fields_in.Tie as tie
+use Rattle.framesizes.proofs.fields_in.Statement.{statement}
+use Rattle.framesizes.proofs.fields_in.Tie as tie
 
 row-of-requires : tie.Need-row-of-requires
 row-of-requires c κs = search needs

@@ -13,9 +13,9 @@ use lib.Seq.{drop-cons}
 use borrow.Author.Tests.{leb-false}
 use Rattle.laws.proofs.Tests.{or-left, or-right}
 use Rattle.digits.specs.Number.{tooLarge}
 use Rattle.frames.specs.declared.table.Frame.{Frame}
 use Rattle.frames.specs.Table.{widthsOf, widthOf, fieldsIn}
-use Rattle.frames.specs.Overflow.{someTooLarge, lineOverflows}
+use Rattle.framesizes.specs.Overflow.{someTooLarge, lineOverflows}
 
 -- the search from one field on: it ends there, or goes on behind it
 module _ (ws vs : List ℕ) (i : ℕ) (h : i < length ws) (k : i < length vs) where

@@ -1,4 +1,4 @@
--- `frames::table::overflows` meets its contract: the values passed fit, so the search goes on behind them.
+-- `framesizes::overflows` meets its contract: the values passed fit, so the search goes on behind them.
 -- Assumes nothing.
 use Prim.Native.Nat.{ℕ, _-_, _≤_}
 use mathlib.Core.Path.{_≡_, refl, sym, _∙_, ap}
@@ -6,12 +6,12 @@ use native.Mathlib.Omega.{arith}
 use lib.ListN.{drop, getD}
 use borrow.Author.Needs.{needs}
 use Rattle.digits.specs.Number.{tooLarge}
 use Rattle.frames.specs.Table.{widthsOf}
-use Rattle.frames.specs.Overflow.{someTooLarge, lineOverflows}
+use Rattle.framesizes.specs.Overflow.{someTooLarge, lineOverflows}
 use Rattle.frames.proofs.Tables.{fields-most}
-use Rattle.frames.proofs.TooLarge.{large-found, large-next, large-over}
-use Rattle.frames.proofs.table.overflows.Statement.{statement}
-use Rattle.frames.proofs.table.overflows.Tie as tie
+use Rattle.framesizes.proofs.TooLarge.{large-found, large-next, large-over}
+use Rattle.framesizes.proofs.overflows.Statement.{statement}
+use Rattle.framesizes.proofs.overflows.Tie as tie
 
 abbrev Inv-loop : tie.InvT-loop
 Inv-loop frame values n field₀ field = (field ≤ n) × (someTooLarge (drop field (widthsOf frame)) (drop field values) ≡ lineOverflows frame values)

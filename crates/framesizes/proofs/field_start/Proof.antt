@@ -1,12 +1,12 @@
--- `frames::table::field_start` meets its contract: the widths passed so far sum up to its start.
+-- `framesizes::field_start` meets its contract: the widths passed so far sum up to its start.
 -- Assumes nothing.
 use Prim.Native.Nat.{_-_, _≤_}
 use mathlib.Core.Path.{_≡_, refl, _∙_, ap}
 use native.Mathlib.Omega.{arith}
 use Rattle.frames.specs.Table.{sum, fieldStart}
 use Rattle.frames.proofs.Tables.{field-next, field-within, length-most}
-use Rattle.frames.proofs.table.field_start.Statement.{statement}
-use Rattle.frames.proofs.table.field_start.Tie as tie
+use Rattle.framesizes.proofs.field_start.Statement.{statement}
+use Rattle.framesizes.proofs.field_start.Tie as tie
 
 abbrev Inv-loop : tie.InvT-loop
 Inv-loop frame field at₀ i₀ at i = (i ≤ field) × (at ≡ fieldStart frame i)

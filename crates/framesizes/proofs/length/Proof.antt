@@ -1,10 +1,10 @@
--- `frames::table::length` meets its contract: past the last field the line ends.
+-- `framesizes::length` meets its contract: past the last field the line ends.
 -- Assumes nothing.
 use mathlib.Core.Path.{_∙_}
 use borrow.Author.Needs.{needs}
 use Rattle.frames.proofs.Tables.{field-last}
-use Rattle.frames.proofs.table.length.Statement.{statement}
-use Rattle.frames.proofs.table.length.Tie as tie
+use Rattle.framesizes.proofs.length.Statement.{statement}
+use Rattle.framesizes.proofs.length.Tie as tie
 
 field-start-requires : tie.Need-field-start-requires
 field-start-requires c κs = search needs

@@ -1,12 +1,12 @@
--- `frames::table::width` meets its contract: the filled row has each field's width.
+-- `framesizes::width` meets its contract: the filled row has each field's width.
 -- Assumes nothing.
 use mathlib.Core.Path.{_∙_, ap}
 use lib.ListN.{getD}
 use borrow.Author.Needs.{needs}
 use Rattle.frames.specs.declared.table.Row.{Row}
 use Rattle.frames.proofs.Tables.{row-width}
-use Rattle.frames.proofs.table.width.Statement.{statement}
-use Rattle.frames.proofs.table.width.Tie as tie
+use Rattle.framesizes.proofs.width.Statement.{statement}
+use Rattle.framesizes.proofs.width.Tie as tie
 
 row-of-requires : tie.Need-row-of-requires
 row-of-requires c κs = search needs
