@@ -1,4 +1,5 @@
 pub mod Claims
+pub mod CopyLaws
 pub mod Digits
 pub mod Numbers
 pub mod Stored

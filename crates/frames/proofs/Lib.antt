@@ -1,9 +1,1 @@
-pub mod Cuts
-pub mod Fields
-pub mod Formed
-pub mod KindLaws
-pub mod Lines
-pub mod LinesLaws
-pub mod Places
 pub mod Tables
-pub mod TooLarge

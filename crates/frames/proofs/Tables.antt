@@ -1,8 +1,9 @@
 -- Laws of the table of frames: the line lengths, and what the filled rows have at each field.
 -- Assumes nothing.
-use Prim.Native.Nat.{ℕ, zero, suc, _+_, _-_, _^_, _≤_, _<_}
-use mathlib.Core.Path.{_≡_, refl, sym, _∙_, ap, ap₂}
+use Prim.Native.Nat.{ℕ, zero, suc, _+_, _≤_, _<_}
+use mathlib.Core.Path.{_≡_, refl, sym, _∙_, ap}
 use mathlib.Core.Bool.{Bool, true, cond, _&&_}
+use mathlib.Core.Option.{Option, none, some}
 use mathlib.Core.List.{List, [], _∷_, _++_, map}
 use native.Mathlib.Numerals.{add-one}
 use native.Mathlib.Omega.{arith}
@@ -10,29 +11,27 @@ use lib.Dec.{leb, ltb, eqb}
 use lib.ListN.{length, getD, take, replicate}
 use lib.Seq.{getD-take, take-all}
 use borrow.Author.Tests.{leb-true, ltb-true, eqb-true}
-use Rattle.frames.specs.declared.line.Found.{Found}
 use Rattle.frames.specs.declared.table.Row.{Row}
 use Rattle.frames.specs.declared.table.Frame.{Frame}
 use Rattle.frames.specs.declared.table.Frame.the-variants.{Header, Task, Plan, Server, Placed, Processor, Refused}
-use Rattle.digits.specs.Digit.{legal, allLegal, digitOf}
-use Rattle.digits.specs.Number.{hex}
-use Rattle.frames.specs.Table.{allFrames, kindOf, widthsOf, fieldsIn, mostFields, sum, widthOf, fieldStart, lengthOf, rowOf, indexOf, markOf}
-use Rattle.frames.specs.Line.{same}
+use Rattle.digits.specs.Digit.{legal, allLegal}
+use Rattle.frames.specs.Table.{allFrames, kindOf, widthsOf, fieldsIn, mostFields, mostWidth, mostDigits, sum, widthOf, fieldStart, lengthOf, rowOf, indexOf}
+use Rattle.laws.specs.Same.{same}
 use Rattle.laws.proofs.Tests.{and-left, and-right}
 
 -- a list over the frames has each frame's entry at its index
-pub at-index : {B : Type 0} (g : Frame → B) (none : B) (frame : Frame) → getD (map g allFrames) (indexOf frame) none ≡ g frame
-at-index g none Header = refl
-at-index g none Task = refl
-at-index g none Plan = refl
-at-index g none Server = refl
-at-index g none Placed = refl
-at-index g none Processor = refl
-at-index g none Refused = refl
+pub at-index : {B : Type 0} (g : Frame → B) (other : B) (frame : Frame) → getD (map g allFrames) (indexOf frame) other ≡ g frame
+at-index g other Header = refl
+at-index g other Task = refl
+at-index g other Plan = refl
+at-index g other Server = refl
+at-index g other Placed = refl
+at-index g other Processor = refl
+at-index g other Refused = refl
 
 -- the table's entry at a frame's index is that frame's row
-pub row-at : (table : List Row) (none : Row) → table ≡ map rowOf allFrames → (frame : Frame) → getD table (indexOf frame) none ≡ rowOf frame
-row-at table none e frame = ap (λ (l : List Row). getD l (indexOf frame) none) e ∙ at-index rowOf none frame
+pub row-at : (table : List Row) (other : Row) → table ≡ map rowOf allFrames → (frame : Frame) → getD table (indexOf frame) other ≡ rowOf frame
+row-at table other e frame = ap (λ (l : List Row). getD l (indexOf frame) other) e ∙ at-index rowOf other frame
 
 -- a test of every entry of a list
 abbrev every : {A : Type 0} → (A → Bool) → List A → Bool
@@ -74,35 +73,35 @@ pub fields-most : (frame : Frame) → fieldsIn frame ≤ mostFields
 unfolding widthsOf
 fields-most frame = leb-true (fieldsIn frame) mostFields (at-frame (λ (f : Frame). leb (fieldsIn f) mostFields) refl frame)
 
--- no line is longer than sixty-four digits
-pub length-most : (frame : Frame) → lengthOf frame ≤ 64
+-- no line has more than the most digits
+pub length-most : (frame : Frame) → lengthOf frame ≤ mostDigits
 unfolding sum widthsOf
-length-most frame = leb-true (lengthOf frame) 64 (at-frame (λ (f : Frame). leb (lengthOf f) 64) refl frame)
+length-most frame = leb-true (lengthOf frame) mostDigits (at-frame (λ (f : Frame). leb (lengthOf f) mostDigits) refl frame)
 
 -- no field is wider than sixteen digits, so that its value fits 64 bits
-pub width-most : (frame : Frame) (field : ℕ) → widthOf frame field ≤ 16
+pub width-most : (frame : Frame) (field : ℕ) → widthOf frame field ≤ mostWidth
 unfolding widthsOf
-width-most frame field = narrow (widthsOf frame) (at-frame (λ (f : Frame). every (λ (w : ℕ). leb w 16) (widthsOf f)) refl frame) field
+width-most frame field = narrow (widthsOf frame) (at-frame (λ (f : Frame). every (λ (w : ℕ). leb w mostWidth) (widthsOf f)) refl frame) field
   where
-    narrow : (ws : List ℕ) → every (λ (w : ℕ). leb w 16) ws ≡ true → (k : ℕ) → getD ws k 0 ≤ 16
+    narrow : (ws : List ℕ) → every (λ (w : ℕ). leb w mostWidth) ws ≡ true → (k : ℕ) → getD ws k 0 ≤ mostWidth
     narrow [] p k = omega arith
-    narrow (w ∷ ws) p zero = leb-true w 16 (and-left (leb w 16) _ p)
-    narrow (w ∷ ws) p (suc k) = narrow ws (and-right (leb w 16) _ p) k
+    narrow (w ∷ ws) p zero = leb-true w mostWidth (and-left (leb w mostWidth) _ p)
+    narrow (w ∷ ws) p (suc k) = narrow ws (and-right (leb w mostWidth) _ p) k
 
 -- the first of these frames that has this kind
-abbrev ofKind : List ℕ → List Frame → Found
-ofKind kind [] = Found.Nothing
-ofKind kind (f ∷ fs) = cond (same kind (kindOf f)) (Found.Frame f) (ofKind kind fs)
+abbrev ofKind : List ℕ → List Frame → Option Frame
+ofKind kind [] = none
+ofKind kind (f ∷ fs) = cond (same kind (kindOf f)) (some f) (ofKind kind fs)
 
-found-kinds : map (λ (f : Frame). ofKind (kindOf f) allFrames) allFrames ≡ map Found.Frame allFrames
+found-kinds : map (λ (f : Frame). ofKind (kindOf f) allFrames) allFrames ≡ map some allFrames
 unfolding kindOf same
 found-kinds = refl
 
-found-kind : (frame : Frame) → ofKind (kindOf frame) allFrames ≡ Found.Frame frame
+found-kind : (frame : Frame) → ofKind (kindOf frame) allFrames ≡ some frame
 found-kind frame =
-    sym (at-index (λ (f : Frame). ofKind (kindOf f) allFrames) Found.Nothing frame)
-    ∙ ap (λ (l : List Found). getD l (indexOf frame) Found.Nothing) found-kinds
-    ∙ at-index Found.Frame Found.Nothing frame
+    sym (at-index (λ (f : Frame). ofKind (kindOf f) allFrames) none frame)
+    ∙ ap (λ (l : List (Option Frame)). getD l (indexOf frame) none) found-kinds
+    ∙ at-index some none frame
 
 -- frames of one kind are one frame
 pub kinds-differ : (f g : Frame) → kindOf f ≡ kindOf g → f ≡ g
@@ -149,11 +148,3 @@ field-last frame = ap (λ (ws : List ℕ). 2 + sum ws) (take-all mostFields (wid
 pub field-next : (frame : Frame) (field : ℕ) → fieldStart frame (field + 1) ≡ fieldStart frame field + widthOf frame field
 field-next frame field =
     ap (λ (n : ℕ). fieldStart frame n) (add-one field) ∙ omega (arith, sum-take (widthsOf frame) field)
-
--- the mark is the greatest number of eight digits
-pub mark-hex : hex 8 (16 ^ 8 - 1) ≡ markOf
-unfolding hex digitOf markOf
-mark-hex = refl
-
-pub mark-value : (width value : ℕ) → width ≡ 8 → value ≡ 16 ^ 8 - 1 → markOf ≡ hex width value
-mark-value width value p q = sym (ap₂ hex p q ∙ mark-hex)

@@ -7,6 +7,10 @@ use Rattle.frames.specs.declared.table.Row.{Row}
 use Rattle.frames.specs.declared.table.Frame.{Frame}
 use Rattle.frames.specs.declared.table.Frame.the-variants.{Header, Task, Plan, Server, Placed, Processor, Refused}
 
+-- the byte LF, which closes a line
+abbrev pub LF : ℕ
+LF = 10
+
 -- a kind's two digits, and the widths of its fields
 abbrev pub Shape : Type 0
 Shape = List ℕ × List ℕ
@@ -48,9 +52,15 @@ widthsOf frame = getD rows (indexOf frame) ([], []) .1
 abbrev pub fieldsIn : Frame → ℕ
 fieldsIn frame = length (widthsOf frame)
 
--- the most fields that a frame has
+-- the most fields that a frame has, the most digits of a field, and the most digits of a line
 abbrev pub mostFields : ℕ
 mostFields = 7
+
+abbrev pub mostWidth : ℕ
+mostWidth = 16
+
+abbrev pub mostDigits : ℕ
+mostDigits = 64
 
 unfoldable pub sum : List ℕ → ℕ
 sum [] = 0
@@ -72,7 +82,3 @@ lengthOf frame = 2 + sum (widthsOf frame)
 unfoldable pub rowOf : Frame → Row
 rowOf frame =
     record { kind = kindOf frame; fields = fieldsIn frame; widths = take mostFields (widthsOf frame ++ replicate mostFields 0) }
-
--- the mark FFFFFFFF, the ring start of a server on a whole processor
-unfoldable pub markOf : List ℕ
-markOf = replicate 8 70

@@ -1,3 +1,2 @@
-// Frames: the table of kinds and widths, and the lines of hexadecimal that follow it, read from a text.
-pub mod line;
+// Frames: the one table of kinds and widths.
 pub mod table;

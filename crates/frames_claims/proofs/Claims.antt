@@ -7,10 +7,10 @@ use native.Mathlib.Omega.{arith}
 use lib.ListN.{length}
 use lib.Seq.{ext-getD}
 use Rattle.frames.specs.Table.{sum, widthsOf, fieldsIn}
-use Rattle.frames.specs.Line.{lineOf}
+use Rattle.framewrite.specs.Line.{lineOf}
 use Rattle.frames.proofs.Tables as table
-use Rattle.frames.proofs.KindLaws as kinds
-use Rattle.frames.proofs.TooLarge.{values-fit}
+use Rattle.frameread.proofs.KindLaws as kinds
+use Rattle.framesizes.proofs.TooLarge.{values-fit}
 use Rattle.frames_claims.specs.Values.{fieldsOf}
 use Rattle.frames_claims.specs.Claims.{LineLengths, KindsDiffer, OneFrame, WrittenFormed, WrittenRead, ReadWritten}
 use Rattle.frames_claims.proofs.LineLaws.{line-formed, field-line, fields-at, fields-many, line-fields}

@@ -12,9 +12,9 @@ use Rattle.digits.specs.Number.{number, hex}
 use Rattle.digits.proofs.Digits.{legal-append, legal-take, legal-drop}
 use Rattle.digits.proofs.Numbers.{hex-length, hex-legal, hex-number}
 use Rattle.frames.specs.Table.{sum}
-use Rattle.frames.specs.Line.{fields}
+use Rattle.framewrite.specs.Line.{fields}
 use Rattle.frames.proofs.Tables.{sum-take, sum-front}
-use Rattle.frames.proofs.Fields.{fields-take}
+use Rattle.framewrite.proofs.Fields.{fields-take}
 
 -- the fields' digits are legal
 pub fields-legal : (ws vs : List ℕ) → allLegal (fields ws vs) ≡ true

@@ -16,12 +16,14 @@ use Rattle.digits.specs.Number.{number}
 use Rattle.digits.proofs.Digits.{legal-not-LF, legal-head, legal-tail, legal-append, legal-drop}
 use Rattle.digits.proofs.Numbers.{number-hex}
 use Rattle.frames.specs.declared.table.Frame.{Frame}
-use Rattle.frames.specs.Table.{kindOf, widthsOf, fieldsIn, sum, widthOf, fieldStart, lengthOf}
-use Rattle.frames.specs.Line.{LF, line, after, same, formed, fieldOf, fields, lineOf}
+use Rattle.frames.specs.Table.{kindOf, widthsOf, fieldsIn, sum, widthOf, fieldStart, lengthOf, LF}
+use Rattle.frameread.specs.Line.{line, after, formed, fieldOf}
+use Rattle.laws.specs.Same.{same}
+use Rattle.framewrite.specs.Line.{fields, lineOf}
 use Rattle.frames.proofs.Tables.{kind-length, kind-legal}
-use Rattle.frames.proofs.Cuts.{line-cut}
-use Rattle.frames.proofs.Fields.{fields-length}
-use Rattle.frames.proofs.Formed.{formed-text, formed-size, line-kind, formed-legal, made-formed, formed-is}
+use Rattle.frameread.proofs.Cuts.{line-cut}
+use Rattle.framewrite.proofs.Fields.{fields-length}
+use Rattle.frameread.proofs.Formed.{formed-text, formed-size, line-kind, formed-legal, made-formed, formed-is}
 use Rattle.frames_claims.specs.Values.{fieldsFrom, fieldsOf}
 use Rattle.frames_claims.proofs.FieldParts.{fields-legal, fields-part, fields-again}
 

@@ -7,7 +7,9 @@ use mathlib.Core.List.{List, [], _∷_, _++_, map}
 use lib.ListN.{length}
 use Rattle.frames.specs.declared.table.Frame.{Frame}
 use Rattle.frames.specs.Table.{allFrames, kindOf, fieldsIn, lengthOf}
-use Rattle.frames.specs.Line.{after, formed, lineOf, lineOverflows}
+use Rattle.frameread.specs.Line.{after, formed}
+use Rattle.framewrite.specs.Line.{lineOf}
+use Rattle.framesizes.specs.Overflow.{lineOverflows}
 use Rattle.frames_claims.specs.Values.{fieldsOf}
 
 -- the digits of a line of each kind, in the table's order

@@ -4,7 +4,7 @@ use Prim.Native.Nat.{ℕ, zero, suc}
 use mathlib.Core.List.{List, [], _∷_}
 use Rattle.frames.specs.declared.table.Frame.{Frame}
 use Rattle.frames.specs.Table.{fieldsIn}
-use Rattle.frames.specs.Line.{fieldOf}
+use Rattle.frameread.specs.Line.{fieldOf}
 
 -- the values of n fields of the first line, from field k on
 unfoldable pub fieldsFrom : Frame → List ℕ → (k n : ℕ) → List ℕ

@@ -1,1 +1,3 @@
-pub mod FillLaws
+pub mod Fields
+pub mod LineLaws
+mod Mark

@@ -1,15 +1,15 @@
 // Line 1 of a task file: the header's figures, or the refusal of the lowest row that holds there.
 // The reader takes the answer apart and hands a refusal straight up.
-use frames::line::Found;
-use frames::line::field;
-use frames::line::kind_at;
+use frameread::Found;
+use frameread::field;
+use frameread::kind_at;
 use frames::table::Frame;
 use refusals::Outcome;
 use refusals::Refusal;
 use tasks::set::Header;
 ghost use mathlib.Core.Path.{_≡_};
 ghost use mathlib.Core.Bool.{true};
-ghost use Rattle.frames.specs.Line.{formed};
+ghost use Rattle.frameread.specs.Line.{formed};
 ghost use Rattle.frames.specs.declared.table.Frame.{Frame};
 ghost use Rattle.taskfile.specs.File.{lineOutcome, headerAt};
 ghost use Rattle.headerline.specs.Answer.{headerOr, ofHeader};

@@ -1,3 +1,4 @@
 pub mod Tests
 pub mod Orders
 pub mod Choices
+pub mod SameLaws

@@ -1,1 +1,1 @@
-// No code of its own: small laws of tests, orders and choices, which the proofs of several crates cite.
+// No code of its own: small laws of tests, orders, choices and lists that are the same, which the proofs of several crates cite.

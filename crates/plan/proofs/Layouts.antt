@@ -10,7 +10,7 @@ use lib.ListN.{length, take}
 use Rattle.laws.proofs.Orders.{le-or-lt}
 use Rattle.wholes.proofs.CeilingLaws.{ceiling-least}
 use Rattle.places.specs.Padded.{padWith, padded, upTo}
-use Rattle.servers.specs.declared.Servers.{Servers}
+use Rattle.sizing.specs.declared.Servers.{Servers}
 use Rattle.reserves.specs.Slotted.{SlottedFirst}
 use Rattle.reserves.specs.Reserves.{ringTicks, wholes, ringProcessors, processorsOf}
 use Rattle.ring.specs.Who.{firstReserve}

@@ -5,7 +5,7 @@ use mathlib.Core.Path.{_≡_}
 use lib.ListN.{take}
 use Rattle.tasks.specs.Set.{mostTasks}
 use Rattle.places.specs.Padded.{padded}
-use Rattle.servers.specs.declared.Servers.{Servers}
+use Rattle.sizing.specs.declared.Servers.{Servers}
 use Rattle.reserves.specs.Slotted.{SlottedFirst}
 
 pub record Layable (served : Servers) (tasks S : ℕ) : Type 0 where

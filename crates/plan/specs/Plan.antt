@@ -10,7 +10,7 @@ use Rattle.tasks.specs.Set.{mostTasks}
 use Rattle.places.specs.Padded.{padWith, padded, upTo}
 use Rattle.places.specs.Places.{placesIn}
 use Rattle.servers.specs.Placement.{placementOf}
-use Rattle.servers.specs.Reserve.{reservesOf}
+use Rattle.sizing.specs.Reserve.{reservesOf}
 use Rattle.reserves.specs.Reserves.{reserveOf, wholes, startOf, ringProcessors, idlePositions, processorsOf}
 use Rattle.ring.specs.declared.cover.Stand.{Stand}
 use Rattle.ring.specs.Who.{firstReserve}

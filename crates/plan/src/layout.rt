@@ -9,7 +9,7 @@ use reserves::sums::start;
 use reserves::sums::whole_count;
 use ring::clock::Position;
 use ring::cover::Stand;
-use servers::Servers;
+use sizing::Servers;
 use tasks::set::TaskSet;
 ghost use mathlib.Core.Path.{_≡_};
 ghost use Prim.Native.Nat.{_≤_};

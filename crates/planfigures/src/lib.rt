@@ -1,7 +1,7 @@
 // The figures of a plan's lines, one line behind the other, as the writer of lines takes them.
 // What they are stands in specs/Figures.antt. Each function takes the rows that its lines show, not the whole plan.
+use framelines::figures::put_figures;
 use framewrite::MARK;
-use framewrite::figures::put_figures;
 use tasks::set::TaskSet;
 ghost use mathlib.Core.Path.{_≡_};
 ghost use mathlib.Core.Bool.{cond};
@@ -9,7 +9,7 @@ ghost use Prim.Native.Nat.{_*_, _≤_};
 ghost use lib.Dec.{ltb};
 ghost use lib.ListN.{length as count};
 ghost use Rattle.tasks.specs.Set.{mostTasks, mostProcessors};
-ghost use Rattle.framewrite.specs.Figures.{filled};
+ghost use Rattle.framelines.specs.Figures.{filled};
 ghost use Rattle.planfigures.specs.Figures.{mark, serverFigures, placedFigures, processorFigures};
 
 // The ring start of a server, or the mark where it has a whole processor.

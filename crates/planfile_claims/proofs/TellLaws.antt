@@ -12,7 +12,9 @@ use lib.ListN.{length, take, drop, getD, length-append}
 use lib.Seq.{take-append-seam, drop-append-seam, take-at, drop-at}
 use borrow.Author.Tests.{ltb-false}
 use Rattle.frames.specs.Table.{widthsOf, widthOf, lengthOf}
-use Rattle.frames.specs.Line.{lineOf, fieldOf, joined}
+use Rattle.framewrite.specs.Line.{lineOf}
+use Rattle.frameread.specs.Line.{fieldOf}
+use Rattle.framelines.specs.Lines.{joined}
 use Rattle.frames.specs.declared.table.Frame.{Frame}
 use Rattle.frames_claims.proofs.LineLaws.{field-line}
 use Rattle.tasks.specs.declared.set.Task.{Task}
@@ -23,7 +25,7 @@ use Rattle.planfigures.specs.Figures.{mark, serverFigures, placedFigures, proce
 use Rattle.plantext.specs.Text.{planLine, serverLine, placedLine, processorLine, planText}
 use Rattle.planfile_claims.specs.Claims.{FitFields, SameUsed}
 use Rattle.plantext.proofs.LineLaws.{plan-bytes, server-size, placed-size, processor-size, server-bytes, placed-bytes, processor-bytes}
-use Rattle.frames.proofs.LinesLaws.{joined-length}
+use Rattle.framelines.proofs.LinesLaws.{joined-length}
 
 -- equal texts whose fronts are as long have equal fronts and equal rests
 cut-front : (a b c d : List ℕ) → length a ≡ length c → a ++ b ≡ c ++ d → a ≡ c

@@ -15,9 +15,9 @@ use Rattle.demand.specs.Load.{Load, Every, loadsOf}
 use Rattle.members.specs.Charge.{Member}
 use Rattle.members.specs.Server.{Filed}
 use Rattle.servers.specs.Placement.{serversIn}
-use Rattle.servers.specs.Reserve.{serversOf}
+use Rattle.sizing.specs.Reserve.{serversOf}
 use Rattle.servers.specs.Claims.{FitAlone}
-use Rattle.servers.specs.declared.Servers.{Servers}
+use Rattle.sizing.specs.declared.Servers.{Servers}
 use Rattle.tasks.specs.declared.set.TaskSet.{TaskSet}
 use Rattle.tasks.specs.Set.{mostTasks}
 use Rattle.refusals.specs.First.{firstOf, when}

@@ -1,35 +1,27 @@
 -- What placing and sizing answers for a file's figures can be laid out, and its layout is that of the definitions.
 -- Assumes nothing.
-use Prim.Native.Nat.{ℕ, suc, _-_, _^_, _≤_, _<_}
-use mathlib.Core.Path.{_≡_, sym, ap, subst, _∙_}
-use mathlib.Core.Logic.{⊎-elim}
+use Prim.Native.Nat.{ℕ, _^_, _≤_, _<_}
+use mathlib.Core.Path.{_≡_, sym, ap, _∙_}
 use mathlib.Core.List.{List}
 use native.Mathlib.Omega.{arith}
 use lib.ListN.{length, take, getD}
 use lib.Seq.{getD-take}
 use Rattle.demand.specs.Load.{Load, Every}
-use Rattle.demand.specs.Supply.{Allowed}
-use Rattle.verdict.specs.Reserve.{Smallest}
 use Rattle.tasks.specs.declared.set.Header.{Header}
 use Rattle.tasks.specs.Set.{mostTasks}
 use Rattle.places.specs.Padded.{padded}
-use Rattle.places.specs.Places.{chosen}
-use Rattle.members.specs.Charge.{serverLoss, Member}
-use Rattle.members.specs.Server.{serverDemand}
+use Rattle.members.specs.Charge.{Member}
 use Rattle.servers.specs.Placement.{serversIn, placementOf}
-use Rattle.servers.specs.Reserve.{reservesOf, sized, serversOf}
+use Rattle.sizing.specs.Reserve.{reservesOf, sized, serversOf}
 use Rattle.servers.specs.Claims.{FitAlone}
-use Rattle.servers.specs.declared.Servers.{Servers}
+use Rattle.sizing.specs.declared.Servers.{Servers}
 use Rattle.places.proofs.PaddedLaws.{padded-length, padded-take}
 use Rattle.servers.proofs.PlacementLaws.{placement-length}
-use Rattle.servers.proofs.Claims.{servers-few, planner-fits, smallest-reserves}
+use Rattle.servers.proofs.Claims.{servers-few, planner-fits}
+use Rattle.sizing.proofs.Claims as size
 use Rattle.reserves.specs.Slotted.{SlottedFirst}
 use Rattle.plan.specs.Plan.{laidOut}
 use Rattle.plan.specs.Layable.{Layable}
-
--- an allowed reserve lies from 1 to the slot
-allowed-range : {S L R : ℕ} → 1 ≤ S → Allowed S L R → (1 ≤ R) × (R ≤ S)
-allowed-range slot a = ⊎-elim (λ r. (omega arith, omega arith)) (λ e. (omega arith, omega arith)) a
 
 module _ (h : Header) (figures : List Load) (few : length figures ≤ mostTasks) (members : Every (Member h) figures) (alone : FitAlone h figures) (slot : 1 ≤ h .slot) (small : h .slot < 2 ^ 32) where
   abbrev placement : List ℕ
@@ -44,15 +36,11 @@ module _ (h : Header) (figures : List Load) (few : length figures ≤ mostTasks)
 
   -- and one reserve for each
   pub reserves-count : length reserves ≡ serversIn placement
-  reserves-count = smallest-reserves h figures placement slot members (planner-fits h figures slot members alone) .0
+  reserves-count = size.reserves-count h figures placement
 
   -- from 1 to the slot
-  pub reserves-range : (i : ℕ) → i < length reserves → (1 ≤ getD reserves i 0) × (getD reserves i 0 ≤ h .slot)
-  reserves-range i l =
-      let own = chosen figures placement (suc i) in
-      let e : suc i - 1 ≡ i = omega arith in
-      let least : Smallest (serverDemand h own) (h .slot) (serverLoss h own) (getD reserves (suc i - 1) 0) = smallest-reserves h figures placement slot members (planner-fits h figures slot members alone) .1 (suc i) (omega arith) (omega (arith, reserves-count)) in
-      allowed-range slot (subst (λ (k : ℕ). Allowed (h .slot) (serverLoss h own) (getD reserves k 0)) e (least .allowed))
+  reserves-range : (i : ℕ) → i < length reserves → (1 ≤ getD reserves i 0) × (getD reserves i 0 ≤ h .slot)
+  reserves-range = size.reserves-range h figures placement slot members (planner-fits h figures slot members alone)
 
   -- places that begin with the reserves are laid
   pub laid-by : (rs : List ℕ) (n : ℕ) → length rs ≡ mostTasks → n ≡ serversIn placement → take n rs ≡ reserves → SlottedFirst (h .slot) rs n

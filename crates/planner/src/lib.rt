@@ -26,7 +26,7 @@ fn lay(set: TaskSet, horizon: u64) -> Plan
     let header = set.header;
     let n = set.count;
     let numbers = figures(set);
-    let served = servers::serve(header, &numbers, n, horizon);
+    let served = sizing::serve(header, &numbers, n, horizon);
     lay_out(served, n, header.slot as u64, header.cpmdo as u64)
 }
 

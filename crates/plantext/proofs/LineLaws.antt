@@ -5,9 +5,9 @@ use mathlib.Core.Path.{_≡_, refl, _∙_}
 use mathlib.Core.List.{[], _∷_}
 use lib.ListN.{length}
 use Rattle.frames.specs.Table.{widthsOf, sum, lengthOf}
-use Rattle.frames.specs.Line.{lineOf}
+use Rattle.framewrite.specs.Line.{lineOf}
 use Rattle.frames.specs.declared.table.Frame.{Frame}
-use Rattle.frames.proofs.Lines.{line-length}
+use Rattle.framewrite.proofs.LineLaws.{line-length}
 use Rattle.refusals.specs.Refused.{numberOf, placeOf}
 use Rattle.refusals.specs.declared.Refusal.{Refusal}
 use Rattle.tasks.specs.declared.set.TaskSet.{TaskSet}

@@ -8,8 +8,8 @@ use lib.ListN.{length, length-append}
 use Rattle.digits.specs.Stored.{stored}
 use Rattle.digits.proofs.Stored.{stored-stored}
 use Rattle.frames.specs.Table.{widthsOf, sum}
-use Rattle.frames.specs.Line.{joined}
-use Rattle.frames.proofs.LinesLaws.{joined-length}
+use Rattle.framelines.specs.Lines.{joined}
+use Rattle.framelines.proofs.LinesLaws.{joined-length}
 use Rattle.tasks.specs.declared.set.TaskSet.{TaskSet}
 use Rattle.plan.specs.declared.plan.Plan.{Plan}
 use Rattle.plantext.specs.Text.{planLine, serverLine, placedLine, processorLine, planText, longestText}

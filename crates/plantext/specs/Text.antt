@@ -3,7 +3,8 @@
 use Prim.Native.Nat.{ℕ, _+_, _*_}
 use mathlib.Core.List.{List, [], _∷_, _++_}
 use Rattle.frames.specs.Table.{lengthOf}
-use Rattle.frames.specs.Line.{lineOf, joined}
+use Rattle.framewrite.specs.Line.{lineOf}
+use Rattle.framelines.specs.Lines.{joined}
 use Rattle.refusals.specs.Refused.{numberOf, placeOf}
 use Rattle.frames.specs.declared.table.Frame.{Frame}
 use Rattle.refusals.specs.declared.Refusal.{Refusal}

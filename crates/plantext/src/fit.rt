@@ -4,7 +4,7 @@ use crate::line::put_refusal;
 use crate::text::put_text;
 use crate::text::text_length;
 use frames::table::Frame;
-use frames::table::length;
+use framesizes::length;
 use plan::plan::Plan;
 use refusals::Refusal;
 use refusals::Written;

@@ -1,9 +1,9 @@
 // The text of a plan: one 11 line, then 12 by server, 13 in file order, 14 by processor, one behind the other.
 // What it is stands in specs/Text.antt.
 use crate::line::put_plan;
+use framelines::lines_length;
+use framelines::put_lines;
 use frames::table::Frame;
-use framewrite::lines_length;
-use framewrite::put_lines;
 use plan::plan::Plan;
 use planfigures::placed_values;
 use planfigures::processor_values;
@@ -13,7 +13,7 @@ ghost use mathlib.Core.Path.{_≡_};
 ghost use Prim.Native.Nat.{_+_, _*_, _≤_};
 ghost use lib.ListN.{length as bytes};
 ghost use Rattle.frames.specs.Table.{lengthOf};
-ghost use Rattle.frames.specs.Line.{joined};
+ghost use Rattle.framelines.specs.Lines.{joined};
 ghost use Rattle.digits.specs.Stored.{stored};
 ghost use Rattle.tasks.specs.Set.{mostTasks, mostProcessors};
 ghost use Rattle.plantext.specs.Text.{serverLine, placedLine, processorLine, planText};

@@ -18,7 +18,10 @@ use Rattle.plan.proofs.Made.{plan-outcome, plan-charged}
 use Rattle.digits.specs.Digit.{legal, valueOf, digitOf, allLegal}
 use Rattle.digits.specs.Number.{numberFrom, hex}
 use Rattle.frames.specs.Table.{kindOf, widthsOf, sum}
-use Rattle.frames.specs.Line.{line, after, closed, same, formed, fieldOf, fields, lineOf, lineOverflows, someTooLarge}
+use Rattle.frameread.specs.Line.{line, after, closed, formed, fieldOf}
+use Rattle.laws.specs.Same.{same}
+use Rattle.framewrite.specs.Line.{fields, lineOf}
+use Rattle.framesizes.specs.Overflow.{lineOverflows, someTooLarge}
 use Rattle.tasks.specs.Set.{setOf}
 use Rattle.tasks.specs.Search.{some, firstFrom}
 use Rattle.taskask.specs.Ask.{countRow, twiceRow, headerOverflows, taskOverflows, askRow}

@@ -24,7 +24,7 @@ use Rattle.tasks.specs.declared.set.Task.{Task}
 use Rattle.tasks.specs.declared.set.TaskSet.{TaskSet}
 use Rattle.tasks.specs.Set.{setOf}
 use Rattle.frames.specs.Table.{widthsOf}
-use Rattle.frames.specs.Line.{lineOverflows, someTooLarge}
+use Rattle.framesizes.specs.Overflow.{lineOverflows, someTooLarge}
 use Rattle.tasks.specs.Search.{some, firstFrom}
 use Rattle.taskask.specs.Ask.{countRow, twiceRow, headerOverflows, taskOverflows, askRow}
 use Rattle.taskrows.specs.Rows.{boardRow, rangeRow, figuresOutcome}

@@ -2,7 +2,7 @@
 -- The words of the command line that name a processor, a tick, a server or a reserve are read so.
 use Prim.Native.Nat.{ℕ, _+_, _*_, _-_, _^_}
 use mathlib.Core.List.{List, [], _∷_}
-use mathlib.Core.Bool.{Bool, true, false, cond, _&&_}
+use mathlib.Core.Bool.{Bool, true, cond, _&&_}
 use lib.Dec.{leb, ltb}
 use Rattle.shell.specs.declared.number.Number.{Number}
 use Rattle.shell.specs.declared.number.Number.the-variants.{Of, Wrong}

@@ -17,7 +17,8 @@ pub fn read_some(buf: &mut [u8]) -> Input
     if got < 0 {
         return Input::Failed;
     }
-    Input::Bytes(io::count(got, buf))
+    let n = io::count(got, buf);
+    Input::Bytes(n)
 }
 
 // Reads until the buffer is full, the input ends or a read fails.

@@ -10,7 +10,7 @@ use Rattle.laws.proofs.Tests.{or-left, or-right}
 use lib.ListN.{getD}
 use Rattle.frames.specs.Table.{fieldsIn, widthOf}
 use Rattle.frames.specs.declared.table.Frame.{Frame}
-use Rattle.frames.proofs.TooLarge.{values-fit}
+use Rattle.framesizes.proofs.TooLarge.{values-fit}
 use Rattle.tasks.specs.Values.{headerValues, taskValues}
 use Rattle.tasks.specs.declared.set.Header.{Header}
 use Rattle.tasks.specs.declared.set.Task.{Task}

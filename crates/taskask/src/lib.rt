@@ -1,7 +1,7 @@
 // Row 11 of a task set: it breaks row 3 or 4, or holds what no file's lines can carry.
 // The planner and the task writer ask it first of any set that a caller built.
 use frames::table::Frame;
-use frames::table::overflows;
+use framesizes::overflows;
 use tasks::set::Header;
 use tasks::set::Task;
 use tasks::set::TaskSet;

@@ -10,7 +10,7 @@ use mathlib.Core.Path.{_≡_, refl, sym, _∙_, ap, subst}
 use lib.ListN.{length, length-append}
 use Rattle.laws.proofs.Orders.{le-or-lt}
 use Rattle.laws.proofs.Tests.{true-false}
-use Rattle.frames.specs.Line.{formed, closed}
+use Rattle.frameread.specs.Line.{formed, closed}
 use Rattle.frames.specs.declared.table.Frame.{Frame}
 use Rattle.tasks.specs.declared.set.Task.{Task}
 use Rattle.taskfile.specs.File.{past, empty, taskAt, tasksAmong, fileTasks}

@@ -9,7 +9,7 @@ use mathlib.Core.Path.{_≡_, refl, sym, _∙_, ap}
 use lib.ListN.{length}
 use lib.Dec.{eqb}
 use borrow.Author.Tests.{eq-eqb, ne-eqb, not-false}
-use Rattle.frames.specs.Line.{formed, closed}
+use Rattle.frameread.specs.Line.{formed, closed}
 use Rattle.frames.specs.declared.table.Frame.{Frame}
 use Rattle.refusals.specs.declared.Refusal.{Refusal}
 use Rattle.refusals.specs.declared.Refusal.the-variants.{Line, Order, Count, Twice}
@@ -18,8 +18,9 @@ use Rattle.refusals.specs.declared.Outcome.the-variants.{Done, Refused}
 use Rattle.refusals.specs.First.{firstOf, when, till}
 use Rattle.tasks.specs.Set.{mostTasks, hasId}
 use Rattle.tasks.specs.Search.{some}
-use Rattle.taskfile.specs.File.{past, empty, lineRow, orderRow, countLineRow, twiceLineRow, lineOutcome, taskAt, tasksAmong, fileTasks}
-use Rattle.frames.proofs.KindLaws.{not-formed}
+use Rattle.taskfile.specs.File.{past, empty, fileKinds, admitted, lineRow, orderRow, countLineRow, twiceLineRow, lineOutcome, taskAt, tasksAmong, fileTasks}
+use Rattle.frameread.proofs.KindLaws.{not-formed}
+use Rattle.tasks.proofs.SearchLaws.{some-nowhere}
 use Rattle.refusals.proofs.FirstLaws.{done-refused, till-done, done-till}
 use Rattle.taskfile.proofs.Past.{absent-later, absent-past}
 use Rattle.taskfile.proofs.AmongLaws.{task-counts}
@@ -30,6 +31,14 @@ header-no-task text f = not-formed Frame.Header Frame.Task refl text f
 
 pub task-no-header : (text : List ℕ) → formed Frame.Task text ≡ true → formed Frame.Header text ≡ false
 task-no-header text f = not-formed Frame.Task Frame.Header refl text f
+
+-- a text that starts with no kind of line, and with neither of the two that a task file admits
+pub admits-none : (rest : List ℕ) → ((kind : Frame) → formed kind rest ≡ false) → admitted rest ≡ false
+admits-none rest none = some-nowhere (λ (kind : Frame). formed kind rest) Frame.Header fileKinds (λ j lt. none _)
+
+pub neither : (rest : List ℕ) → formed Frame.Header rest ≡ false → formed Frame.Task rest ≡ false → admitted rest ≡ false
+unfolding some
+neither rest header task = rw (header, task)
 
 -- ---- lines that are not there
 
@@ -69,43 +78,43 @@ refused-within text (suc (suc m)) r e =
 
 -- that is missing
 pub first-missing : lineOutcome [] 1 ≡ Refused (Order 1)
-unfolding lineOutcome lineRow orderRow past formed closed
+unfolding lineOutcome lineRow orderRow past formed closed some
 first-missing = refl
 
 -- that is an 01 line
 pub first-header : (text : List ℕ) → formed Frame.Header text ≡ true → lineOutcome text 1 ≡ Done
-unfolding lineOutcome lineRow orderRow countLineRow twiceLineRow past
+unfolding lineOutcome lineRow orderRow countLineRow twiceLineRow past some
 first-header text header = rw (header, header-no-task text header, and-false (not (empty text)))
 
 -- that is an 02 line
 pub first-task : (text : List ℕ) → formed Frame.Task text ≡ true → lineOutcome text 1 ≡ Refused (Order 1)
-unfolding lineOutcome lineRow orderRow past
+unfolding lineOutcome lineRow orderRow past some
 first-task text task = rw (task-no-header text task, task, and-false (not (empty text)))
 
 -- that is neither
-pub first-other : (text : List ℕ) → empty text ≡ false → formed Frame.Header text ≡ false → formed Frame.Task text ≡ false → lineOutcome text 1 ≡ Refused (Line 1)
+pub first-other : (text : List ℕ) → empty text ≡ false → admitted text ≡ false → lineOutcome text 1 ≡ Refused (Line 1)
 unfolding lineOutcome lineRow past
-first-other text there header task = rw (there, header, task)
+first-other text there other = rw (there, other)
 
 -- ---- any line
 
--- that is there and neither an 01 nor an 02 line
-pub line-other : (text : List ℕ) (n : ℕ) → empty (past n text) ≡ false → formed Frame.Header (past n text) ≡ false → formed Frame.Task (past n text) ≡ false → lineOutcome text (suc n) ≡ Refused (Line (suc n))
+-- that is there and of no kind that a task file admits
+pub line-other : (text : List ℕ) (n : ℕ) → empty (past n text) ≡ false → admitted (past n text) ≡ false → lineOutcome text (suc n) ≡ Refused (Line (suc n))
 unfolding lineOutcome lineRow
-line-other text n there header task = rw (there, header, task)
+line-other text n there other = rw (there, other)
 
 -- ---- a line after the first
 
 -- that is an 01 line
 pub later-header : (text : List ℕ) (n : ℕ) → 1 ≤ n → formed Frame.Header (past n text) ≡ true → lineOutcome text (suc n) ≡ Refused (Order (suc n))
-unfolding lineOutcome lineRow orderRow
+unfolding lineOutcome lineRow orderRow some
 later-header text n some header =
     rw (header, ne-eqb (suc n) 1 (λ h. omega arith), and-false (not (empty (past n text))))
 
 -- that is an 02 line: refused as a 65th, or as one whose id repeats, or clear
 pub later-task : (text : List ℕ) (n : ℕ) → 1 ≤ n → formed Frame.Task (past n text) ≡ true → lineOutcome text (suc n) ≡ firstOf (when (eqb (length (tasksAmong text n)) mostTasks) (Count (suc n))) (when (some (hasId (taskAt (past n text) .id)) (tasksAmong text n)) (Twice (suc n)))
-unfolding lineOutcome lineRow orderRow countLineRow twiceLineRow
-later-task text n some task =
+unfolding lineOutcome lineRow orderRow countLineRow twiceLineRow some
+later-task text n after-first task =
     let there : eqb (length (fileTasks text)) 0 ≡ false = ne-eqb (length (fileTasks text)) 0 (λ h. omega (arith, task-counts text n task)) in
     rw (task-no-header (past n text) task, task, ne-eqb (suc n) 1 (λ h. omega arith), there)
     (simp and-false)
@@ -118,7 +127,7 @@ kind-of text n there header clear = go (formed Frame.Task (past n text)) refl
   where
     go : (b : Bool) → formed Frame.Task (past n text) ≡ b → b ≡ true
     go true e = refl
-    go false e = done-refused (sym clear ∙ line-other text n there header e)
+    go false e = done-refused (sym clear ∙ line-other text n there (neither (past n text) header e))
 
 -- after the first an 02 line
 pub clear-task : (text : List ℕ) (n : ℕ) → 1 ≤ n → empty (past n text) ≡ false → lineOutcome text (suc n) ≡ Done → formed Frame.Task (past n text) ≡ true

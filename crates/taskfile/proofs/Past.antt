@@ -8,11 +8,11 @@ use mathlib.Core.Path.{_≡_, refl, ap, sym, _∙_, subst}
 use lib.ListN.{length, drop, length-drop}
 use lib.Seq.{drop-drop}
 use lib.Dec.{eqb}
-use Rattle.frames.specs.Line.{after, formed, LF}
-use Rattle.frames.specs.Table.{lengthOf}
+use Rattle.frameread.specs.Line.{after, formed}
+use Rattle.frames.specs.Table.{LF, lengthOf}
 use Rattle.frames.specs.declared.table.Frame.{Frame}
 use Rattle.taskfile.specs.File.{past}
-use Rattle.frames.proofs.Formed.{formed-length, formed-after}
+use Rattle.frameread.proofs.Formed.{formed-length, formed-after}
 
 -- what follows the first of n + m lines
 pub past-add : (n m : ℕ) (text : List ℕ) → past (n + m) text ≡ past m (past n text)

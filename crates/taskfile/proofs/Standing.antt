@@ -9,23 +9,23 @@ use mathlib.Core.Path.{_≡_, refl, sym, _∙_, ap, subst}
 use lib.ListN.{length, drop, length-map}
 use lib.Dec.{eqb}
 use borrow.Author.Tests.{eq-eqb, ne-eqb}
-use Rattle.frames.specs.Line.{formed, fieldOf}
+use Rattle.frameread.specs.Line.{formed, fieldOf}
 use types.Run.{OneOf, miss}
 use denote.Enum.Declared.{tagOf}
 use Rattle.frames.proofs.table.Frame.{the-type}
 use Rattle.frames.specs.Table.{widthOf, indexOf, allFrames}
-use Rattle.frames.proofs.KindLaws.{not-formed}
+use Rattle.frameread.proofs.KindLaws.{not-formed}
 use Rattle.frames.specs.declared.table.Frame.{Frame}
 use Rattle.refusals.specs.declared.Refusal.the-variants.{Line, Order, Count, Twice}
 use Rattle.refusals.specs.declared.Outcome.the-variants.{Refused}
 use Rattle.refusals.specs.First.{firstOf, when}
-use Rattle.frames.proofs.Formed.{field-below}
+use Rattle.frameread.proofs.Formed.{field-below}
 use Rattle.tasks.specs.declared.set.Task.{Task}
 use Rattle.tasks.specs.Set.{mostTasks, hasId}
 use Rattle.tasks.specs.Search.{some}
-use Rattle.taskfile.specs.File.{past, empty, lineOutcome, tasksAmong, taskAt}
+use Rattle.taskfile.specs.File.{past, empty, admitted, lineOutcome, tasksAmong, taskAt}
 use Rattle.taskfile.specs.Taken.{Taken, idsOf}
-use Rattle.taskfile.proofs.Lines.{line-other, later-header, later-task}
+use Rattle.taskfile.proofs.Lines.{neither, line-other, later-header, later-task}
 
 -- a number that is a field of a formed line is below its width's power of 16
 pub field-within : (frame : Frame) (k x : ℕ) (text : List ℕ) → formed frame text ≡ true → x ≡ fieldOf frame k text → x < 16 ^ widthOf frame k
@@ -51,12 +51,13 @@ tag-index Frame.Refused = refl
 abbrev otherTags : List ℕ
 otherTags = drop 2 (map indexOf allFrames)
 
--- a line of such a frame is neither an 01 nor an 02 line
-pub other-frame : (frame : Frame) (text : List ℕ) → OneOf otherTags (tagOf the-type frame) → formed frame text ≡ true → (formed Frame.Header text ≡ false) × (formed Frame.Task text ≡ false)
-other-frame frame text o f = (
-  not-formed frame Frame.Header (ne-eqb (indexOf frame) 0 (λ (e : indexOf frame ≡ 0). miss otherTags 0 tt (subst (OneOf otherTags) (tag-index frame ∙ e) o))) text f,
-  not-formed frame Frame.Task (ne-eqb (indexOf frame) 1 (λ (e : indexOf frame ≡ 1). miss otherTags 1 tt (subst (OneOf otherTags) (tag-index frame ∙ e) o))) text f,
-)
+-- a line of such a frame is of no kind that a task file admits
+pub other-frame : (frame : Frame) (text : List ℕ) → OneOf otherTags (tagOf the-type frame) → formed frame text ≡ true → admitted text ≡ false
+other-frame frame text o f = neither text (apart Frame.Header (miss otherTags 0 tt)) (apart Frame.Task (miss otherTags 1 tt))
+  where
+    apart : (kind : Frame) → (OneOf otherTags (indexOf kind) → ⊥) → formed kind text ≡ false
+    apart kind missed =
+        not-formed frame kind (ne-eqb (indexOf frame) (indexOf kind) (λ (e : indexOf frame ≡ indexOf kind). missed (subst (OneOf otherTags) (tag-index frame ∙ e) o))) text f
 
 -- an id is among tasks' ids exactly if a task has it
 pub some-ids : (id : ℕ) (ts : List Task) → some (λ i. eqb i id) (idsOf ts) ≡ some (hasId id) ts
@@ -65,10 +66,9 @@ some-ids id [] = refl
 some-ids id (t ∷ ts) = ap (λ (b : Bool). eqb (t .id) id || b) (some-ids id ts)
 
 module _ {text : List ℕ} {k at : ℕ} (taken : Taken text k at) where
-  pub said-line : at < length text → formed Frame.Header (drop at text) ≡ false → formed Frame.Task (drop at text) ≡ false → lineOutcome text (k + 1) ≡ Refused (Line (k + 1))
-  said-line lt header task =
-      rw (add-one k)
-      (line-other text k (ap empty (taken .rest) ∙ byte-there at text lt) (ap (formed Frame.Header) (taken .rest) ∙ header) (ap (formed Frame.Task) (taken .rest) ∙ task))
+  pub said-line : at < length text → admitted (drop at text) ≡ false → lineOutcome text (k + 1) ≡ Refused (Line (k + 1))
+  said-line lt other =
+      rw (add-one k) (line-other text k (ap empty (taken .rest) ∙ byte-there at text lt) (ap admitted (taken .rest) ∙ other))
 
   pub said-order : formed Frame.Header (drop at text) ≡ true → lineOutcome text (k + 1) ≡ Refused (Order (k + 1))
   said-order e = rw (add-one k) (later-header text k (taken .some-line) (ap (formed Frame.Header) (taken .rest) ∙ e))

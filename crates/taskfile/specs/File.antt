@@ -5,7 +5,7 @@ use mathlib.Core.List.{List, [], _∷_, _++_}
 use mathlib.Core.Bool.{Bool, true, false, not, cond, _&&_, _||_}
 use lib.ListN.{length}
 use lib.Dec.{eqb}
-use Rattle.frames.specs.Line.{after, formed, fieldOf}
+use Rattle.frameread.specs.Line.{after, formed, fieldOf}
 use Rattle.frames.specs.declared.table.Frame.{Frame}
 use Rattle.refusals.specs.declared.Refusal.the-variants.{Line, Order, Count, Twice}
 use Rattle.refusals.specs.declared.Outcome.{Outcome}
@@ -73,9 +73,16 @@ tasksAmong text (suc n) = tasksAmong text n ++ taskOn text (suc n)
 abbrev pub fileTasks : List ℕ → List Task
 fileTasks text = tasksAmong text (length text)
 
+-- the kinds that a task file admits, and whether a text starts with a line of one of them
+abbrev pub fileKinds : List Frame
+fileKinds = Frame.Header ∷ Frame.Task ∷ []
+
+abbrev pub admitted : List ℕ → Bool
+admitted rest = some (λ (kind : Frame). formed kind rest) fileKinds
+
 -- 1 LINE: a line is not kind 01 or 02 at its exact length in legal digits, or lacks its LF
 unfoldable pub lineRow : List ℕ → ℕ → Bool
-lineRow text k = present text k && not (isHeader text k || isTask text k)
+lineRow text k = present text k && not (admitted (from text k))
 
 abbrev pub firstLine : Bool → Bool → Bool → Bool
 firstLine true at-one at-later = at-one

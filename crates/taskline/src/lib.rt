@@ -1,8 +1,8 @@
 // A line of a task file after the first: a task's figures, or the refusal of the lowest row that holds there.
 // The reader takes the answer apart and hands a refusal straight up.
-use frames::line::Found;
-use frames::line::field;
-use frames::line::kind_at;
+use frameread::Found;
+use frameread::field;
+use frameread::kind_at;
 use frames::table::Frame;
 use refusals::Outcome;
 use refusals::Refusal;
@@ -13,7 +13,7 @@ ghost use mathlib.Core.Bool.{true};
 ghost use Prim.Native.Nat.{_+_, _<_, _≤_};
 ghost use lib.ListN.{length, drop};
 ghost use lib.Dec.{eqb};
-ghost use Rattle.frames.specs.Line.{formed};
+ghost use Rattle.frameread.specs.Line.{formed};
 ghost use Rattle.frames.specs.declared.table.Frame.{Frame};
 ghost use Rattle.tasks.specs.Search.{some};
 ghost use Rattle.taskfile.specs.File.{lineOutcome, taskAt, tasksAmong};

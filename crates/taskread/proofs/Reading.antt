@@ -9,7 +9,7 @@ use mathlib.Core.Bool.{true}
 use mathlib.Core.Path.{_≡_, refl, sym, _∙_, ap, subst}
 use lib.ListN.{length, drop, take, set as put, length-append, length-set, drop-of-length-le}
 use lib.Seq.{take-suc-set}
-use Rattle.frames.specs.Line.{formed, closed}
+use Rattle.frameread.specs.Line.{formed, closed}
 use Rattle.frames.specs.Table.{lengthOf}
 use Rattle.frames.specs.declared.table.Frame.{Frame}
 use Rattle.refusals.specs.declared.Refusal.{Refusal}
@@ -26,16 +26,16 @@ use Rattle.tasks.specs.Set.{mostTasks, setOf, zeroSet, withTask}
 use Rattle.taskrows.specs.Rows.{figuresOutcome}
 use Rattle.taskfile.specs.File.{past, empty, lineRow, orderRow, countLineRow, lineOutcome, headerAt, taskAt, tasksAmong, fileTasks}
 use Rattle.taskfile.specs.Taken.{Taken, idsOf}
-use Rattle.headerline.specs.Answer.{headerOr}
-use Rattle.taskline.specs.Answer.{taskOr}
+use Rattle.headerline.specs.Answer.{headerOr, ofHeader}
+use Rattle.taskline.specs.Answer.{taskOr, ofTask}
 use Rattle.taskread.specs.Read.{readOf, readOutcome, fileSet, answer}
 use Rattle.refusals.proofs.FirstLaws.{stays, till-suc}
 use Rattle.tasks.proofs.SetLaws.{set-more}
 use Rattle.taskfile.proofs.Past.{past-formed}
 use Rattle.taskfile.proofs.AmongLaws.{among-none, among-task, among-other, among-all}
 use Rattle.taskfile.proofs.Lines.{header-no-task, refused-within, clear-header, clear-task, clear-room, clear-past}
-use Rattle.headerline.proofs.Answers.{header-given}
-use Rattle.taskline.proofs.Answers.{task-given}
+use Rattle.headerline.proofs.Answers.{of-header, header-given, header-refused}
+use Rattle.taskline.proofs.Answers.{of-task, task-given, task-refused}
 use Rattle.taskfile.proofs.Standing.{byte-there}
 
 -- ---- the answer of a text
@@ -65,6 +65,21 @@ pub record Held (text : List ℕ) (k at : ℕ) (set : TaskSet) (ids : List ℕ) 
   pub all : set ≡ setOf (headerAt text) (tasksAmong text k)
   pub room : length ids ≡ mostTasks
   pub listed : take (set .count) ids ≡ idsOf (tasksAmong text k)
+
+-- a first line that is refused answers for the text
+pub first-refused : (text : List ℕ) {line : HeaderLine} {o : Outcome} (r : Refusal) (set : TaskSet) → line ≡ headerOr (lineOutcome text 1) (headerAt text) → line ≡ HeaderLine.Refused r → o ≡ ofHeader line → answer o set ≡ readOf text
+unfolding till
+first-refused text r set said refused told =
+    ap (λ (o : Outcome). answer o set) (told ∙ ap ofHeader said ∙ of-header (lineOutcome text 1) (headerAt text))
+    ∙ reads-line text 0 set refl (header-refused (lineOutcome text 1) (headerAt text) r (sym said ∙ refused))
+
+-- and so does a later one, behind lines that are held
+pub later-refused : {text : List ℕ} {k at : ℕ} {set : TaskSet} {ids : List ℕ} {line : TaskLine} {o : Outcome} → Held text k at set ids → (r : Refusal) → line ≡ taskOr (lineOutcome text (k + 1)) (taskAt (drop at text)) → line ≡ TaskLine.Refused r → o ≡ ofTask line → answer o set ≡ readOf text
+later-refused {text = text} {k = k} {at = at} {set = set} held r said refused told =
+    let next : lineOutcome text (k + 1) ≡ lineOutcome text (suc k) = ap (lineOutcome text) (add-one k) in
+    ap (λ (o : Outcome). answer o set) (told ∙ ap ofTask said ∙ of-task (lineOutcome text (k + 1)) (taskAt (drop at text)) ∙ next)
+    ∙ reads-line text k set (held .taken .clear)
+    (λ (done : lineOutcome text (suc k) ≡ Done). task-refused (lineOutcome text (k + 1)) (taskAt (drop at text)) r (sym said ∙ refused) (next ∙ done))
 
 -- the set counts what the lines hold, which has room
 pub held-count : {text : List ℕ} {k at : ℕ} {set : TaskSet} {ids : List ℕ} → Held text k at set ids → set .count ≡ length (tasksAmong text k)

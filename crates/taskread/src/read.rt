@@ -2,7 +2,7 @@
 // Lines are taken in order, then rows 5 and 6 of the figures.
 use frames::table::Frame;
 use frames::table::TABLE;
-use frames::table::length;
+use framesizes::length;
 use headerline::HeaderLine;
 use headerline::header_line;
 use headerline::header_outcome;

@@ -8,7 +8,8 @@ use mathlib.Core.Path.{_≡_, refl}
 use Rattle.digits.specs.Digit.{legal, valueOf, allLegal}
 use Rattle.digits.specs.Number.{numberFrom}
 use Rattle.frames.specs.Table.{kindOf, widthsOf, sum}
-use Rattle.frames.specs.Line.{line, after, closed, same, formed, fieldOf}
+use Rattle.frameread.specs.Line.{line, after, closed, formed, fieldOf}
+use Rattle.laws.specs.Same.{same}
 use Rattle.refusals.specs.declared.Refusal.the-variants.{Line, Order, Count, Twice, Board, Range}
 use Rattle.refusals.specs.declared.Outcome.{Outcome}
 use Rattle.refusals.specs.declared.Outcome.the-variants.{Done, Refused}

@@ -8,14 +8,14 @@ use mathlib.Core.Path.{_≡_, refl, sym, _∙_, ap, ap₂}
 use lib.ListN.{length, take, drop}
 use lib.Seq.{take-all, take-take, take-add, drop-at, length-take-le}
 use lib.Dec.{eqb}
-use Rattle.frames.specs.Line.{formed, fieldOf, line}
+use Rattle.frameread.specs.Line.{formed, fieldOf, line}
 use Rattle.frames.specs.Table.{lengthOf, widthsOf, sum}
 use Rattle.frames.specs.declared.table.Frame.{Frame}
 use Rattle.refusals.specs.declared.Refusal.{Refusal}
 use Rattle.refusals.specs.declared.Refusal.the-variants.{Count, Twice}
 use Rattle.refusals.specs.declared.Outcome.{Outcome}
 use Rattle.refusals.specs.declared.Outcome.the-variants.{Done, Refused}
-use Rattle.frames.proofs.Formed.{formed-line}
+use Rattle.frameread.proofs.Formed.{formed-line}
 use Rattle.frames_claims.proofs.LineLaws.{formed-prefix}
 use Rattle.tasks.specs.declared.set.Task.{Task}
 use Rattle.refusals.specs.First.{firstOf, when, till}
@@ -26,7 +26,7 @@ use Rattle.taskread.specs.Read.{readOf, furthest}
 use Rattle.tasks_claims.specs.Claims.{Shaped, sizeOf, ReadLooksAt}
 use Rattle.taskfile.proofs.AmongLaws.{among-task}
 use Rattle.taskread.proofs.Reading.{reads-refused}
-use Rattle.taskfile.proofs.Lines.{line-other, first-header, first-task, first-other, later-header, later-task, clear-task, clear-room, clear-header}
+use Rattle.taskfile.proofs.Lines.{neither, line-other, first-header, first-task, first-other, later-header, later-task, clear-task, clear-room, clear-header}
 use Rattle.refusals.proofs.FirstLaws.{till-suc}
 use Rattle.tasks_claims.proofs.ShapedLaws.{past-shaped, shaped-more, shaped-less, shaped-count, among-header}
 use Rattle.taskfile.proofs.Standing.{byte-there}
@@ -141,8 +141,8 @@ module _ (N : ℕ) (text : List ℕ) (far : furthest ≤ N) (long : N < length t
             ∙ (ap₂ (λ (u : Task) (ts : List Task). firstOf (when (eqb (length ts) mostTasks) (Count (suc (suc m)))) (when (some (hasId (u .id)) ts) (Twice (suc (suc m))))) (figures-cut et) (tasks-cut m (omega (arith, fits)) s)
             ∙ sym (later-task text (suc m) (omega arith) et))
         kinds false false eh et =
-            line-other cut (suc m) there-cut (header-cut ∙ eh) (task-cut ∙ et)
-            ∙ sym (line-other text (suc m) (there m most s) eh et)
+            line-other cut (suc m) there-cut (neither (past (suc m) cut) (header-cut ∙ eh) (task-cut ∙ et))
+            ∙ sym (line-other text (suc m) (there m most s) (neither (past (suc m) text) eh et))
 
   -- both are refused alike
   both-refused : (n : ℕ) (r : Refusal) → till (lineOutcome cut) n ≡ Done → till (lineOutcome text) n ≡ Done → lineOutcome cut (suc n) ≡ Refused r → lineOutcome text (suc n) ≡ Refused r → readOf cut ≡ readOf text
@@ -183,7 +183,7 @@ module _ (N : ℕ) (text : List ℕ) (far : furthest ≤ N) (long : N < length t
       task : (t : Bool) → formed Frame.Header text ≡ false → formed Frame.Task text ≡ t → lineOutcome cut 1 ≡ lineOutcome text 1
       task true eh e = first-task cut (kind Frame.Task (omega arith) ∙ e) ∙ sym (first-task text e)
       task false eh e =
-          first-other cut there-front (kind Frame.Header (omega arith) ∙ eh) (kind Frame.Task (omega arith) ∙ e) ∙ sym (first-other text there-text eh e)
+          first-other cut there-front (neither cut (kind Frame.Header (omega arith) ∙ eh) (kind Frame.Task (omega arith) ∙ e)) ∙ sym (first-other text there-text (neither text eh e))
 
       header : (h : Bool) → formed Frame.Header text ≡ h → lineOutcome cut 1 ≡ lineOutcome text 1
       header true e = first-header cut (kind Frame.Header (omega arith) ∙ e) ∙ sym (first-header text e)

@@ -13,13 +13,14 @@ use lib.Seq.{take-suc, take-length, drop-length, drop-cons, drop-drop}
 use borrow.Author.Tests.{leb-false, ne-eqb, eqb-true, not-false}
 use Rattle.laws.proofs.Tests.{or-left, or-right}
 use Rattle.frames.specs.Table.{widthsOf, fieldsIn}
-use Rattle.frames.specs.Line.{after, formed, fieldOf, lineOf}
+use Rattle.frameread.specs.Line.{after, formed, fieldOf}
+use Rattle.framewrite.specs.Line.{lineOf}
 use Rattle.frames.specs.declared.table.Frame.{Frame}
 use Rattle.refusals.specs.declared.Refusal.the-variants.{Count, Twice, Range}
 use Rattle.refusals.specs.declared.Outcome.{Outcome}
 use Rattle.refusals.specs.declared.Outcome.the-variants.{Done}
 use Rattle.frames_claims.proofs.LineLaws.{line-formed, line-after, field-line}
-use Rattle.frames.proofs.KindLaws.{not-formed}
+use Rattle.frameread.proofs.KindLaws.{not-formed}
 use Rattle.tasks.specs.declared.set.Header.{Header}
 use Rattle.tasks.specs.declared.set.Task.{Task}
 use Rattle.tasks.specs.declared.set.TaskSet.{TaskSet}

@@ -10,15 +10,17 @@ use lib.ListN.{length}
 use borrow.Author.Tests.{lt-leb, le-ltb, ne-eqb}
 use Rattle.laws.proofs.Tests.{or-neither}
 use Rattle.frames.specs.Table.{widthsOf}
-use Rattle.frames.specs.Line.{after, formed, fieldOf, lineOf, lineOverflows, someTooLarge}
+use Rattle.frameread.specs.Line.{after, formed, fieldOf}
+use Rattle.framewrite.specs.Line.{lineOf}
+use Rattle.framesizes.specs.Overflow.{lineOverflows, someTooLarge}
 use Rattle.frames.specs.declared.table.Frame.{Frame}
 use Rattle.refusals.specs.declared.Refusal.{Refusal}
 use Rattle.refusals.specs.declared.Refusal.the-variants.{Count, Twice}
 use Rattle.refusals.specs.declared.Outcome.the-variants.{Done}
-use Rattle.frames.proofs.Formed.{field-below}
+use Rattle.frameread.proofs.Formed.{field-below}
 use Rattle.frames_claims.specs.Values.{fieldsFrom, fieldsOf}
 use Rattle.frames_claims.proofs.LineLaws.{line-fields}
-use Rattle.frames.proofs.KindLaws.{not-formed}
+use Rattle.frameread.proofs.KindLaws.{not-formed}
 use Rattle.tasks.specs.declared.set.Task.{Task}
 use Rattle.tasks.specs.declared.set.TaskSet.{TaskSet}
 use Rattle.tasks.specs.Set.{mostTasks, zeroTask, members, hasId}

@@ -7,7 +7,7 @@ use mathlib.Core.Bool.{Bool, true, false}
 use mathlib.Core.Path.{_≡_}
 use mathlib.Core.Logic.{_↔_, _⊎_}
 use lib.ListN.{length, take, drop, getD}
-use Rattle.frames.specs.Line.{formed}
+use Rattle.frameread.specs.Line.{formed}
 use Rattle.frames.specs.Table.{lengthOf}
 use Rattle.refusals.specs.Refused.{numberOf}
 use Rattle.frames.specs.declared.table.Frame.{Frame}

@@ -9,12 +9,13 @@ use native.Mathlib.Omega.{arith}
 use lib.ListN.{length, take, getD, length-append}
 use lib.Seq.{take-suc}
 use Rattle.frames.specs.Table.{widthsOf, fieldsIn, lengthOf}
-use Rattle.frames.specs.Line.{lineOf, linesOf, joined}
+use Rattle.framewrite.specs.Line.{lineOf}
+use Rattle.framelines.specs.Lines.{linesOf, joined}
 use Rattle.digits.specs.Stored.{stored}
 use Rattle.frames.specs.declared.table.Frame.{Frame}
-use Rattle.frames.proofs.Lines.{line-length}
-use Rattle.framewrite.specs.Figures.{filled}
-use Rattle.framewrite.proofs.FillLaws.{filled-length, lines-filled}
+use Rattle.framewrite.proofs.LineLaws.{line-length}
+use Rattle.framelines.specs.Figures.{filled}
+use Rattle.framelines.proofs.FillLaws.{filled-length, lines-filled}
 use Rattle.digits.proofs.Stored.{stored-stored}
 use Rattle.tasks.specs.declared.set.Task.{Task}
 use Rattle.tasks.specs.declared.set.TaskSet.{TaskSet}

@@ -3,7 +3,7 @@
 use Prim.Native.Nat.{ℕ, _*_, _-_}
 use mathlib.Core.List.{List, [], _∷_, _++_}
 use lib.ListN.{getD}
-use Rattle.frames.specs.Line.{lineOf}
+use Rattle.framewrite.specs.Line.{lineOf}
 use Rattle.frames.specs.declared.table.Frame.{Frame}
 use Rattle.tasks.specs.declared.set.Task.{Task}
 use Rattle.tasks.specs.declared.set.TaskSet.{TaskSet}

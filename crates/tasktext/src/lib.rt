@@ -1,9 +1,9 @@
 // The text of a task set: one 01 line, then the 02 lines in file order.
+use framelines::figures::put_figures;
+use framelines::lines_length;
+use framelines::put_lines;
 use frames::table::Frame;
-use framewrite::figures::put_figures;
-use framewrite::lines_length;
 use framewrite::put_line;
-use framewrite::put_lines;
 use tasks::set::TaskSet;
 use tasks::values::header_values;
 use tasks::values::task_values;
@@ -11,7 +11,7 @@ ghost use mathlib.Core.Path.{_≡_};
 ghost use Prim.Native.Nat.{_+_, _*_, _≤_};
 ghost use lib.ListN.{length as bytes};
 ghost use Rattle.frames.specs.Table.{lengthOf};
-ghost use Rattle.framewrite.specs.Figures.{filled};
+ghost use Rattle.framelines.specs.Figures.{filled};
 ghost use Rattle.digits.specs.Stored.{stored};
 ghost use Rattle.tasks.specs.Set.{mostTasks};
 ghost use Rattle.tasktext.specs.Text.{mostFigures, taskFigures, textOf};

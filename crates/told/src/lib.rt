@@ -1,6 +1,6 @@
 // An answer told in numbers: its status, 0 or a refusal as one number; the numbers of a verdict; numbers into lent memory.
 // What they are stands in specs/Told.antt.
-use framewrite::figures::put_figures;
+use framelines::figures::put_figures;
 use refusals::Refusal;
 use refusals::number;
 use refusals::place;

@@ -1,25 +1,20 @@
 -- `framewrite::put_bytes` meets its contract: the bytes copied so far are stored, one by one.
 -- Assumes nothing.
-use Prim.Native.Nat.{ℕ, _+_, _-_, _≤_}
-use mathlib.Core.Path.{_≡_, refl, sym, _∙_, ap}
-use mathlib.Core.List.{List}
+use Prim.Native.Nat.{_-_}
 use native.Mathlib.Omega.{arith}
-use lib.ListN.{length, take, getD, set, length-set}
-use lib.Seq.{take-all}
-use Rattle.digits.specs.Stored.{stored}
-use Rattle.digits.proofs.Stored.{stored-nil, stored-next}
+use lib.ListN.{length}
+use Rattle.digits.proofs.CopyLaws.{Copied, copied-none, copied-next, copied-all}
 use Rattle.framewrite.proofs.put_bytes.Statement.{statement}
 use Rattle.framewrite.proofs.put_bytes.Tie as tie
 
 abbrev Inv-loop : tie.InvT-loop
-Inv-loop out₀ at bytes i₀ out i =
-    (i ≤ length bytes) × (length out ≡ length out₀) × (out ≡ stored out₀ at (take i bytes))
+Inv-loop out₀ at bytes i₀ out i = Copied out₀ at bytes out i
 
 abbrev μ-loop : tie.MeasureT-loop
 μ-loop out₀ at bytes i₀ out i = length bytes - i
 
 loop-holds : tie.Need-loop-holds Inv-loop μ-loop
-loop-holds c = (omega arith, refl, sym (stored-nil _ _))
+loop-holds c = copied-none _ _ _
 
 add-j : tie.Need-add-j Inv-loop μ-loop
 add-j c = omega arith
@@ -37,23 +32,13 @@ loop-less : tie.Need-loop-less Inv-loop μ-loop
 loop-less c = omega arith
 
 loop-again : tie.Need-loop-again Inv-loop μ-loop
-loop-again c =
-    let a = c .before .before .before .args in
-    let l = c .before .before .loop in (
-      omega arith,
-      simp length-set (omega arith),
-      ap (λ (o : List ℕ). set o (a .at + l .i) (getD (a .bytes .now) (l .i) 0)) (l .inv .2)
-          ∙ stored-next (a .out .now) (a .at) (a .bytes .now) (l .i) (omega arith) (omega arith),
-    )
+loop-again c = copied-next (c .before .before .loop .inv) (omega arith) (omega arith)
 
 same-length : tie.Need-same-length Inv-loop μ-loop
-same-length c = c .before .loop .inv .1
+same-length c = c .before .loop .inv .same
 
 returns : tie.Need-returns Inv-loop μ-loop
-returns c =
-    let a = c .before .before .args in
-    let l = c .before .loop in
-    l .inv .2 ∙ ap (stored (a .out .now) (a .at)) (take-all (l .i) (a .bytes .now) (omega arith))
+returns c = copied-all (c .before .loop .inv) (omega arith)
 
 pub put-bytes-spec : {M : Type 1} → statement M
 put-bytes-spec =

@@ -7,10 +7,10 @@ use native.Mathlib.Omega.{arith}
 use lib.ListN.{length, take, getD}
 use lib.Seq.{take-all}
 use Rattle.frames.specs.Table.{sum, widthsOf}
-use Rattle.frames.specs.Line.{fields}
+use Rattle.framewrite.specs.Line.{fields}
 use Rattle.digits.specs.Stored.{stored}
 use Rattle.digits.specs.Number.{hex}
-use Rattle.frames.proofs.Fields.{start-next, start-within, fields-next}
+use Rattle.framewrite.proofs.Fields.{start-next, start-within, fields-next}
 use Rattle.digits.proofs.Stored.{stored-nil}
 use borrow.Author.Needs.{needs}
 use Rattle.frames.proofs.Tables.{fields-most}

@@ -1,16 +1,12 @@
 -- `framewrite::put_line` meets its contract: the kind, the fields and the LF, stored one behind the other, are the line.
 -- Assumes nothing.
-use Prim.Native.Nat.{ℕ, _+_}
 use mathlib.Core.Path.{_∙_, ap}
-use mathlib.Core.List.{List, [], _∷_}
 use native.Mathlib.Omega.{arith}
-use lib.ListN.{length}
+use lib.ListN.{length, length-set}
 use Rattle.frames.specs.declared.table.Row.{Row}
-use Rattle.frames.specs.Table.{rowOf, widthsOf}
-use Rattle.frames.specs.Line.{fields}
-use Rattle.digits.specs.Stored.{stored}
+use Rattle.frames.specs.Table.{rowOf}
 use Rattle.frames.proofs.Tables.{kind-length}
-use Rattle.frames.proofs.Lines.{line-stored}
+use Rattle.framewrite.proofs.LineLaws.{line-put}
 use borrow.Author.Needs.{needs}
 use Rattle.framewrite.proofs.put_line.Statement.{statement}
 use Rattle.framewrite.proofs.put_line.Tie as tie
@@ -42,27 +38,22 @@ length-requires c κs = search needs
 add-end : tie.Need-add-end
 add-end c = search needs
 
-slice-aggregate-put-bytes-2 : tie.Need-slice-aggregate-put-bytes-2
-slice-aggregate-put-bytes-2 c = search needs
-
-put-bytes-requires-2 : tie.Need-put-bytes-requires-2
-put-bytes-requires-2 c κs = search needs
+slice-write-out : tie.Need-slice-write-out
+slice-write-out c = search needs
 
 same-length : tie.Need-same-length
-same-length c = search needs
+same-length c = simp length-set (c .before .before .before .put-fields .kept .0 ∙ c .before .before .before .before .before .before .before .put-bytes .kept .0)
 
 returns : tie.Need-returns
 unfolding rowOf
 returns c =
-    let s = c .before .before .before .before .before .before .before .before .before .before .before .before .before .before .before .before .before .before .before in
+    let s = c .before .before .before .before .before .before .before .before .before .before .before .before .before .before in
     let a = s .args in
-    let row = c .before .before .before .before .before .before .before .before .before .before .before .before .before .before .before .before .row-of in
-    let size = c .before .before .before .before .before .length in
-    c .before .before .put-bytes2 .ensures
-    ∙ ap (λ (o : List ℕ). stored o (a .at + size .result) (10 ∷ []))
-    (c .before .before .before .before .before .before .before .before .put-fields .ensures
-    ∙ ap (λ (o : List ℕ). stored o (a .at + 2) (fields (widthsOf (a .frame)) (a .values .now))) (c .before .before .before .before .before .before .before .before .before .before .before .before .put-bytes .ensures))
-    ∙ line-stored (a .out .now) (a .at) (a .frame) (a .values .now) (row .result .kind) (size .result) (ap (λ (r : Row). r .kind) (row .ensures)) (size .ensures) (s .pre .1)
+    let row = c .before .before .before .before .before .before .before .before .before .before .before .row-of in
+    let size = c .length in
+    line-put (a .out .now) (a .at) (a .frame) (a .values .now) (row .result .kind) (size .result) (ap (λ (r : Row). r .kind) (row .ensures)) (size .ensures) (s .pre .1)
+    (c .before .before .before .before .before .before .before .put-bytes .ensures)
+    (c .before .before .before .put-fields .ensures)
 
 pub put-line-spec : {M : Type 1} → statement M
 put-line-spec =
@@ -75,7 +66,6 @@ put-line-spec =
     put-fields-requires
     length-requires
     add-end
-    slice-aggregate-put-bytes-2
-    put-bytes-requires-2
+    slice-write-out
     same-length
     returns)

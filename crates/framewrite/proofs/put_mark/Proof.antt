@@ -1,6 +1,6 @@
 -- `framewrite::put_mark` meets its contract: the constant byte string is the mark.
 -- Assumes nothing.
-use Rattle.frames.specs.Table.{markOf}
+use Rattle.framewrite.specs.Line.{markOf}
 use borrow.Author.Needs.{needs}
 use Rattle.framewrite.proofs.put_mark.Statement.{statement}
 use Rattle.framewrite.proofs.put_mark.Tie as tie

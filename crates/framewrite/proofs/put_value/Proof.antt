@@ -5,7 +5,7 @@ use native.Mathlib.Omega.{arith}
 use borrow.Author.Tests.{eqb-true}
 use borrow.Author.Needs.{needs}
 use Rattle.digits.specs.Stored.{stored}
-use Rattle.frames.proofs.Tables.{mark-value}
+use Rattle.framewrite.proofs.Mark.{mark-value}
 use Rattle.framewrite.proofs.put_value.Statement.{statement}
 use Rattle.framewrite.proofs.put_value.Tie as tie
 

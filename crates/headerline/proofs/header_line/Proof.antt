@@ -6,16 +6,16 @@ use Prim.Native.Nat.{ℕ, _≤_}
 use native.Mathlib.Omega.{arith}
 use denote.Ref.{now}
 use lib.ListN.{length}
-use Rattle.frames.specs.Line.{formed, kindAt}
+use Rattle.frameread.specs.Line.{formed, kindAt}
 use Rattle.frames.specs.declared.table.Frame.{Frame}
-use Rattle.frames.specs.declared.line.Found.{Found}
+use Rattle.frameread.specs.declared.Found.{Found}
 use Rattle.refusals.specs.declared.Outcome.{Outcome}
 use Rattle.headerline.specs.declared.HeaderLine.{HeaderLine}
 use Rattle.taskfile.specs.File.{lineOutcome, headerAt, empty}
 use Rattle.headerline.specs.Answer.{headerOr}
-use Rattle.frames.proofs.KindLaws.{kind-formed, kind-none}
+use Rattle.frameread.proofs.KindLaws.{kind-formed, kind-none}
 use Rattle.taskfile.proofs.Past.{nothing-left}
-use Rattle.taskfile.proofs.Lines.{first-missing, first-header, first-task, first-other}
+use Rattle.taskfile.proofs.Lines.{admits-none, first-missing, first-header, first-task, first-other}
 use Rattle.taskfile.proofs.Standing.{byte-there, other-frame}
 use borrow.Author.Needs.{needs}
 use Rattle.headerline.proofs.header_line.Statement.{statement}
@@ -47,7 +47,7 @@ returns-2 : tie.Need-returns-2
 returns-2 c =
     let text : List ℕ = now (c .before .before .before .before .before .args .text) in
     let nothing : kindAt text ≡ Found.Nothing = sym (c .before .before .kind-at .ensures) ∙ c .enum-told .given .1 in
-    sym (ap (given text) (first-other text (there (c .before .before .before)) (kind-none text nothing Frame.Header) (kind-none text nothing Frame.Task)))
+    sym (ap (given text) (first-other text (there (c .before .before .before)) (admits-none text (kind-none text nothing))))
 
 enum-told-2 : tie.Need-enum-told-2
 enum-told-2 c = search needs
@@ -79,7 +79,7 @@ returns-5 : tie.Need-returns-5
 returns-5 c =
     let text : List ℕ = now (c .before .before .before .before .before .before .before .args .text) in
     let other = other-frame (c .before .before .found .given .0 .0) text (c .match2 .keys3) (is-formed (c .before)) in
-    sym (ap (given text) (first-other text (there (c .before .before .before .before .before)) (other .0) (other .1)))
+    sym (ap (given text) (first-other text (there (c .before .before .before .before .before)) other))
 
 pub header-line-spec : {M : Type 1} → statement M
 header-line-spec =

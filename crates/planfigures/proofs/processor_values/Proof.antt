@@ -6,7 +6,7 @@ use native.Mathlib.Omega.{arith}
 use Rattle.digits.specs.Stored.{stored}
 use Rattle.tasks.specs.Set.{mostProcessors}
 use Rattle.planfigures.specs.Figures.{processorFigures}
-use Rattle.framewrite.proofs.FillLaws.{Filled, filled-none, filled-next, filled-all}
+use Rattle.framelines.proofs.FillLaws.{Filled, filled-none, filled-next, filled-all}
 use Rattle.planfigures.proofs.FigureLaws.{processor-each, processor-at}
 use borrow.Author.Needs.{needs}
 use Rattle.planfigures.proofs.processor_values.Statement.{statement}

@@ -5,14 +5,15 @@ use mathlib.Core.List.{List}
 use Prim.Native.Nat.{ℕ}
 use denote.Ref.{now}
 use lib.ListN.{drop}
-use Rattle.frames.specs.Line.{formed, kindAt}
+use Rattle.frameread.specs.Line.{formed, kindAt}
 use Rattle.frames.specs.declared.table.Frame.{Frame}
-use Rattle.frames.specs.declared.line.Found.{Found}
+use Rattle.frameread.specs.declared.Found.{Found}
 use Rattle.refusals.specs.declared.Outcome.{Outcome}
 use Rattle.taskline.specs.declared.TaskLine.{TaskLine}
 use Rattle.taskfile.specs.File.{taskAt}
 use Rattle.taskline.specs.Answer.{taskOr}
-use Rattle.frames.proofs.KindLaws.{kind-formed, kind-none}
+use Rattle.frameread.proofs.KindLaws.{kind-formed, kind-none}
+use Rattle.taskfile.proofs.Lines.{admits-none}
 use Rattle.taskfile.proofs.Standing.{other-frame, said-line, said-order}
 use borrow.Author.Needs.{needs}
 use Rattle.taskline.proofs.task_line.Statement.{statement}
@@ -44,7 +45,7 @@ returns : tie.Need-returns
 returns c =
     let s = c .before .before .before .before .before in
     let nothing : kindAt (rest s) ≡ Found.Nothing = sym (c .before .before .kind-at .ensures) ∙ c .enum-told .given .1 in
-    sym (ap (given s) (said-line (s .pre .0) (s .pre .1 .0) (kind-none (rest s) nothing Frame.Header) (kind-none (rest s) nothing Frame.Task)))
+    sym (ap (given s) (said-line (s .pre .0) (s .pre .1 .0) (admits-none (rest s) (kind-none (rest s) nothing))))
 
 enum-told-2 : tie.Need-enum-told-2
 enum-told-2 c = search needs
@@ -75,7 +76,7 @@ returns-4 : tie.Need-returns-4
 returns-4 c =
     let s = c .before .before .before .before .before .before .before in
     let other = other-frame (c .before .before .found .given .0 .0) (rest s) (c .match2 .keys3) (is-formed (c .before)) in
-    sym (ap (given s) (said-line (s .pre .0) (s .pre .1 .0) (other .0) (other .1)))
+    sym (ap (given s) (said-line (s .pre .0) (s .pre .1 .0) other))
 
 pub task-line-spec : {M : Type 1} → statement M
 task-line-spec =

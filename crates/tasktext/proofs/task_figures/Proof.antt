@@ -7,7 +7,7 @@ use borrow.Author.Needs.{needs}
 use Rattle.digits.specs.Stored.{stored}
 use Rattle.frames.specs.Table.{widthsOf, fieldsIn}
 use Rattle.frames.specs.declared.table.Frame.{Frame}
-use Rattle.framewrite.proofs.FillLaws.{Filled, filled-none, filled-next, filled-all}
+use Rattle.framelines.proofs.FillLaws.{Filled, filled-none, filled-next, filled-all}
 use Rattle.tasktext.specs.Text.{mostFigures, taskFigures}
 use Rattle.tasktext.proofs.TextLaws.{figures-each, figures-at}
 use Rattle.tasktext.proofs.task_figures.Statement.{statement}

@@ -2,7 +2,6 @@
 -- The loop's invariant: the lines so far are taken, the set and the ids are what they hold, and the cursor stands behind them.
 use Prim.Native.Nat.{ℕ, suc, _+_, _-_, _<_}
 use native.Mathlib.Omega.{arith}
-use native.Mathlib.Numerals.{add-one}
 use mathlib.Core.List.{List}
 use mathlib.Core.Path.{_≡_, refl, sym, ap, _∙_, subst}
 use borrow.Author.Needs.{needs}
@@ -13,21 +12,15 @@ use Rattle.frames.specs.Table.{lengthOf}
 use Rattle.frames.specs.declared.table.Frame.{Frame}
 use Rattle.frames.proofs.Tables.{length-most}
 use Rattle.refusals.specs.declared.Outcome.{Outcome}
-use Rattle.refusals.specs.declared.Outcome.the-variants.{Done}
-use Rattle.refusals.specs.First.{till}
 use Rattle.tasks.specs.declared.set.Task.{Task}
 use Rattle.tasks.specs.declared.set.TaskSet.{TaskSet}
-use Rattle.headerline.specs.declared.HeaderLine.{HeaderLine}
 use Rattle.taskline.specs.declared.TaskLine.{TaskLine}
 use Rattle.tasks.specs.Set.{mostTasks}
-use Rattle.taskfile.specs.File.{lineOutcome, headerAt, taskAt}
+use Rattle.taskfile.specs.File.{lineOutcome, taskAt}
 use Rattle.taskfile.specs.Taken.{Taken}
-use Rattle.headerline.specs.Answer.{headerOr, ofHeader}
-use Rattle.taskline.specs.Answer.{taskOr, ofTask}
+use Rattle.taskline.specs.Answer.{taskOr}
 use Rattle.taskread.specs.Read.{answer}
-use Rattle.taskread.proofs.Reading.{Held, held-few, reads-line, held-header, held-task, task-room, ended-all, ended-none}
-use Rattle.headerline.proofs.Answers.{of-header, header-refused}
-use Rattle.taskline.proofs.Answers.{of-task, task-refused}
+use Rattle.taskread.proofs.Reading.{Held, held-few, first-refused, later-refused, held-header, held-task, task-room, ended-all, ended-none}
 use Rattle.taskread.proofs.read.read.Statement.{statement}
 use Rattle.taskread.proofs.read.read.Tie as tie
 
@@ -56,17 +49,10 @@ answered-requires : tie.Need-answered-requires Inv-loop μ-loop
 answered-requires c κs = search needs
 
 returns : tie.Need-returns Inv-loop μ-loop
-unfolding till
 returns c =
-    let text : List ℕ = now (c .before .before .before .before .before .before .before .args .text) in
-    let line = c .before .before .before .before .header-line in
-    let set : TaskSet = c .before .before .before .before .before .zero .result in
-    let refused : headerOr (lineOutcome text 1) (headerAt text) ≡ HeaderLine.Refused (c .before .before .enum-told .given .0 .0) = sym (line .ensures) ∙ c .before .before .enum-told .given .1 in
-    let outcome : c .before .header-outcome .result ≡ lineOutcome text 1 =
-    c .before .header-outcome .ensures ∙ (ap ofHeader (line .ensures) ∙ of-header (lineOutcome text 1) (headerAt text)) in
-    c .answered .ensures
-    ∙ (ap (λ (o : Outcome). answer o set) outcome
-    ∙ reads-line text 0 set refl (header-refused (lineOutcome text 1) (headerAt text) (c .before .before .enum-told .given .0 .0) refused))
+    let s = c .before .before .before .before .before in
+    let told = c .before .before .enum-told .given in
+    c .answered .ensures ∙ first-refused (now (s .before .before .args .text)) (told .0 .0) (s .zero .result) (c .before .before .before .before .header-line .ensures) (told .1) (c .before .header-outcome .ensures)
 
 length-requires : tie.Need-length-requires Inv-loop μ-loop
 length-requires c κs = search needs
@@ -105,19 +91,8 @@ answered-requires-2 c κs = search needs
 returns-2 : tie.Need-returns-2 Inv-loop μ-loop
 returns-2 c =
     let at = c .before .before .before .before .before .before .before in
-    let text : List ℕ = now (at .before .before .before .before .before .before .before .before .args .text) in
-    let set : TaskSet = at .loop .set in
-    let lines : ℕ = at .loop .lines in
-    let task : Task = taskAt (drop (at .loop .at) text) in
-    let line = c .before .before .before .before .task-line in
-    let refused : taskOr (lineOutcome text (lines + 1)) task ≡ TaskLine.Refused (c .before .before .enum-told2 .given .0 .0) = sym (line .ensures) ∙ c .before .before .enum-told2 .given .1 in
-    let outcome : c .before .task-outcome .result ≡ lineOutcome text (suc lines) =
-    c .before .task-outcome .ensures
-    ∙ (ap ofTask (line .ensures) ∙ (of-task (lineOutcome text (lines + 1)) task ∙ ap (lineOutcome text) (add-one lines))) in
-    c .answered2 .ensures
-    ∙ (ap (λ (o : Outcome). answer o set) outcome
-    ∙ reads-line text lines set (at .loop .inv .taken .clear)
-    (λ (done : lineOutcome text (suc lines) ≡ Done). task-refused (lineOutcome text (lines + 1)) task (c .before .before .enum-told2 .given .0 .0) refused (ap (lineOutcome text) (add-one lines) ∙ done)))
+    let told = c .before .before .enum-told2 .given in
+    c .answered2 .ensures ∙ later-refused (at .loop .inv) (told .0 .0) (c .before .before .before .before .task-line .ensures) (told .1) (c .before .task-outcome .ensures)
 
 -- what the line gives where it is a task
 gives : (c : tie.After-known-told2 Inv-loop μ-loop) → taskOr (lineOutcome (now (c .before .before .before .before .before .before .before .before .before .before .before .before .before .before .args .text)) (c .before .before .before .before .before .before .loop .lines + 1)) (taskAt (drop (c .before .before .before .before .before .before .loop .at) (now (c .before .before .before .before .before .before .before .before .before .before .before .before .before .before .args .text)))) ≡ TaskLine.Task (c .before .line .given .0 .0)

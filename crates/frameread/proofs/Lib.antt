@@ -1,0 +1,4 @@
+pub mod Cuts
+pub mod Formed
+pub mod KindLaws
+pub mod Places
