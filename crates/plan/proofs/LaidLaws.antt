@@ -36,8 +36,8 @@ up-reserves : (reserves : List ℕ) → upTo (reserveOf reserves) (length reserv
 up-reserves reserves =
     ext-getD 0 (upTo (reserveOf reserves) (length reserves)) reserves (up-length (reserveOf reserves) (length reserves))
     (λ i h.
-        let here : i < length reserves = omega (arith, h, up-length (reserveOf reserves) (length reserves)) in
-        up-at (reserveOf reserves) (length reserves) i here ∙ ap (λ (k : ℕ). getD reserves (pred k) 0) (add-one i))
+    let here : i < length reserves = omega (arith, h, up-length (reserveOf reserves) (length reserves)) in
+    up-at (reserveOf reserves) (length reserves) i here ∙ ap (λ (k : ℕ). getD reserves (pred k) 0) (add-one i))
 
 module _ (S cache : ℕ) (placement reserves : List ℕ) where
   -- the plan's reserves are the reserves
