@@ -4,12 +4,13 @@ use plan::plan::Plan;
 use plan::server::Server;
 use planner::make;
 use refusals::Outcome;
+use ring::cover::Stand;
 use tasks::set::TaskSet;
 ghost use mathlib.Core.Path.{_≡_};
 ghost use Prim.Native.Nat.{_+_, _≤_};
 ghost use lib.ListN.{length};
 ghost use Rattle.tasks.specs.Set.{mostTasks};
-ghost use Rattle.plancheck.specs.Agrees.{sameFront, sameFigures, sameUsed, sameServers, sameProcessors, agrees, makes, InRoom};
+ghost use Rattle.plancheck.specs.Agrees.{sameFront, sameFigures, sameUsed, sameServers, sameStand, sameProcessors, agrees, makes, InRoom};
 
 fn same_front<'a>(a: &'a [u64], b: &'a [u64], n: usize) -> bool
     requires { ⌜ (n ≤ length (now a)) × (n ≤ length (now b)) ⌝ }
@@ -95,6 +96,15 @@ fn same_servers(a: Plan, b: Plan) -> bool
     true
 }
 
+fn same_stand(a: Stand, b: Stand) -> bool
+    ensures { λ r. ⌜ r ≡ sameStand a b ⌝ }
+{
+    if a.server != b.server {
+        return false;
+    }
+    a.left == b.left
+}
+
 // Two plans of equally many processors.
 fn same_processors(a: Plan, b: Plan) -> bool
     requires { ⌜ (b .ring + b .whole ≤ mostTasks) × (a .ring + a .whole ≡ b .ring + b .whole) ⌝ }
@@ -105,7 +115,7 @@ fn same_processors(a: Plan, b: Plan) -> bool
     while i < n {
         let here = a.first[i];
         let there = b.first[i];
-        if here.server != there.server || here.left != there.left {
+        if !same_stand(here, there) {
             return false;
         }
         i += 1;
