@@ -66,11 +66,6 @@ module _ (h : Header) (cache : ℕ) where
   unfolding chargedIn
   charged-period P l p = p
 
-  pub charged-periods : (ls : List Load) → map (λ (l : Load). l .period) (map (chargedIn h cache) ls) ≡ map (λ (l : Load). l .period) ls
-  unfolding chargedIn
-  charged-periods [] = refl
-  charged-periods (l ∷ ls) = ap (λ (ps : List ℕ). l .period ∷ ps) (charged-periods ls)
-
 module _ (h : Header) (ms : List Load) where
   -- as many as the members
   pub loads-many : length (serverLoads h ms) ≡ length ms

@@ -3,14 +3,14 @@
 -- Assumes nothing.
 use Prim.Native.Nat.{ℕ, zero, suc, _+_, _*_, _^_, _≤_, _<_, _∣_, suc-le-suc}
 use native.Mathlib.Omega.{arith}
-use native.Mathlib.Nat.{le-of-dvd}
+use native.Mathlib.Nat.{le-of-dvd, le-of-suc-le-suc}
 use native.Mathlib.Decide.{decLt}
 use mathlib.Core.Path.{_≡_, refl, sym, ap, ap₂, subst, _∙_}
 use mathlib.Core.Bool.{Bool, true, false}
 use mathlib.Core.List.{List, [], _∷_, _++_, map}
 use lib.Dec.{eqb}
-use lib.ListN.{length, take, drop, getD, List·getD-append}
-use lib.Seq.{getD-take, length-take-le, getD-append-seam, take-at}
+use lib.ListN.{length, take, getD, List·getD-append}
+use lib.Seq.{getD-take, length-take-le, getD-append-seam}
 use Rattle.digits.specs.Stored.{stored}
 use Rattle.digits.proofs.Stored.{stored-length}
 use Rattle.wholes.specs.Multiple.{within}
@@ -52,6 +52,13 @@ every-placed P figures n [] e b = tt
 every-placed P figures n (p ∷ places) e b =
     (every-at figures P n (b 0 (omega arith)) e, every-placed P figures n places e (λ i h. b (suc i) (suc-le-suc h)))
 
+-- and what holds of those holds of the one at place i
+pub placed-at : (P : Load → Type 0) (figures places : List ℕ) (i : ℕ) → i < length places → Every P (membersAt figures places) →
+    P (loadAt figures (getD places i 0))
+placed-at P figures [] i h e = absurd (omega arith)
+placed-at P figures (p ∷ places) zero h e = e .0
+placed-at P figures (p ∷ places) (suc i) h e = placed-at P figures places i (le-of-suc-le-suc h) (e .1)
+
 -- what holds of all holds of those of a server
 pub every-chosen : (P : Load → Type 0) (ls : List Load) (placement : List ℕ) (q : ℕ) → Every P ls → Every P (chosen ls placement q)
 unfolding chosen
@@ -90,11 +97,6 @@ placed-chosen figures n placement q h =
   where
     none : Load
     none = record { cost = 0; deadline = 0; period = 0 }
-
--- what is stored at the start is read there
-pub front-stored : (b x : List ℕ) {n : ℕ} → length x ≡ n → take n (stored b 0 x) ≡ x
-unfolding stored
-front-stored b x {n} e = take-at x (drop (0 + length x) b) n e
 
 module _ {h : Header} {figures : List ℕ} {n H : ℕ} (f : Filed h figures n H) where
   -- the members at such places may be charged, and their periods divide H

@@ -11,7 +11,7 @@ use Rattle.verdict.specs.Search.{firstAfter, orElse, NoneIn, Next}
 use Rattle.verdict.proofs.Bounded.{after-none, after-zero, after-found, after-is}
 use Rattle.tasks.specs.declared.set.Header.{Header}
 use Rattle.servers.specs.Placement.{serversIn, takes, Rule, firstFit, join, fit}
-use Rattle.servers.specs.Claims.{TakesOrNew, Picks}
+use Rattle.servers.specs.Claims.{Picks}
 
 -- the first number stands where it is not 0
 or-else-some : (a b : ℕ) → 1 ≤ a → orElse a b ≡ a

@@ -6,3 +6,4 @@ pub mod Claims
 pub mod TotalLaws
 pub mod ChargedLaws
 pub mod SoFarLaws
+pub mod Worked

@@ -1,6 +1,6 @@
 -- The reserve of each server of a placement, whatever placement that is, in server order.
 -- Document 01, "From tasks to servers to ring", rule 2.
-use Prim.Native.Nat.{ℕ}
+use Prim.Native.Nat.{ℕ, suc}
 use mathlib.Core.List.{List}
 use Rattle.demand.specs.Load.{Load}
 use Rattle.tasks.specs.declared.set.Header.{Header}

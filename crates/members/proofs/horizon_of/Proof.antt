@@ -1,6 +1,6 @@
 -- `horizon_of` meets its contract. The loop's invariant: m is the horizon of the loads passed, and at most the limit.
 -- The measure is how many are left. Assumes nothing.
-use Prim.Native.Nat.{_+_, _*_, _-_, _≤_}
+use Prim.Native.Nat.{_+_, _*_, _-_, _≤_, _<_}
 use mathlib.Core.Path.{_≡_, refl, sym, _∙_}
 use borrow.Author.Needs.{needs}
 use native.Mathlib.Omega.{arith}
@@ -19,7 +19,10 @@ abbrev μ-loop : tie.MeasureT-loop
 
 returns : tie.Need-returns Inv-loop μ-loop
 unfolding ownHorizon loadsOf leastMultipleOf
-returns c = stays-past (c .before .before .pre) (c .before .before .args .limit) {k = 0} (omega arith) (c .if1 .taken)
+returns c =
+    let s = c .before .before in
+    let past : s .args .limit < s .args .slot = omega (arith, c .if1 .taken) in
+    stays-past (s .pre) (s .args .limit) {k = 0} (omega arith) past
 
 loop-holds : tie.Need-loop-holds Inv-loop μ-loop
 unfolding ownHorizon loadsOf leastMultipleOf

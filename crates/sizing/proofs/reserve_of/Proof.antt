@@ -114,12 +114,20 @@ loss-requires : tie.Need-loss-requires
 loss-requires c κs = search needs
 
 smallest-reserve-requires : tie.Need-smallest-reserve-requires
+unfolding entryLoss
 smallest-reserve-requires c κs =
     let at = c .before .before .before .before .before .before .before .before .before in
     let s = from at in
-    let own = own-horizon at (c .before .before .before .before .before .horizon-of .ensures) (c .before .before .before .own .given .1) in (
-      charged-loaded (s .pre .0) (standing (at-places at)) _ refl (at .charge .ensures) (overheads s),
-      own-testable (s .pre .0) (standing (at-places at)) own (c .loss .ensures ∙ own-loss (s .args .header) (members s)) (overheads s),
+    let o = overheads s in
+    let own = own-horizon at (c .before .before .before .before .before .horizon-of .ensures) (c .before .before .before .own .given .1) in
+    let t = own-testable (s .pre .0) (standing (at-places at)) own refl o in (
+      charged-loaded (s .pre .0) (standing (at-places at)) _ refl (at .charge .ensures) o,
+      record {
+        slot-some = t .slot-some;
+        slot-small = t .slot-small;
+        loss-small = omega (arith, c .loss .ensures, o .delay, o .cache, s .pre .0 .short);
+        horizon-small = omega (arith, t .slot-small, t .horizon-small);
+      },
     )
 
 returns-2 : tie.Need-returns-2

@@ -47,7 +47,7 @@ module _ (c : tie.After-places2) where
 
   free : c .before .places-of .result < mostTasks
   free =
-      place-free (start .args .figures .now) (start .args .placement .now) _ (start .args .i) (start .args .q) (start .pre .1) refl
+      place-free (start .args .figures .now) (start .args .placement .now) _ (start .args .i) _ (start .pre .1) refl
       (c .before .places-of .ensures .0) (c .before .places-of .ensures .1) below
 
   standing : Standing (start .args .figures .now) (start .args .i + 1) (members start) (set found (c .before .places-of .result) (start .args .i)) (c .before .places-of .result + 1)
@@ -139,7 +139,18 @@ passes-requires : tie.Need-passes-requires
 passes-requires c κs =
     let at = c .before .before .before .before .before .before .before .before in
     let own = own-horizon at (c .before .before .before .before .horizon-of .ensures) (c .before .before .own .given .1) in
-    (own-loaded at, (whole-testable (from at .pre .0) (standing (at-places at)) own (overheads (from at)), inr refl))
+    let t = whole-testable (from at .pre .0) (standing (at-places at)) own (overheads (from at)) in (
+      own-loaded at,
+      (
+        record {
+          slot-some = t .slot-some;
+          slot-small = t .slot-small;
+          loss-small = omega arith;
+          horizon-small = omega (arith, t .slot-small, t .horizon-small);
+        },
+        inr refl,
+      ),
+    )
 
 returns-2 : tie.Need-returns-2
 unfolding takes

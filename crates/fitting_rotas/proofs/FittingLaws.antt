@@ -1,0 +1,79 @@
+-- The rota of a set under a fitting placement stands: each server has its smallest reserve, a lawful demand, and some demand.
+-- Assumes nothing.
+use Prim.Native.Nat.{ℕ, _-_, _≤_}
+use mathlib.Core.Path.{_≡_, subst}
+use mathlib.Core.List.{List, [], _∷_}
+use native.Mathlib.Numerals.{sub-one}
+use native.Mathlib.Omega.{arith}
+use lib.ListN.{length, getD}
+use Rattle.demand.specs.Load.{Load, Sound, Every}
+use Rattle.demand.specs.Demand.{demand}
+use Rattle.demand.proofs.Claims.{loads-lawful}
+use Rattle.verdict.specs.Reserve.{Smallest}
+use Rattle.tasks.specs.declared.set.TaskSet.{TaskSet}
+use Rattle.places.specs.Places.{chosen}
+use Rattle.places.proofs.PlacesLaws.{in-some}
+use Rattle.members.specs.Charge.{Member, serverLoads, serverLoss}
+use Rattle.members.specs.Server.{serverDemand, serverHorizon}
+use Rattle.members.proofs.ChargeLaws.{loads-sound, loads-many}
+use Rattle.members.proofs.FiledLaws.{every-chosen}
+use Rattle.members.proofs.ServerLaws.{server-lawful}
+use Rattle.servers.specs.Placement.{serversIn}
+use Rattle.servers.specs.Fitting.{Fitting}
+use Rattle.sizing.specs.Reserve.{reservesOf}
+use Rattle.sizing.proofs.Claims.{smallest-reserves}
+use Rattle.rows.specs.Figures.{setFigures}
+use Rattle.rows.specs.Rows.{Chargeable}
+use Rattle.rows.proofs.Clears.{board-slot, figures-members}
+use Rattle.rotas.specs.Rota.{Rota, IsServer, StandingServer, Standing}
+use Rattle.fitting_rotas.specs.Rota.{rotaOf}
+
+-- sound loads, at least one, demand something at some length
+some-demand : (ls : List Load) → Every Sound ls → 1 ≤ length ls → (t : ℕ) × (1 ≤ demand ls t)
+some-demand [] e h = absurd (omega arith)
+some-demand (l ∷ ls) e h = (l .deadline, loads-lawful .some l ls (e .0))
+
+module _ (set : TaskSet) (placement : List ℕ) (clear : Chargeable set) (fitting : Fitting (set .header) (setFigures set) placement) where
+  slot : 1 ≤ set .header .slot
+  slot = board-slot (set .header) (clear .board)
+
+  -- each task may be charged
+  ok : Every (Member (set .header)) (setFigures set)
+  ok = figures-members set clear
+
+  -- the members of server q
+  abbrev ms : ℕ → List Load
+  ms q = chosen (setFigures set) placement q
+
+  members-ok : (q : ℕ) → Every (Member (set .header)) (ms q)
+  members-ok q = every-chosen (Member (set .header)) (setFigures set) placement q ok
+
+  module _ (q : ℕ) (s : IsServer (rotaOf set placement) q) where
+    -- the server is one of those of the placement
+    placed : q ≤ serversIn placement
+    placed = omega (arith, s .there, smallest-reserves (set .header) (setFigures set) placement slot ok fitting .0)
+
+    -- some task is in it
+    some-member : 1 ≤ length (ms q)
+    some-member =
+        let f = fitting .parted .none-empty q (s .some) placed in
+        in-some (setFigures set) placement (f .0) q (fitting .parted .one-each) (f .1) (f .2)
+
+    server-stands : StandingServer (rotaOf set placement) q
+    server-stands =
+        let some =
+        some-demand (serverLoads (set .header) (ms q)) (loads-sound (set .header) (ms q) (members-ok q))
+        (omega (arith, some-member, loads-many (set .header) (ms q)))
+        in
+        record {
+          smallest = subst
+              (λ (i : ℕ). Smallest (serverDemand (set .header) (ms q)) (set .header .slot) (serverLoss (set .header) (ms q)) (getD (reservesOf (set .header) (setFigures set) placement) i 0))
+              (sub-one q) (smallest-reserves (set .header) (setFigures set) placement slot ok fitting .1 q (s .some) placed);
+          horizon = serverHorizon (set .header) (ms q);
+          lawful = server-lawful (set .header) (ms q) (members-ok q) slot;
+          long = some .0;
+          demanded = some .1;
+        }
+
+  pub rota-stands : Standing (rotaOf set placement)
+  rota-stands = record { slot-some = slot; servers = server-stands }

@@ -1,0 +1,24 @@
+-- A worked value, computed; the document's examples stand with the promises.
+-- Assumes nothing.
+use mathlib.Core.Path.{_≡_, refl}
+use mathlib.Core.List.{[], _∷_}
+use Rattle.wholes.specs.Measure.{measureIn, commonMeasure}
+use Rattle.wholes.specs.Multiple.{leastMultiple, leastMultipleOf}
+use Rattle.demand.specs.Charging.{effectiveDeadline, effectiveCost, entryLoss}
+use Rattle.demand.specs.Demand.{jobs, demand}
+use Rattle.demand.specs.Supply.{supplyPast, supply}
+use Rattle.verdict.specs.Search.{firstUpTo, firstAfter}
+use Rattle.verdict.specs.Verdict.{failing, ownHorizon, firstFailing, verdictAt, verdictOf, passing}
+use Rattle.places.specs.Places.{chosen}
+use Rattle.members.specs.Charge.{cacheOf, chargedIn, serverLoads, serverLoss}
+use Rattle.members.specs.Server.{passesWith, fits}
+use Rattle.servers.specs.Placement.{serversIn, takes, join, placeBy, fit, placementOf}
+
+-- a task that server 1 cannot take goes to 2, and a later one that it can take goes back to 1
+pub goes-back :
+    placementOf
+    (record { processors = 2; slot = 10; relj = 0; relo = 0; ctswo = 0; resd = 0; cpmdo = 0 })
+    (record { cost = 6; deadline = 10; period = 10 } ∷ record { cost = 6; deadline = 10; period = 10 } ∷ record { cost = 4; deadline = 10; period = 10 } ∷ [])
+    ≡ 1 ∷ 2 ∷ 1 ∷ []
+unfolding placementOf placeBy fit join takes serversIn chosen fits passesWith serverLoads serverLoss cacheOf chargedIn effectiveDeadline effectiveCost entryLoss passing verdictOf verdictAt firstFailing firstUpTo firstAfter failing ownHorizon leastMultipleOf leastMultiple commonMeasure measureIn demand jobs supply supplyPast
+goes-back = refl
