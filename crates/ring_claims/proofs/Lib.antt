@@ -7,4 +7,5 @@ pub mod HeldLaws
 pub mod FirstLaws
 pub mod LeftLaws
 pub mod RotaLaws
+pub mod Examples
 pub mod Claims
