@@ -8,11 +8,12 @@ use mathlib.Core.Path.{subst}
 use lib.ListN.{getD}
 use Rattle.ring.proofs.CoverLaws as cover
 use Rattle.ring.proofs.PhaseLaws.{phase-below}
-use Rattle.ring_claims.specs.Claims.{NoOverlap, Filled, NoRing, FirstReserve, PhaseExact, OneServer, OneProcessor, WhoServes, WhoStays, RotaUnrolled, OnBoardWhen, UsableWhen, HeldInSlot}
+use Rattle.ring_claims.specs.Claims.{NoOverlap, Filled, NoRing, FirstReserve, PhaseExact, OneServer, OneProcessor, WhoServes, WhoStays, TicksLeft, RotaUnrolled, OnBoardWhen, UsableWhen, HeldInSlot}
 use Rattle.ring_claims.proofs.FirstLaws as first
 use Rattle.ring_claims.proofs.PhaseLaws.{phase-agrees, phase-reached, phase-once}
 use Rattle.ring_claims.proofs.ServeLaws as serve
 use Rattle.ring_claims.proofs.BoardLaws as board
+use Rattle.ring_claims.proofs.LeftLaws as left
 use Rattle.ring_claims.proofs.RotaLaws.{unrolled-who}
 use Rattle.ring_claims.proofs.HeldLaws.{held-slot}
 
@@ -48,8 +49,11 @@ who-serves S rs p x a b = serve.answers S rs p x a b
 pub who-stays : WhoStays
 who-stays S rs p x h a b = serve.stays S rs p x h a
 
+pub ticks-left : TicksLeft
+ticks-left S rs p x h a b = left.left S rs p x h a
+
 pub rota-unrolled : RotaUnrolled
-rota-unrolled S rs p x res a b = unrolled-who S rs res p a x
+rota-unrolled plan S rs p x res prints a b = unrolled-who S rs res plan prints p a b x
 
 pub on-board-when : OnBoardWhen
 on-board-when S rs x h = board.board S rs x h

@@ -5,5 +5,7 @@ pub mod ServeLaws
 pub mod BoardLaws
 pub mod HeldLaws
 pub mod FirstLaws
+pub mod LeftLaws
 pub mod RotaLaws
+pub mod Examples
 pub mod Claims

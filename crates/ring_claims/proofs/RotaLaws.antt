@@ -1,204 +1,208 @@
--- The printed rota unrolled is the answer to "who runs" at every tick.
+-- The printed plan unrolled is the answer to "who runs" at every tick.
 -- Assumes nothing.
 use Prim.Native.Nat.{ℕ, zero, suc, _+_, _*_, _-_, _%_, _≤_, _<_}
 use mathlib.Core.Path.{_≡_, refl, sym, ap, _∙_}
-use mathlib.Core.List.{List, [], _∷_}
+use mathlib.Core.List.{List}
+use mathlib.Core.Bool.{Bool, true, false, cond}
 use mathlib.Core.Logic.{⊎-elim}
-use native.Mathlib.Nat.{le-trans, le-refl, mod-lt, mod-self, mod-add-mod, sub-zero, add-sub-cancel-left}
+use native.Mathlib.Nat.{le-trans, le-refl, le-of-eq, le-suc-iff, mod-lt, mod-self, mod-eq-of-lt, mod-add-mod, sub-zero}
 use native.Mathlib.Numerals.{add-one}
 use native.Mathlib.Omega.{arith}
-use borrow.Author.Tests.{le-leb, lt-leb}
-use lib.ListN.{length, getD, take, drop, length-drop}
-use lib.Seq.{getD-drop}
+use borrow.Author.Tests.{le-leb, lt-leb, lt-ltb, ltb-true, eq-eqb, eqb-true}
+use lib.Dec.{ltb, eqb}
+use lib.ListN.{length, take}
+use Rattle.laws.proofs.Tests.{and-parts, and-both, true-false, never-true}
 use Rattle.laws.proofs.Orders.{le-or-lt}
-use Rattle.laws.proofs.Choices.{cond-ltb, cond-ltb-not}
 use Rattle.ring.specs.declared.clock.Tick.{Tick}
 use Rattle.ring.specs.declared.cover.Stand.{Stand}
 use Rattle.ring_claims.specs.Slotted.{Slotted}
-use Rattle.reserves.specs.Reserves.{reserveOf, ringTicks, startOf, ringProcessors, idlePositions}
+use Rattle.reserves.specs.Reserves.{reserveOf, ringTicks, startOf, ringProcessors, ringLength, processorsOf}
 use Rattle.ring.specs.Phase.{phase}
 use Rattle.ring.specs.Cover.{standAt}
 use Rattle.reserves.specs.Whole.{wholeServer}
-use Rattle.ring.specs.Who.{whoOf}
+use Rattle.ring.specs.Who.{whoOf, firstReserve}
+use Rattle.ring_claims.specs.Serves.{RingServer}
 use Rattle.ring_claims.specs.Held.{later}
-use Rattle.ring_claims.specs.Rota.{ringFrom, fresh, afterLast, following, nextTick, unrolled}
-use Rattle.reserves.proofs.Starts.{ring-nil, ring-cons, ring-more, ring-part, ring-split, ring-between, ring-holds, ring-least}
-use Rattle.ring.proofs.CoverLaws.{Covers, covers-there}
+use Rattle.ring_claims.specs.Rota.{Printed, PrintsRing, starts, starter, lasts, endsAt, beginsAt, nextTick, unrolled}
+use Rattle.reserves.proofs.Starts.{ring-nil, ring-more, ring-mono, ring-part, ring-holds}
+use Rattle.ring.proofs.CoverLaws.{Covers, covers-there, covers-before, no-overlap, none-past}
 use Rattle.ring.proofs.StandLaws.{stand-covered, stand-idle}
 use Rattle.ring.proofs.PhaseLaws.{phase-below}
-use Rattle.ring_claims.proofs.PhaseLaws.{phase-later}
 use Rattle.ring.proofs.WhoLaws.{who-ring, who-whole, first-who}
 use Rattle.ring_claims.proofs.ServeLaws.{stand-cases, stays}
 
--- ---- the first ring server of a list
-
-module _ (S : ℕ) where
-  -- where a reserve stands on the ring, the first that does
-  ring-first : (Rs : List ℕ) (q : ℕ) → 1 ≤ ringTicks S Rs →
-      (i : ℕ) × (i < length Rs) × (ringFrom S Rs q ≡ q + i) × (getD Rs i 0 < S) × (ringTicks S (take i Rs) ≡ 0)
-  unfolding ringFrom
-  ring-first [] q h = absurd (omega (arith, ring-nil S))
-  ring-first (R ∷ Rs) q h =
-      ⊎-elim
-      (λ (w : S ≤ R).
-      let f = ring-first Rs (suc q) (omega (arith, ring-cons S R Rs, cond-ltb-not R 0 w)) in (
-        suc (f .0),
-        omega (arith, f .1),
-        cond-ltb-not q (ringFrom S Rs (suc q)) w ∙ omega (arith, f .2),
-        f .3,
-        omega (arith, ring-cons S R (take (f .0) Rs), cond-ltb-not R 0 w, f .4),
-      ))
-      (λ (w : R < S). (0, omega arith, cond-ltb q (ringFrom S Rs (suc q)) w ∙ omega arith, w, ring-nil S))
-      (le-or-lt S R)
-
-  -- where none does, none
-  ring-none : (Rs : List ℕ) (q : ℕ) → ((i : ℕ) → i < length Rs → 1 ≤ getD Rs i 0) → ringTicks S Rs ≡ 0 → ringFrom S Rs q ≡ 0
-  unfolding ringFrom
-  ring-none [] q f h = refl
-  ring-none (R ∷ Rs) q f h =
-      ⊎-elim
-      (λ (w : S ≤ R).
-      cond-ltb-not q (ringFrom S Rs (suc q)) w ∙
-      ring-none Rs (suc q) (λ i l. f (suc i) (omega arith)) (omega (arith, ring-cons S R Rs, cond-ltb-not R 0 w)))
-      (λ (w : R < S). absurd (omega (arith, ring-cons S R Rs, cond-ltb R 0 w, f 0 (omega arith))))
-      (le-or-lt S R)
-
-module _ (S : ℕ) (rs : List ℕ) (res : Slotted S rs) where
+module _ (S : ℕ) (rs : List ℕ) (res : Slotted S rs) (plan : Printed) (prints : PrintsRing S rs plan) where
   abbrev r : ℕ
   r = ringProcessors S rs
 
-  -- ---- where one stretch ends, the following one stands
+  -- ---- who starts at a position
 
-  -- after the first q servers the next ring server starts, if there is one
-  next-stands : (q : ℕ) → ringTicks S (take q rs) < ringTicks S rs →
-      (1 ≤ ringFrom S (drop q rs) (suc q)) ×
-      (standAt S rs (record { 0 = ringTicks S (take q rs) }) ≡ fresh rs (ringFrom S (drop q rs) (suc q)))
-  next-stands q l =
-      let f = ring-first S (drop q rs) (suc q) (omega (arith, ring-split S rs q)) in
-      let i : ℕ = f .0 in
-      let E : ℕ = ringTicks S (take q rs) in
-      let n : ringFrom S (drop q rs) (suc q) ≡ suc (q + i) = f .2 ∙ omega arith in
-      let g : getD (drop q rs) i 0 ≡ getD rs (q + i) 0 = getD-drop q rs i 0 in
-      let b : q + i < length rs = omega (arith, f .1, length-drop q rs) in
-      let s : ringTicks S (take (q + i) rs) ≡ E = omega (arith, ring-between S rs q i, f .4) in
-      let c : Covers S rs (suc (q + i)) E = record { ring = omega (arith, f .3); from = omega arith; before = omega (arith, res .some (q + i) b) } in
-      (omega arith, stand-covered S rs (record { 0 = E }) (q + i) c ∙ rw (n, s, add-sub-cancel-left E (getD rs (q + i) 0)))
+  -- server q stands on the ring, and starts here
+  record Starts (at q : ℕ) : Type 0 where
+    server : RingServer S rs q
+    here : startOf S rs q ≡ at
 
-  following-next : (q : ℕ) → 1 ≤ ringFrom S (drop q rs) (suc q) → following S rs q ≡ fresh rs (ringFrom S (drop q rs) (suc q))
-  unfolding following
-  following-next q h = rw (le-leb 1 (ringFrom S (drop q rs) (suc q)) h)
+  starts-told : (at q : ℕ) → 1 ≤ q → q ≤ length rs → starts plan at q ≡ true → Starts at q
+  starts-told at q some there e =
+      let a = and-parts (ltb (plan .reserve q) (plan .slot)) (eqb (plan .start q) at) e in
+      let s : RingServer S rs q = record {
+        some = some;
+        there = there;
+        ring = omega (arith, ltb-true (plan .reserve q) (plan .slot) (a .0), prints .reserve q some there, prints .slot);
+      } in
+      record { server = s; here = sym (prints .start q s) ∙ eqb-true (plan .start q) at (a .1) }
 
-  following-last : (q : ℕ) → ringFrom S (drop q rs) (suc q) ≡ 0 → following S rs q ≡ afterLast S rs
-  unfolding following
-  following-last q h = rw (lt-leb 1 (ringFrom S (drop q rs) (suc q)) (omega arith))
+  starts-is : (at q : ℕ) → Starts at q → starts plan at q ≡ true
+  starts-is at q f =
+      let s = f .server in
+      and-both
+      (lt-ltb (plan .reserve q) (plan .slot) (omega (arith, s .ring, prints .reserve q (s .some) (s .there), prints .slot)))
+      (eq-eqb (plan .start q) at (prints .start q s ∙ f .here))
 
-  last-idle : 1 ≤ idlePositions S rs → afterLast S rs ≡ record { server = 0; left = idlePositions S rs }
-  unfolding afterLast
-  last-idle h = rw (le-leb 1 (idlePositions S rs) h)
+  -- who starts at a position covers it
+  starts-covers : (at q : ℕ) → Starts at q → Covers S rs q at
+  starts-covers at zero f = let s = f .server in absurd (omega (arith, s .some))
+  starts-covers at (suc j) f =
+      let s = f .server in
+      record { ring = s .ring; from = le-of-eq (f .here); before = omega (arith, f .here, res .some j (s .there)) }
 
-  last-first : idlePositions S rs < 1 → afterLast S rs ≡ fresh rs (ringFrom S rs 1)
-  unfolding afterLast
-  last-first h = rw (lt-leb 1 (idlePositions S rs) h)
+  starter-suc : (at n : ℕ) (t : Bool) → starts plan at (suc n) ≡ t → starter plan at (suc n) ≡ cond t (suc n) (starter plan at n)
+  unfolding starter
+  starter-suc at n t e = rw e
 
-  some-ticks : 1 ≤ r → 0 < ringTicks S rs
-  some-ticks h = omega (arith, ring-least S rs {k = 0} (res .slot-some) h)
+  -- the one that starts there is found
+  starter-is : (at q n : ℕ) → n ≤ length rs → q ≤ n → Starts at q → starter plan at n ≡ q
+  starter-is at q zero b l f = let s = f .server in absurd (omega (arith, s .some))
+  starter-is at q (suc n) b l f = by (λ k. starter-is at q n (omega arith) k f) (starts plan at (suc n)) refl
+    where
+      by : (q ≤ n → starter plan at n ≡ q) → (t : Bool) → starts plan at (suc n) ≡ t → starter plan at (suc n) ≡ q
+      by fewer true e =
+          let s = f .server in
+          starter-suc at n true e ∙
+          no-overlap S rs (suc n) q at (omega arith) (s .some)
+          (starts-covers at (suc n) (starts-told at (suc n) (omega arith) b e))
+          (starts-covers at q f)
+      by fewer false e =
+          starter-suc at n false e ∙
+          ⊎-elim
+          (λ (k : q ≤ n). fewer k)
+          (λ (k : q ≡ suc n). true-false (sym (starts-is at q f) ∙ ap (starts plan at) k ∙ e))
+          (le-suc-iff .0 l)
 
-  -- position 0 has the first ring server
-  at-zero : 1 ≤ r → (1 ≤ ringFrom S rs 1) × (standAt S rs (record { 0 = 0 }) ≡ fresh rs (ringFrom S rs 1))
-  at-zero h =
-      let e = ring-nil S in
-      let n = next-stands 0 (omega (arith, some-ticks h)) in
-      (n .0, ap (λ (k : ℕ). standAt S rs (record { 0 = k })) (sym e) ∙ n .1)
+  -- and where none does, none
+  starter-none : (at n : ℕ) → n ≤ length rs → ((q : ℕ) → Starts at q → ⊥) → starter plan at n ≡ 0
+  unfolding starter
+  starter-none at zero b none = refl
+  starter-none at (suc n) b none =
+      starter-suc at n false (never-true (starts plan at (suc n)) (λ e. none (suc n) (starts-told at (suc n) (omega arith) b e))) ∙
+      starter-none at n (omega arith) none
+
+  -- ---- what begins where a stretch ends is what stands there
+
+  begins-as : (at q : ℕ) → starter plan at (plan .servers) ≡ q → beginsAt plan at ≡ record { server = q; left = lasts plan q }
+  unfolding beginsAt
+  begins-as at q e = rw e
+
+  begins-by : (at q l : ℕ) → starter plan at (length rs) ≡ q → lasts plan q ≡ l → beginsAt plan at ≡ record { server = q; left = l }
+  begins-by at q l e f =
+      begins-as at q (ap (starter plan at) (prints .servers) ∙ e) ∙ ap (λ (n : ℕ). record { server = q; left = n }) f
+
+  -- the server that covers a position where reserves end starts there
+  end-starts : (at k j : ℕ) → at ≡ ringTicks S (take k rs) → Covers S rs (suc j) at → startOf S rs (suc j) ≡ at
+  end-starts at k j e c =
+      ⊎-elim
+      (λ (l : k ≤ j). omega (arith, c .from, ring-mono S rs {i = k} {j = j} l))
+      (λ (l : j < k). absurd (omega (arith, covers-before S rs j at c, ring-mono S rs {i = suc j} {j = k} l)))
+      (le-or-lt k j)
+
+  -- where the first k reserves end
+  begins-stands : (at k : ℕ) → at ≡ ringTicks S (take k rs) → beginsAt plan at ≡ standAt S rs (record { 0 = at })
+  begins-stands at k e =
+      ⊎-elim
+      (λ (l : ringTicks S rs ≤ at).
+      let end : at ≡ ringTicks S rs = omega (arith, ring-part S rs k) in
+      let none : (q : ℕ) → Starts at q → ⊥ = λ q f. let s = f .server in none-past S rs q at (s .some) l (starts-covers at q f) in
+      begins-by at 0 (ringLength S rs - at) (starter-none at (length rs) (le-refl (length rs)) none)
+      (prints .idle ∙ ap (λ (n : ℕ). ringLength S rs - n) (sym end)) ∙
+      sym (stand-idle S rs (record { 0 = at }) l))
+      (λ (f : (j : ℕ) × Covers S rs (suc j) at).
+      let j : ℕ = f .0 in
+      let c = f .1 in
+      let here : startOf S rs (suc j) ≡ at = end-starts at k j e c in
+      let s : RingServer S rs (suc j) = record { some = omega arith; there = covers-there S rs j at c; ring = c .ring } in
+      let own : plan .reserve (suc j) ≡ startOf S rs (suc j) + reserveOf rs (suc j) - at =
+      omega (arith, prints .reserve (suc j) (s .some) (s .there)) in
+      begins-by at (suc j) (startOf S rs (suc j) + reserveOf rs (suc j) - at)
+      (starter-is at (suc j) (length rs) (le-refl (length rs)) (s .there) (record { server = s; here = here }))
+      own ∙
+      sym (stand-covered S rs (record { 0 = at }) j c))
+      (stand-cases S rs at)
 
   -- ---- a tick of a ring processor
 
-  -- from the ring's end a processor turns to position 0
-  phase-turn : (p : ℕ) (x : Tick) → phase S r p x .0 + 1 ≡ r * S → phase S r p (later x 1) ≡ record { 0 = 0 }
+  -- one position on, and from the ring's end to position 0
+  phase-next : (p : ℕ) (x : Tick) → phase S r p (later x 1) ≡ record { 0 = (phase S r p x .0 + 1) % ringLength S rs }
   unfolding phase
-  phase-turn p x e =
-      rw (sum (x .0) ((p - 1) * S), ← (mod-add-mod (x .0 + (p - 1) * S) (r * S) 1), e, mod-self (r * S))
+  phase-next p x = rw (sum (x .0) ((p - 1) * S), ← (mod-add-mod (x .0 + (p - 1) * S) (r * S) 1))
     where
       sum : (a b : ℕ) → a + 1 + b ≡ a + b + 1
       sum a b = omega arith
 
-  -- one position on
-  phase-moved : (p E : ℕ) (x : Tick) → E ≡ phase S r p x .0 + 1 → E < r * S → phase S r p (later x 1) ≡ record { 0 = E }
-  phase-moved p E x end l = phase-later S r p 1 x (omega arith) ∙ ap (λ (k : ℕ). record { 0 = k }) (sym end)
-
-  -- with no reserve after server q, what follows it follows the last
-  none-after : (q : ℕ) → ringTicks S rs ≤ ringTicks S (take q rs) → following S rs q ≡ afterLast S rs
-  none-after q l =
-      following-last q
-      (ring-none S (drop q rs) (suc q)
-      (λ j k.
-      let b : q + j < length rs = omega (arith, length-drop q rs) in
-      rw (getD-drop q rs j 0) (res .some (q + j) b))
-      (omega (arith, ring-split S rs q)))
-
-  -- at the end of the last reserve the idle stretch begins, or the ring again
-  at-last : (p : ℕ) (x : Tick) → 1 ≤ r → phase S r p x .0 + 1 ≡ ringTicks S rs → standAt S rs (phase S r p (later x 1)) ≡ afterLast S rs
-  at-last p x h end =
+  -- the end of some reserves, or of the ring
+  end-stands : (E k : ℕ) → E ≡ ringTicks S (take k rs) → beginsAt plan (E % ringLength S rs) ≡ standAt S rs (record { 0 = E % ringLength S rs })
+  end-stands E k e =
       ⊎-elim
-      (λ (l : 1 ≤ idlePositions S rs).
-      ap (standAt S rs) (phase-moved p (ringTicks S rs) x (sym end) (omega arith)) ∙
-      stand-idle S rs (record { 0 = ringTicks S rs }) (le-refl (ringTicks S rs)) ∙
-      sym (last-idle l))
-      (λ (l : idlePositions S rs < 1).
-      let e : phase S r p x .0 + 1 ≡ r * S = omega (arith, ring-holds S rs (res .slot-some)) in
-      ap (standAt S rs) (phase-turn p x e) ∙ at-zero h .1 ∙ sym (last-first l))
-      (le-or-lt 1 (idlePositions S rs))
+      (λ (l : ringLength S rs ≤ E).
+      let turned : E ≡ ringLength S rs = omega (arith, ring-part S rs k, ring-holds S rs (res .slot-some)) in
+      begins-stands (E % ringLength S rs) 0 (ap (λ (n : ℕ). n % ringLength S rs) turned ∙ mod-self (ringLength S rs) ∙ sym (ring-nil S)))
+      (λ (l : E < ringLength S rs). begins-stands (E % ringLength S rs) k (mod-eq-of-lt l ∙ e))
+      (le-or-lt (ringLength S rs) E)
 
-  -- where a server's reserve ends, what stands next follows it
-  after-reserve : (p i : ℕ) (x : Tick) → 1 ≤ r → Covers S rs (suc i) (phase S r p x .0) →
-      startOf S rs (suc i) + reserveOf rs (suc i) ≡ phase S r p x .0 + 1 →
-      standAt S rs (phase S r p (later x 1)) ≡ following S rs (suc i)
-  after-reserve p i x h c e =
-      let E : ℕ = ringTicks S (take (suc i) rs) in
-      let end : E ≡ phase S r p x .0 + 1 = ring-more S rs i (covers-there S rs i (phase S r p x .0) c) (c .ring) ∙ e in
-      ⊎-elim
-      (λ (l : ringTicks S rs ≤ E).
-      at-last p x h (omega (arith, ring-part S rs (suc i))) ∙ sym (none-after (suc i) l))
-      (λ (l : E < ringTicks S rs).
-      let n = next-stands (suc i) l in
-      ap (standAt S rs) (phase-moved p E x end (omega (arith, ring-holds S rs (res .slot-some)))) ∙ n .1 ∙ sym (following-next (suc i) (n .0)))
-      (le-or-lt (ringTicks S rs) E)
+  ends-idle : beginsAt plan (endsAt plan 0) ≡ standAt S rs (record { 0 = 0 })
+  ends-idle = begins-stands 0 0 (sym (ring-nil S))
 
-  -- and so at the end of the idle stretch
-  after-idle : (p : ℕ) (x : Tick) → 1 ≤ r → phase S r p x .0 + 1 ≡ r * S → standAt S rs (phase S r p (later x 1)) ≡ following S rs 0
-  after-idle p x h e =
-      let z = at-zero h in
-      ap (standAt S rs) (phase-turn p x e) ∙ z .1 ∙ sym (following-next 0 (z .0))
+  ends-server : (i : ℕ) → RingServer S rs (suc i) → endsAt plan (suc i) ≡ (startOf S rs (suc i) + reserveOf rs (suc i)) % ringLength S rs
+  ends-server i s = rw (prints .start (suc i) s, prints .reserve (suc i) (s .some) (s .there), prints .ring, prints .slot)
 
   -- at the last tick of a stretch
   after-stretch : (p : ℕ) (x : Tick) → 1 ≤ r → standAt S rs (phase S r p x) .left < 2 →
-      standAt S rs (phase S r p (later x 1)) ≡ following S rs (standAt S rs (phase S r p x) .server)
+      beginsAt plan (endsAt plan (standAt S rs (phase S r p x) .server)) ≡ standAt S rs (phase S r p (later x 1))
   after-stretch p x h l =
       let b = phase-below S r p x (res .slot-some) h in
       ⊎-elim
       (λ (k : ringTicks S rs ≤ phase S r p x .0).
       let e = stand-idle S rs (phase S r p x) k in
       let el : standAt S rs (phase S r p x) .left ≡ r * S - phase S r p x .0 = ap (λ (s : Stand). s .left) e in
-      after-idle p x h (omega arith) ∙ ap (λ (s : Stand). following S rs (s .server)) (sym e))
+      let end : phase S r p x .0 + 1 ≡ ringLength S rs = omega arith in
+      ap (λ (s : Stand). beginsAt plan (endsAt plan (s .server))) e ∙ ends-idle ∙
+      sym (ap (standAt S rs) (phase-next p x) ∙ rw (end, mod-self (ringLength S rs))))
       (λ (f : (j : ℕ) × Covers S rs (suc j) (phase S r p x .0)).
+      let j : ℕ = f .0 in
       let c = f .1 in
-      let e = stand-covered S rs (phase S r p x) (f .0) c in
-      let el : standAt S rs (phase S r p x) .left ≡ startOf S rs (suc (f .0)) + reserveOf rs (suc (f .0)) - phase S r p x .0 = ap (λ (s : Stand). s .left) e in
-      after-reserve p (f .0) x h c (omega (arith, c .before)) ∙ ap (λ (s : Stand). following S rs (s .server)) (sym e))
+      let there = covers-there S rs j (phase S r p x .0) c in
+      let E : ℕ = startOf S rs (suc j) + reserveOf rs (suc j) in
+      let e = stand-covered S rs (phase S r p x) j c in
+      let el : standAt S rs (phase S r p x) .left ≡ E - phase S r p x .0 = ap (λ (s : Stand). s .left) e in
+      let end : phase S r p x .0 + 1 ≡ E = omega (arith, c .before) in
+      ap (λ (s : Stand). beginsAt plan (endsAt plan (s .server))) e ∙
+      ap (beginsAt plan) (ends-server j (record { some = omega arith; there = there; ring = c .ring })) ∙
+      end-stands E (suc j) (sym (ring-more S rs j there (c .ring))) ∙
+      sym (ap (standAt S rs) (phase-next p x) ∙ rw end))
       (stand-cases S rs (phase S r p x .0))
 
   -- ---- a tick of any processor
 
-  next-less : (p : ℕ) (s : Stand) → 2 ≤ s .left → nextTick S rs p s ≡ record { server = s .server; left = s .left - 1 }
+  next-less : (p : ℕ) (s : Stand) → 2 ≤ s .left → nextTick plan p s ≡ record { server = s .server; left = s .left - 1 }
   unfolding nextTick
   next-less p s h = rw (le-leb 2 (s .left) h)
 
-  next-ring : (p : ℕ) (s : Stand) → s .left < 2 → p ≤ r → nextTick S rs p s ≡ following S rs (s .server)
+  next-ring : (p : ℕ) (s : Stand) → s .left < 2 → p ≤ r → nextTick plan p s ≡ beginsAt plan (endsAt plan (s .server))
   unfolding nextTick
-  next-ring p s h l = rw (lt-leb 2 (s .left) h, le-leb p r l)
+  next-ring p s h l = rw (lt-leb 2 (s .left) h, le-leb p (plan .ring) (omega (arith, prints .ring)))
 
-  next-whole : (p : ℕ) (s : Stand) → s .left < 2 → r < p → nextTick S rs p s ≡ record { server = s .server; left = S }
+  next-whole : (p : ℕ) (s : Stand) → s .left < 2 → r < p → nextTick plan p s ≡ record { server = s .server; left = S }
   unfolding nextTick
-  next-whole p s h l = rw (lt-leb 2 (s .left) h, lt-leb p r l)
+  next-whole p s h l = rw (lt-leb 2 (s .left) h, lt-leb p (plan .ring) (omega (arith, prints .ring)), prints .slot)
 
   module _ (p : ℕ) (some : 1 ≤ p) where
     -- a slot begins again
@@ -212,7 +216,7 @@ module _ (S : ℕ) (rs : List ℕ) (res : Slotted S rs) where
         let m : (x .0 + 1) % S ≡ 0 = sym (mod-add-mod (x .0) S 1) ∙ ap (λ (n : ℕ). n % S) f ∙ mod-self S in
         who-whole S rs p (later x 1) l ∙ rw (m, es, sub-zero S)
 
-    tick-on : (x : Tick) → nextTick S rs p (whoOf S rs p x) ≡ whoOf S rs p (later x 1)
+    tick-on : (x : Tick) → nextTick plan p (whoOf S rs p x) ≡ whoOf S rs p (later x 1)
     tick-on x =
         ⊎-elim
         (λ (k : 2 ≤ whoOf S rs p x .left).
@@ -223,15 +227,21 @@ module _ (S : ℕ) (rs : List ℕ) (res : Slotted S rs) where
         (λ (l : p ≤ r).
         let e = who-ring S rs p x l in
         let k′ : standAt S rs (phase S r p x) .left < 2 = rw e at k in
-        next-ring p (whoOf S rs p x) k l ∙ ap (λ (s : Stand). following S rs (s .server)) e ∙
-        sym (after-stretch p x (le-trans some l) k′) ∙
+        next-ring p (whoOf S rs p x) k l ∙ ap (λ (s : Stand). beginsAt plan (endsAt plan (s .server))) e ∙
+        after-stretch p x (le-trans some l) k′ ∙
         sym (who-ring S rs p (later x 1) l))
         (λ (l : r < p). next-whole p (whoOf S rs p x) k l ∙ sym (slot-again x l k))
         (le-or-lt p r))
         (le-or-lt 2 (whoOf S rs p x .left))
 
-    pub unrolled-who : (x : ℕ) → unrolled S rs p x ≡ whoOf S rs p (record { 0 = x })
+    first-printed : p ≤ processorsOf S rs → unrolled plan p 0 ≡ firstReserve S rs p
     unfolding unrolled
-    unrolled-who zero = first-who S rs p (res .slot-some) some
-    unrolled-who (suc x) =
-        ap (nextTick S rs p) (unrolled-who x) ∙ tick-on (record { 0 = x }) ∙ ap (λ (k : ℕ). whoOf S rs p (record { 0 = k })) (add-one x)
+    first-printed there = rw (prints .first p some there, prints .duration p some there)
+
+    pub unrolled-who : p ≤ plan .ring + plan .whole → (x : ℕ) → unrolled plan p x ≡ whoOf S rs p (record { 0 = x })
+    unfolding unrolled
+    unrolled-who there zero =
+        first-printed (omega (arith, prints .ring, prints .whole)) ∙ first-who S rs p (res .slot-some) some
+    unrolled-who there (suc x) =
+        ap (nextTick plan p) (unrolled-who there x) ∙ tick-on (record { 0 = x }) ∙
+        ap (λ (k : ℕ). whoOf S rs p (record { 0 = k })) (add-one x)

@@ -15,7 +15,7 @@ use Rattle.ring.specs.Cover.{covers, covererUpTo}
 use Rattle.ring.specs.Who.{whoOf, firstReserve}
 use Rattle.ring_claims.specs.Serves.{RingServer, WholeProcessor, Serves, OnBoard, Usable, sinceStart}
 use Rattle.ring_claims.specs.Held.{later, held}
-use Rattle.ring_claims.specs.Rota.{unrolled}
+use Rattle.ring_claims.specs.Rota.{Printed, PrintsRing, unrolled}
 
 -- ---- rule 3: reserves stand one after another
 
@@ -111,11 +111,24 @@ abbrev pub WhoStays : Type 0
 WhoStays =
     (S : ℕ) (reserves : List ℕ) (p : ℕ) (x : Tick) → 1 ≤ S → 1 ≤ p → p ≤ processorsOf S reserves → Stays S reserves p x
 
--- the printed rota, unrolled from each processor's first reserve, is the answer at every tick
+-- on a ring processor the position and the ticks left come to the end of the reserve, or, while it is idle, to the ring's end;
+-- on a whole processor S − x mod S are left
+pub record Left (S : ℕ) (reserves : List ℕ) (p : ℕ) (x : Tick) : Type 0 where
+  pub reserve : p ≤ ringProcessors S reserves → (q : ℕ) → 1 ≤ q → whoOf S reserves p x .server ≡ q →
+      phase S (ringProcessors S reserves) p x .0 + whoOf S reserves p x .left ≡ startOf S reserves q + reserveOf reserves q
+  pub idle : p ≤ ringProcessors S reserves → whoOf S reserves p x .server ≡ 0 →
+      phase S (ringProcessors S reserves) p x .0 + whoOf S reserves p x .left ≡ ringLength S reserves
+  pub whole : ringProcessors S reserves < p → whoOf S reserves p x .left ≡ S - x .0 % S
+
+abbrev pub TicksLeft : Type 0
+TicksLeft =
+    (S : ℕ) (reserves : List ℕ) (p : ℕ) (x : Tick) → 1 ≤ S → 1 ≤ p → p ≤ processorsOf S reserves → Left S reserves p x
+
+-- the printed plan, unrolled from each processor's first server and duration, is the answer at every tick of all time
 abbrev pub RotaUnrolled : Type 0
 RotaUnrolled =
-    (S : ℕ) (reserves : List ℕ) (p x : ℕ) → Slotted S reserves → 1 ≤ p → p ≤ processorsOf S reserves →
-    unrolled S reserves p x ≡ whoOf S reserves p (record { 0 = x })
+    (plan : Printed) (S : ℕ) (reserves : List ℕ) (p x : ℕ) → Slotted S reserves → PrintsRing S reserves plan → 1 ≤ p →
+    p ≤ plan .ring + plan .whole → unrolled plan p x ≡ whoOf S reserves p (record { 0 = x })
 
 -- ---- a server's ticks
 

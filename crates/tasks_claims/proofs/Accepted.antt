@@ -13,11 +13,11 @@ use Rattle.tasks.specs.declared.set.TaskSet.{TaskSet}
 use Rattle.tasks.specs.Set.{mostTasks, setOf, members}
 use Rattle.taskfile.specs.File.{past, empty, tasksAmong, fileTasks, headerAt, lineOutcome}
 use Rattle.taskread.specs.Read.{readOf, fileSet, answer}
-use Rattle.tasks_claims.specs.Claims.{Shaped, sizeOf, tasksIn, AllClear, AcceptedFile, ReadAccepted}
+use Rattle.tasks_claims.specs.Claims.{opening, linesTo, sizeOf, Shaped, tasksIn, AllClear, AcceptedFile, ReadAccepted}
 use Rattle.refusals.proofs.FirstLaws.{done-refused}
 use Rattle.taskfile.proofs.Past.{nothing-left, after-shorter}
 use Rattle.taskfile.proofs.Lines.{clear-header, clear-task, clear-room}
-use Rattle.tasks_claims.proofs.ShapedLaws.{shaped-more, past-shaped, shaped-count, shaped-all}
+use Rattle.tasks_claims.proofs.ShapedLaws.{lines-some, shaped-none, shaped-more, past-shaped, shaped-count, shaped-all}
 use Rattle.tasks.proofs.SetLaws.{members-set}
 use Rattle.taskread.proofs.Reading.{no-task}
 use Rattle.tasks_claims.proofs.Exactly.{read-done, read-outcome, all-clear}
@@ -26,24 +26,25 @@ use Rattle.tasks_claims.proofs.Exactly.{read-done, read-outcome, all-cl
 record Whole (text : List ℕ) (n : ℕ) : Type 0 where
   shaped : Shaped text n
   most : n ≤ mostTasks
-  ended : past (suc n) text ≡ []
+  ended : past (linesTo text n) text ≡ []
 
 module _ (text : List ℕ) (clear : AllClear text) where
   -- the next line is a task, or there is none
-  next : (n : ℕ) → Shaped text n → n ≤ mostTasks → empty (past (suc n) text) ≡ false → Shaped text (suc n) × (suc n ≤ mostTasks)
+  next : (n : ℕ) → Shaped text n → n ≤ mostTasks → empty (past (linesTo text n) text) ≡ false → Shaped text (suc n) × (suc n ≤ mostTasks)
   next n s most there =
-      let line : lineOutcome text (suc (suc n)) ≡ Done = clear (suc (suc n)) (omega arith) in
-      let task = clear-task text (suc n) (omega arith) there line in
-      let room : length (tasksAmong text (suc n)) ≡ mostTasks → ⊥ = clear-room text (suc n) (omega arith) task line in
+      let k = linesTo text n in
+      let line : lineOutcome text (suc k) ≡ Done = clear (suc k) (omega arith) in
+      let task = clear-task text k (lines-some text n) there line in
+      let room : length (tasksAmong text k) ≡ mostTasks → ⊥ = clear-room text k (lines-some text n) task line in
       (shaped-more text n s task, omega (arith, most, room, shaped-count text n s))
 
   -- taking tasks comes to an end
-  taking : (fuel n : ℕ) → Shaped text n → n ≤ mostTasks → length (past (suc n) text) ≤ fuel → (m : ℕ) × Whole text m
+  taking : (fuel n : ℕ) → Shaped text n → n ≤ mostTasks → length (past (linesTo text n) text) ≤ fuel → (m : ℕ) × Whole text m
   unfolding past
-  taking zero n s most short = (n, record { shaped = s; most = most; ended = nothing-left (past (suc n) text) short })
-  taking (suc fuel) n s most short = at (past (suc n) text) refl (taking fuel (suc n))
+  taking zero n s most short = (n, record { shaped = s; most = most; ended = nothing-left (past (linesTo text n) text) short })
+  taking (suc fuel) n s most short = at (past (linesTo text n) text) refl (taking fuel (suc n))
     where
-      at : (rest : List ℕ) → past (suc n) text ≡ rest → (Shaped text (suc n) → suc n ≤ mostTasks → length (after (past (suc n) text)) ≤ fuel → (m : ℕ) × Whole text m) → (m : ℕ) × Whole text m
+      at : (rest : List ℕ) → past (linesTo text n) text ≡ rest → (Shaped text (suc n) → suc n ≤ mostTasks → length (after (past (linesTo text n) text)) ≤ fuel → (m : ℕ) × Whole text m) → (m : ℕ) × Whole text m
       at [] e go = (n, record { shaped = s; most = most; ended = e })
       at (b ∷ bs) e go =
           let more : Shaped text (suc n) × (suc n ≤ mostTasks) = next n s most (ap empty e) in
@@ -51,7 +52,7 @@ module _ (text : List ℕ) (clear : AllClear text) where
 
   whole : (m : ℕ) × Whole text m
   whole =
-      taking (length (past 1 text)) 0 (record { header = clear-header text (clear 1 (omega arith)); tasks = λ j lt. absurd (omega arith) }) (omega arith) (omega arith)
+      taking (length (past (opening text) text)) 0 (shaped-none text (clear-header text (clear 1 (omega arith)))) (omega arith) (omega arith)
 
 -- the answer of an accepted read holds the file's set
 accepted-set : (text : List ℕ) → readOf text .outcome ≡ Done → readOf text .set ≡ fileSet text
@@ -62,21 +63,21 @@ some-task : (text : List ℕ) (m : ℕ) → AllClear text → Whole text m → m
 some-task text m clear w none =
     done-refused
     (sym (clear 2 (omega arith))
-    ∙ no-task text (subst (λ (k : ℕ). past (suc k) text ≡ []) none (w .ended)) (shaped-all text m (w .shaped) (w .ended) ∙ none))
+    ∙ no-task text (subst (λ (k : ℕ). past (linesTo text k) text ≡ []) none (w .ended)) (shaped-all text m (w .shaped) (w .ended) ∙ none))
 
 accepted : (text : List ℕ) (m : ℕ) → AllClear text → Whole text m → readOf text .set ≡ fileSet text → AcceptedFile text
 unfolding fileSet setOf widthsOf sum
 accepted text m clear w holds =
     let all : tasksIn text ≡ m = shaped-all text m (w .shaped) (w .ended) in
     let some : m ≡ 0 → ⊥ = some-task text m clear w in
-    let place : sizeOf m ≤ length text = past-shaped text m (w .shaped) .1 in
-    let over : length (drop (sizeOf m) text) ≡ 0 = ap length (sym (past-shaped text m (w .shaped) .0) ∙ w .ended) in
+    let place : sizeOf text m ≤ length text = past-shaped text m (w .shaped) .1 in
+    let over : length (drop (sizeOf text m) text) ≡ 0 = ap length (sym (past-shaped text m (w .shaped) .0) ∙ w .ended) in
     record {
       any = omega (arith, some, all);
       most = omega (arith, w .most, all);
       shaped = subst (λ (k : ℕ). Shaped text k) (sym all) (w .shaped);
-      bytes = omega (arith, all, place, over, length-drop (sizeOf m) text);
-      ended = subst (λ (k : ℕ). past (suc k) text ≡ []) (sym all) (w .ended);
+      bytes = subst (λ (k : ℕ). length text ≡ sizeOf text k) (sym all) (omega (arith, place, over, length-drop (sizeOf text m) text));
+      ended = subst (λ (k : ℕ). past (linesTo text k) text ≡ []) (sym all) (w .ended);
       header = ap (λ (s : TaskSet). s .header) holds;
       count = ap (λ (s : TaskSet). s .count) holds;
       tasks = ap members holds ∙ members-set (headerAt text) (fileTasks text);

@@ -23,12 +23,12 @@ use Rattle.tasks.specs.Set.{mostTasks, hasId}
 use Rattle.tasks.specs.Search.{some}
 use Rattle.taskfile.specs.File.{past, empty, lineOutcome, taskAt, tasksAmong}
 use Rattle.taskread.specs.Read.{readOf, furthest}
-use Rattle.tasks_claims.specs.Claims.{Shaped, sizeOf, ReadLooksAt}
+use Rattle.tasks_claims.specs.Claims.{Opened, openingBytes, linesTo, sizeOf, Shaped, ReadLooksAt}
 use Rattle.taskfile.proofs.AmongLaws.{among-task}
 use Rattle.taskread.proofs.Reading.{reads-refused}
 use Rattle.taskfile.proofs.Lines.{neither, line-other, first-header, first-task, first-other, later-header, later-task, clear-task, clear-room, clear-header}
 use Rattle.refusals.proofs.FirstLaws.{till-suc}
-use Rattle.tasks_claims.proofs.ShapedLaws.{past-shaped, shaped-more, shaped-less, shaped-count, among-header}
+use Rattle.tasks_claims.proofs.ShapedLaws.{among-opened, lines-some, size-is, shaped-none, shaped-more, shaped-less, past-shaped, shaped-count}
 use Rattle.taskfile.proofs.Standing.{byte-there}
 
 -- a part of the front of a text is the front of a part
@@ -59,110 +59,113 @@ module _ (N : ℕ) (text : List ℕ) (far : furthest ≤ N) (long : N < length t
   abbrev cut : List ℕ
   cut = take N text
 
-  -- the front's first lines are those of the text
-  rest-cut : (m : ℕ) → sizeOf m ≤ N → Shaped text m → Shaped cut m → past (suc m) cut ≡ take (N - sizeOf m) (past (suc m) text)
+  -- the front is opened as the text is
+  opened-cut : openingBytes text ≤ N → Opened text → Opened cut
+  opened-cut fits header = formed-prefix Frame.Header N text fits ∙ header
+
+  -- its first lines are those of the text
+  rest-cut : (m : ℕ) → sizeOf text m ≤ N → Shaped text m → Shaped cut m → past (linesTo text m) cut ≡ take (N - sizeOf text m) (past (linesTo text m) text)
   unfolding widthsOf sum
   rest-cut m fits s c =
-      let split : sizeOf m + (N - sizeOf m) ≡ N = omega arith in
+      let split : sizeOf text m + (N - sizeOf text m) ≡ N = omega arith in
       past-shaped cut m c .0
-      ∙ (ap (λ (n : ℕ). drop (sizeOf m) (take n text)) (sym split)
-      ∙ (drop-take (sizeOf m) (N - sizeOf m) text (omega arith)
-      ∙ ap (take (N - sizeOf m)) (sym (past-shaped text m s .0))))
+      ∙ (ap (λ (n : ℕ). drop (sizeOf text m) (take n text)) (sym split)
+      ∙ (drop-take (sizeOf text m) (N - sizeOf text m) text (omega arith)
+      ∙ ap (take (N - sizeOf text m)) (sym (past-shaped text m s .0))))
 
-  shaped-cut : (m : ℕ) → sizeOf m ≤ N → Shaped text m → Shaped cut m
+  shaped-cut : (m : ℕ) → sizeOf text m ≤ N → Shaped text m → Shaped cut m
   unfolding widthsOf sum
-  shaped-cut zero fits s =
-      record { header = formed-prefix Frame.Header N text (omega arith) ∙ s .header; tasks = λ j lt. absurd (omega arith) }
+  shaped-cut zero fits s = shaped-none cut (opened-cut fits (s .opened))
   shaped-cut (suc m) fits s =
       let fewer : Shaped text m = shaped-less text m (suc m) (omega arith) s in
       let c : Shaped cut m = shaped-cut m (omega arith) fewer in
       shaped-more cut m c
       (ap (formed Frame.Task) (rest-cut m (omega arith) fewer c)
-      ∙ (formed-prefix Frame.Task (N - sizeOf m) (past (suc m) text) (omega arith) ∙ s .tasks m (omega arith)))
+      ∙ (formed-prefix Frame.Task (N - sizeOf text m) (past (linesTo text m) text) (omega arith) ∙ s .tasks m (omega arith)))
 
-  tasks-cut : (m : ℕ) → sizeOf m ≤ N → Shaped text m → tasksAmong cut (suc m) ≡ tasksAmong text (suc m)
+  tasks-cut : (m : ℕ) → sizeOf text m ≤ N → Shaped text m → tasksAmong cut (linesTo text m) ≡ tasksAmong text (linesTo text m)
   unfolding widthsOf sum
-  tasks-cut zero fits s = among-header cut (shaped-cut zero fits s .header) ∙ sym (among-header text (s .header))
+  tasks-cut zero fits s = among-opened cut (opened-cut fits (s .opened)) ∙ sym (among-opened text (s .opened))
   tasks-cut (suc m) fits s =
       let fewer : Shaped text m = shaped-less text m (suc m) (omega arith) s in
       let c : Shaped cut m = shaped-cut m (omega arith) fewer in
-      among-task cut (suc m) (shaped-cut (suc m) fits s .tasks m (omega arith))
+      among-task cut (linesTo text m) (shaped-cut (suc m) fits s .tasks m (omega arith))
       ∙ ap₂ (λ (ts : List Task) (t : Task). ts ++ (t ∷ [])) (tasks-cut m (omega arith) fewer)
-      (task-same (past (suc m) cut) (past (suc m) text)
+      (task-same (past (linesTo text m) cut) (past (linesTo text m) text)
       (ap line (rest-cut m (omega arith) fewer c)
-      ∙ line-prefix Frame.Task (N - sizeOf m) (past (suc m) text) (omega arith) (s .tasks m (omega arith))))
-      ∙ sym (among-task text (suc m) (s .tasks m (omega arith)))
+      ∙ line-prefix Frame.Task (N - sizeOf text m) (past (linesTo text m) text) (omega arith) (s .tasks m (omega arith))))
+      ∙ sym (among-task text (linesTo text m) (s .tasks m (omega arith)))
 
   -- a line after at most 64 tasks is there, and is of the same kind in the front
-  there : (m : ℕ) → m ≤ mostTasks → Shaped text m → empty (past (suc m) text) ≡ false
+  there : (m : ℕ) → m ≤ mostTasks → Shaped text m → empty (past (linesTo text m) text) ≡ false
   unfolding widthsOf sum
-  there m most s = ap empty (past-shaped text m s .0) ∙ byte-there (sizeOf m) text (omega arith)
+  there m most s = ap empty (past-shaped text m s .0) ∙ byte-there (sizeOf text m) text (omega (arith, size-is text m))
 
   module _ (m : ℕ) (most : m ≤ mostTasks) (s : Shaped text m) where
-    fits : sizeOf m + 31 ≤ N
+    fits : sizeOf text m + 31 ≤ N
     unfolding widthsOf sum
-    fits = omega arith
+    fits = omega (arith, size-is text m)
 
     shaped : Shaped cut m
     shaped = shaped-cut m (omega (arith, fits)) s
 
-    same-rest : past (suc m) cut ≡ take (N - sizeOf m) (past (suc m) text)
+    same-rest : past (linesTo text m) cut ≡ take (N - sizeOf text m) (past (linesTo text m) text)
     same-rest = rest-cut m (omega (arith, fits)) s shaped
 
-    there-cut : empty (past (suc m) cut) ≡ false
-    there-cut = ap empty same-rest ∙ there-take (N - sizeOf m) (past (suc m) text) (omega (arith, fits)) (there m most s)
+    there-cut : empty (past (linesTo text m) cut) ≡ false
+    there-cut = ap empty same-rest ∙ there-take (N - sizeOf text m) (past (linesTo text m) text) (omega (arith, fits)) (there m most s)
 
-    kind-cut : (frame : Frame) → lengthOf frame + 1 ≤ 31 → formed frame (past (suc m) cut) ≡ formed frame (past (suc m) text)
-    kind-cut frame short = ap (formed frame) same-rest ∙ formed-prefix frame (N - sizeOf m) (past (suc m) text) (omega (arith, fits, short))
+    kind-cut : (frame : Frame) → lengthOf frame + 1 ≤ 31 → formed frame (past (linesTo text m) cut) ≡ formed frame (past (linesTo text m) text)
+    kind-cut frame short = ap (formed frame) same-rest ∙ formed-prefix frame (N - sizeOf text m) (past (linesTo text m) text) (omega (arith, fits, short))
 
-    header-cut : formed Frame.Header (past (suc m) cut) ≡ formed Frame.Header (past (suc m) text)
+    header-cut : formed Frame.Header (past (linesTo text m) cut) ≡ formed Frame.Header (past (linesTo text m) text)
     unfolding widthsOf sum
     header-cut = kind-cut Frame.Header (omega arith)
 
-    task-cut : formed Frame.Task (past (suc m) cut) ≡ formed Frame.Task (past (suc m) text)
+    task-cut : formed Frame.Task (past (linesTo text m) cut) ≡ formed Frame.Task (past (linesTo text m) text)
     unfolding widthsOf sum
     task-cut = kind-cut Frame.Task (omega arith)
 
-    figures-cut : formed Frame.Task (past (suc m) text) ≡ true → taskAt (past (suc m) cut) ≡ taskAt (past (suc m) text)
+    figures-cut : formed Frame.Task (past (linesTo text m) text) ≡ true → taskAt (past (linesTo text m) cut) ≡ taskAt (past (linesTo text m) text)
     unfolding widthsOf sum
     figures-cut task =
-        task-same (past (suc m) cut) (past (suc m) text)
-        (ap line same-rest ∙ line-prefix Frame.Task (N - sizeOf m) (past (suc m) text) (omega (arith, fits)) task)
+        task-same (past (linesTo text m) cut) (past (linesTo text m) text)
+        (ap line same-rest ∙ line-prefix Frame.Task (N - sizeOf text m) (past (linesTo text m) text) (omega (arith, fits)) task)
 
     -- the line is answered the same
-    same-line : lineOutcome cut (suc (suc m)) ≡ lineOutcome text (suc (suc m))
-    same-line = kinds (formed Frame.Header (past (suc m) text)) (formed Frame.Task (past (suc m) text)) refl refl
+    same-line : lineOutcome cut (suc (linesTo text m)) ≡ lineOutcome text (suc (linesTo text m))
+    same-line = kinds (formed Frame.Header (past (linesTo text m) text)) (formed Frame.Task (past (linesTo text m) text)) refl refl
       where
-        kinds : (h t : Bool) → formed Frame.Header (past (suc m) text) ≡ h → formed Frame.Task (past (suc m) text) ≡ t → lineOutcome cut (suc (suc m)) ≡ lineOutcome text (suc (suc m))
+        kinds : (h t : Bool) → formed Frame.Header (past (linesTo text m) text) ≡ h → formed Frame.Task (past (linesTo text m) text) ≡ t → lineOutcome cut (suc (linesTo text m)) ≡ lineOutcome text (suc (linesTo text m))
         kinds true t eh et =
-            later-header cut (suc m) (omega arith) (header-cut ∙ eh) ∙ sym (later-header text (suc m) (omega arith) eh)
+            later-header cut (linesTo text m) (lines-some text m) (header-cut ∙ eh) ∙ sym (later-header text (linesTo text m) (lines-some text m) eh)
         kinds false true eh et =
-            later-task cut (suc m) (omega arith) (task-cut ∙ et)
-            ∙ (ap₂ (λ (u : Task) (ts : List Task). firstOf (when (eqb (length ts) mostTasks) (Count (suc (suc m)))) (when (some (hasId (u .id)) ts) (Twice (suc (suc m))))) (figures-cut et) (tasks-cut m (omega (arith, fits)) s)
-            ∙ sym (later-task text (suc m) (omega arith) et))
+            later-task cut (linesTo text m) (lines-some text m) (task-cut ∙ et)
+            ∙ (ap₂ (λ (u : Task) (ts : List Task). firstOf (when (eqb (length ts) mostTasks) (Count (suc (linesTo text m)))) (when (some (hasId (u .id)) ts) (Twice (suc (linesTo text m))))) (figures-cut et) (tasks-cut m (omega (arith, fits)) s)
+            ∙ sym (later-task text (linesTo text m) (lines-some text m) et))
         kinds false false eh et =
-            line-other cut (suc m) there-cut (neither (past (suc m) cut) (header-cut ∙ eh) (task-cut ∙ et))
-            ∙ sym (line-other text (suc m) (there m most s) (neither (past (suc m) text) eh et))
+            line-other cut (linesTo text m) there-cut (neither (past (linesTo text m) cut) (header-cut ∙ eh) (task-cut ∙ et))
+            ∙ sym (line-other text (linesTo text m) (there m most s) (neither (past (linesTo text m) text) eh et))
 
   -- both are refused alike
   both-refused : (n : ℕ) (r : Refusal) → till (lineOutcome cut) n ≡ Done → till (lineOutcome text) n ≡ Done → lineOutcome cut (suc n) ≡ Refused r → lineOutcome text (suc n) ≡ Refused r → readOf cut ≡ readOf text
   both-refused n r c t ec et = reads-refused cut n r c ec ∙ sym (reads-refused text n r t et)
 
   -- a line is refused in both alike, or taken in both
-  step : (m : ℕ) → m ≤ mostTasks → Shaped text m → till (lineOutcome cut) (suc m) ≡ Done → till (lineOutcome text) (suc m) ≡ Done → (Shaped text (suc m) → suc m ≤ mostTasks → till (lineOutcome cut) (suc (suc m)) ≡ Done → till (lineOutcome text) (suc (suc m)) ≡ Done → readOf cut ≡ readOf text) → readOf cut ≡ readOf text
-  step m most s c t taken = at (lineOutcome text (suc (suc m))) refl
+  step : (m : ℕ) → m ≤ mostTasks → Shaped text m → till (lineOutcome cut) (linesTo text m) ≡ Done → till (lineOutcome text) (linesTo text m) ≡ Done → (Shaped text (suc m) → suc m ≤ mostTasks → till (lineOutcome cut) (suc (linesTo text m)) ≡ Done → till (lineOutcome text) (suc (linesTo text m)) ≡ Done → readOf cut ≡ readOf text) → readOf cut ≡ readOf text
+  step m most s c t taken = at (lineOutcome text (suc (linesTo text m))) refl
     where
-      at : (o : Outcome) → lineOutcome text (suc (suc m)) ≡ o → readOf cut ≡ readOf text
-      at (Refused r) e = both-refused (suc m) r c t (same-line m most s ∙ e) e
+      at : (o : Outcome) → lineOutcome text (suc (linesTo text m)) ≡ o → readOf cut ≡ readOf text
+      at (Refused r) e = both-refused (linesTo text m) r c t (same-line m most s ∙ e) e
       at Done e =
-          let task = clear-task text (suc m) (omega arith) (there m most s) e in
-          let room : length (tasksAmong text (suc m)) ≡ mostTasks → ⊥ = clear-room text (suc m) (omega arith) task e in
+          let task = clear-task text (linesTo text m) (lines-some text m) (there m most s) e in
+          let room : length (tasksAmong text (linesTo text m)) ≡ mostTasks → ⊥ = clear-room text (linesTo text m) (lines-some text m) task e in
           taken (shaped-more text m s task) (omega (arith, most, room, shaped-count text m s))
-          (till-suc (lineOutcome cut) (suc m) ∙ rw (c, same-line m most s, e))
-          (till-suc (lineOutcome text) (suc m) ∙ rw (t, e))
+          (till-suc (lineOutcome cut) (linesTo text m) ∙ rw (c, same-line m most s, e))
+          (till-suc (lineOutcome text) (linesTo text m) ∙ rw (t, e))
 
   -- in a text as long as that a line is refused, and the front's answer is the text's
-  going : (fuel m : ℕ) → mostTasks ≤ m + fuel → m ≤ mostTasks → Shaped text m → till (lineOutcome cut) (suc m) ≡ Done → till (lineOutcome text) (suc m) ≡ Done → readOf cut ≡ readOf text
+  going : (fuel m : ℕ) → mostTasks ≤ m + fuel → m ≤ mostTasks → Shaped text m → till (lineOutcome cut) (linesTo text m) ≡ Done → till (lineOutcome text) (linesTo text m) ≡ Done → readOf cut ≡ readOf text
   going zero m enough most s c t = step m most s c t (λ more le c′ t′. absurd (omega arith))
   going (suc fuel) m enough most s c t = step m most s c t (λ more le c′ t′. going fuel (suc m) (omega arith) le more c′ t′)
 
@@ -197,7 +200,7 @@ module _ (N : ℕ) (text : List ℕ) (far : furthest ≤ N) (long : N < length t
       at (Refused r) e = both-refused 0 r refl refl (same-first ∙ e) e
       at Done e =
           going mostTasks 0 (omega arith) (omega arith)
-          (record { header = clear-header text e; tasks = λ j lt. absurd (omega arith) })
+          (shaped-none text (clear-header text e))
           (same-first ∙ e) e
 
 -- reading looks no further than that

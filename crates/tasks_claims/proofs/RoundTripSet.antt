@@ -34,7 +34,7 @@ use Rattle.taskread.specs.Read.{fileSet, answer}
 use Rattle.tasks.specs.Values.{headerValues, taskValues}
 use Rattle.tasktext.specs.Text.{taskLines, textOf}
 use Rattle.taskwrite.specs.Write.{writerAsks}
-use Rattle.tasks_claims.specs.Claims.{Shaped, Whole, ReadWritten, ReadWrittenSame}
+use Rattle.tasks_claims.specs.Claims.{linesTo, Shaped, Whole, ReadWritten, ReadWrittenSame}
 use Rattle.taskask.proofs.Carried.{count-within, ask-count, ask-twice, ask-header, ask-tasks, header-fits, task-fits}
 use Rattle.tasks.proofs.SetLaws.{members-length, members-set}
 use Rattle.tasks.proofs.Firsts.{at-none}
@@ -44,8 +44,8 @@ use Rattle.taskask.proofs.TwiceLaws.{twice-before}
 use Rattle.taskfile.proofs.AmongLaws.{among-task, among-all}
 use Rattle.taskfile.proofs.Lines.{clear-past, first-header, later-task}
 use Rattle.taskread.proofs.Reading.{reads-clear}
-use Rattle.refusals.proofs.FirstLaws.{done-till}
-use Rattle.tasks_claims.proofs.ShapedLaws.{shaped-less, shaped-count, among-header}
+use Rattle.refusals.proofs.FirstLaws.{till-suc}
+use Rattle.tasks_claims.proofs.ShapedLaws.{among-opened, lines-some, shaped-less, shaped-count}
 use Rattle.taskwrite.proofs.WriteAsks.{first-some, writer-ask, writer-board, writer-range}
 use Rattle.tasktext.proofs.TextLaws.{lines-nil, lines-cons}
 
@@ -85,7 +85,7 @@ after-lines : (ts : List Task) → after (taskLines ts) ≡ taskLines (drop 1 ts
 after-lines [] = ap after lines-nil ∙ unfold after in sym lines-nil
 after-lines (t ∷ ts) = ap after (lines-cons t ts) ∙ line-after Frame.Task (taskValues t) (taskLines ts)
 
-past-text : (set : TaskSet) (k : ℕ) → past (suc k) (textOf set) ≡ taskLines (drop k (members set))
+past-text : (set : TaskSet) (k : ℕ) → past (linesTo (textOf set) k) (textOf set) ≡ taskLines (drop k (members set))
 unfolding past textOf
 past-text set zero = line-after Frame.Header (headerValues (set .header)) (taskLines (members set))
 past-text set (suc k) =
@@ -93,7 +93,7 @@ past-text set (suc k) =
     ∙ after-lines (drop k (members set))
     ∙ ap taskLines (drop-drop 1 k (members set) ∙ ap (λ (n : ℕ). drop n (members set)) (add-one k))
 
-past-at : (set : TaskSet) (k : ℕ) → k < length (members set) → past (suc k) (textOf set) ≡ lineOf Frame.Task (taskValues (getD (members set) k zeroTask)) ++ taskLines (drop (suc k) (members set))
+past-at : (set : TaskSet) (k : ℕ) → k < length (members set) → past (linesTo (textOf set) k) (textOf set) ≡ lineOf Frame.Task (taskValues (getD (members set) k zeroTask)) ++ taskLines (drop (suc k) (members set))
 past-at set k h = past-text set k ∙ ap taskLines (drop-cons (members set) k zeroTask h) ∙ lines-cons (getD (members set) k zeroTask) (drop (suc k) (members set))
 
 -- the text of a set has the shape of a file
@@ -101,48 +101,52 @@ shaped : (set : TaskSet) → Shaped (textOf set) (length (members set))
 unfolding textOf
 shaped set =
     record {
-      header = line-formed Frame.Header (headerValues (set .header)) (taskLines (members set));
+      opened = line-formed Frame.Header (headerValues (set .header)) (taskLines (members set));
       tasks = λ j h. ap (formed Frame.Task) (past-at set j h) ∙ line-formed Frame.Task (taskValues (getD (members set) j zeroTask)) (taskLines (drop (suc j) (members set)));
     }
 
-ended : (set : TaskSet) → past (suc (length (members set))) (textOf set) ≡ []
+ended : (set : TaskSet) → past (linesTo (textOf set) (length (members set))) (textOf set) ≡ []
 ended set = past-text set (length (members set)) ∙ ap taskLines (drop-length (members set)) ∙ lines-nil
 
 -- the tasks that the text holds are the set's
-tasks-back : (set : TaskSet) → some taskOverflows (members set) ≡ false → (i : ℕ) → i ≤ length (members set) → tasksAmong (textOf set) (suc i) ≡ take i (members set)
-tasks-back set o zero h = among-header (textOf set) (shaped set .header)
+tasks-back : (set : TaskSet) → some taskOverflows (members set) ≡ false → (i : ℕ) → i ≤ length (members set) → tasksAmong (textOf set) (linesTo (textOf set) i) ≡ take i (members set)
+tasks-back set o zero h = among-opened (textOf set) (shaped set .opened)
 tasks-back set o (suc i) h =
-    among-task (textOf set) (suc i) (shaped set .tasks i (omega arith))
+    among-task (textOf set) (linesTo (textOf set) i) (shaped set .tasks i (omega arith))
     ∙ ap₂ (λ (ts : List Task) (t : Task). ts ++ (t ∷ [])) (tasks-back set o i (omega arith))
     (ap taskAt (past-at set i (omega arith)) ∙ task-back (getD (members set) i zeroTask) (taskLines (drop (suc i) (members set))) (some-at taskOverflows (members set) i zeroTask o (omega arith)))
     ∙ sym (take-suc (members set) i zeroTask (omega arith))
 
 -- each of its lines is clear
-line-clear : (set : TaskSet) → writerAsks set ≡ false → length (members set) ≤ mostTasks → (i : ℕ) → i < length (members set) → lineOutcome (textOf set) (suc (suc i)) ≡ Done
+line-clear : (set : TaskSet) → writerAsks set ≡ false → length (members set) ≤ mostTasks → (i : ℕ) → i < length (members set) → lineOutcome (textOf set) (suc (linesTo (textOf set) i)) ≡ Done
 line-clear set ok most i h =
     let text = textOf set in
+    let k = linesTo text i in
     let ask = writer-ask set ok in
     let t = getD (members set) i zeroTask in
     let whole = shaped set in
     let fits : taskOverflows t ≡ false = some-at taskOverflows (members set) i zeroTask (ask-tasks set ask) h in
-    let figures : taskAt (past (suc i) text) ≡ t = ap taskAt (past-at set i h) ∙ task-back t (taskLines (drop (suc i) (members set))) fits in
-    let seen : some (hasId (taskAt (past (suc i) text) .id)) (tasksAmong text (suc i)) ≡ false =
+    let figures : taskAt (past k text) ≡ t = ap taskAt (past-at set i h) ∙ task-back t (taskLines (drop (suc i) (members set))) fits in
+    let seen : some (hasId (taskAt (past k text) .id)) (tasksAmong text k) ≡ false =
     ap₂ (λ (u : Task) (ts : List Task). some (hasId (u .id)) ts) figures (tasks-back set (ask-tasks set ask) i (omega arith)) ∙ twice-before (members set) i zeroTask (ask-twice set ask) h in
-    let count : length (tasksAmong text (suc i)) ≡ i = shaped-count text i (shaped-less text i (length (members set)) (omega arith) whole) in
-    let room : eqb (length (tasksAmong text (suc i))) mostTasks ≡ false = ne-eqb (length (tasksAmong text (suc i))) mostTasks (λ (e : length (tasksAmong text (suc i)) ≡ mostTasks). omega (arith, count)) in
-    later-task text (suc i) (omega arith) (whole .tasks i h)
-    ∙ ap₂ (λ (a b : Bool). firstOf (when a (Count (suc (suc i)))) (when b (Twice (suc (suc i))))) room seen
+    let count : length (tasksAmong text k) ≡ i = shaped-count text i (shaped-less text i (length (members set)) (omega arith) whole) in
+    let room : eqb (length (tasksAmong text k)) mostTasks ≡ false = ne-eqb (length (tasksAmong text k)) mostTasks (λ (e : length (tasksAmong text k) ≡ mostTasks). omega (arith, count)) in
+    later-task text k (lines-some text i) (whole .tasks i h)
+    ∙ ap₂ (λ (a b : Bool). firstOf (when a (Count (suc k))) (when b (Twice (suc k)))) room seen
 
-lines-clear : (set : TaskSet) → writerAsks set ≡ false → length (members set) ≤ mostTasks → (j : ℕ) → j < suc (length (members set)) → lineOutcome (textOf set) (suc j) ≡ Done
-lines-clear set ok most zero h = first-header (textOf set) (shaped set .header)
-lines-clear set ok most (suc i) h = line-clear set ok most i (omega arith)
+lines-clear : (set : TaskSet) → writerAsks set ≡ false → length (members set) ≤ mostTasks → (n : ℕ) → n ≤ length (members set) → till (lineOutcome (textOf set)) (linesTo (textOf set) n) ≡ Done
+unfolding till
+lines-clear set ok most zero h = first-header (textOf set) (shaped set .opened)
+lines-clear set ok most (suc n) h =
+    till-suc (lineOutcome (textOf set)) (linesTo (textOf set) n) ∙ rw (lines-clear set ok most n (omega arith)) (line-clear set ok most n h)
 
 all-clear : (set : TaskSet) (n : ℕ) → writerAsks set ≡ false → length (members set) ≡ suc n → suc n ≤ mostTasks → till (lineOutcome (textOf set)) (length (textOf set) + 2) ≡ Done
 all-clear set n ok e most =
     let text = textOf set in
-    let end : past (suc (suc n)) text ≡ [] = ap (λ (k : ℕ). past (suc k) text) (sym e) ∙ ended set in
-    let clear : till (lineOutcome text) (suc (suc n)) ≡ Done = done-till (lineOutcome text) (suc (suc n)) (λ j h. lines-clear set ok (omega arith) j (omega arith)) in
-    clear-past text n (length text + 2) end clear
+    let two : linesTo text (length (members set)) ≡ suc (suc (linesTo text n - 1)) = ap (linesTo text) e ∙ omega (arith, lines-some text n) in
+    clear-past text (linesTo text n - 1) (length text + 2)
+    (ap (λ (k : ℕ). past k text) (sym two) ∙ ended set)
+    (ap (till (lineOutcome text)) (sym two) ∙ lines-clear set ok (omega arith) (length (members set)) (omega arith))
 
 -- the set that the text holds
 header-text : (set : TaskSet) → headerOverflows (set .header) ≡ false → headerAt (textOf set) ≡ set .header
@@ -155,7 +159,7 @@ file-back set ok =
     let ask = writer-ask set ok in
     let ms = members set in
     ap₂ setOf (header-text set (ask-header set ask))
-    (sym (among-all (textOf set) (suc (length ms)) (ended set)) ∙ tasks-back set (ask-tasks set ask) (length ms) (omega arith) ∙ take-length ms)
+    (sym (among-all (textOf set) (linesTo (textOf set) (length ms)) (ended set)) ∙ tasks-back set (ask-tasks set ask) (length ms) (omega arith) ∙ take-length ms)
 
 -- rows 5 and 6 let it pass
 figures-pass : (set : TaskSet) → writerAsks set ≡ false → figuresOutcome (setOf (set .header) (members set)) ≡ Done

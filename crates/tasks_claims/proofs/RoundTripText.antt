@@ -30,7 +30,7 @@ use Rattle.taskask.specs.Ask.{countRow, twiceRow, headerOverflows, taskOverflow
 use Rattle.taskrows.specs.Rows.{boardRow, rangeRow}
 use Rattle.taskfile.specs.File.{past, lineOutcome, headerAt, taskAt, tasksAmong, fileTasks}
 use Rattle.taskread.specs.Read.{readOf}
-use Rattle.tasks_claims.specs.Claims.{Shaped, tasksIn, AcceptedFile, NoRow, WrittenRead}
+use Rattle.tasks_claims.specs.Claims.{opening, linesTo, Shaped, tasksIn, AcceptedFile, NoRow, WrittenRead}
 use Rattle.tasks.specs.Values.{headerValues, taskValues}
 use Rattle.tasktext.specs.Text.{taskLines, textOf}
 use Rattle.taskwrite.specs.Write.{writerAsks}
@@ -43,7 +43,7 @@ use Rattle.taskask.proofs.TwiceLaws.{twice-nil, twice-more}
 use Rattle.tasks.proofs.SearchLaws.{some-nowhere}
 use Rattle.taskfile.proofs.Lines.{later-task}
 use Rattle.taskfile.proofs.AmongLaws.{among-task, among-all}
-use Rattle.tasks_claims.proofs.ShapedLaws.{shaped-less, among-header}
+use Rattle.tasks_claims.proofs.ShapedLaws.{among-opened, lines-some, shaped-less}
 use Rattle.taskwrite.proofs.WriteAsks.{writer-rows}
 use Rattle.tasktext.proofs.TextLaws.{lines-nil, lines-one, lines-append}
 
@@ -64,23 +64,25 @@ past-one : (text : List ℕ) → past 1 text ≡ after text
 unfolding past
 past-one text = refl
 
--- what follows the header is the lines of the tasks so far, and the rest
-lines-again : (text : List ℕ) (i : ℕ) → Shaped text i → past 1 text ≡ taskLines (tasksAmong text (suc i)) ++ past (suc i) text
-lines-again text zero s = ap (λ (l : List ℕ). l ++ past 1 text) (sym (ap taskLines (among-header text (s .header)) ∙ lines-nil))
+-- what follows the opening lines is the lines of the tasks so far, and the rest
+lines-again : (text : List ℕ) (i : ℕ) → Shaped text i → past (opening text) text ≡ taskLines (tasksAmong text (linesTo text i)) ++ past (linesTo text i) text
+lines-again text zero s = ap (λ (l : List ℕ). l ++ past (opening text) text) (sym (ap taskLines (among-opened text (s .opened)) ∙ lines-nil))
 lines-again text (suc i) s =
-    let rest = past (suc i) text in
+    let k = linesTo text i in
+    let rest = past k text in
     let t = taskAt rest in
-    let next : rest ≡ lineOf Frame.Task (taskValues t) ++ past (suc (suc i)) text = task-again rest (s .tasks i (omega arith)) ∙ ap (λ (l : List ℕ). lineOf Frame.Task (taskValues t) ++ l) (sym (past-next text (suc i))) in
+    let next : rest ≡ lineOf Frame.Task (taskValues t) ++ past (suc k) text = task-again rest (s .tasks i (omega arith)) ∙ ap (λ (l : List ℕ). lineOf Frame.Task (taskValues t) ++ l) (sym (past-next text k)) in
     lines-again text i (shaped-less text i (suc i) (omega arith) s)
-    ∙ ap (λ (l : List ℕ). taskLines (tasksAmong text (suc i)) ++ l) (next ∙ ap (λ (l : List ℕ). l ++ past (suc (suc i)) text) (sym (lines-one t)))
-    ∙ sym (append-assoc (taskLines (tasksAmong text (suc i))) (taskLines (t ∷ [])) (past (suc (suc i)) text))
-    ∙ ap (λ (l : List ℕ). l ++ past (suc (suc i)) text) (sym (lines-append (tasksAmong text (suc i)) (t ∷ [])) ∙ ap taskLines (sym (among-task text (suc i) (s .tasks i (omega arith)))))
+    ∙ ap (λ (l : List ℕ). taskLines (tasksAmong text k) ++ l) (next ∙ ap (λ (l : List ℕ). l ++ past (suc k) text) (sym (lines-one t)))
+    ∙ sym (append-assoc (taskLines (tasksAmong text k)) (taskLines (t ∷ [])) (past (suc k) text))
+    ∙ ap (λ (l : List ℕ). l ++ past (suc k) text) (sym (lines-append (tasksAmong text k) (t ∷ [])) ∙ ap taskLines (sym (among-task text k (s .tasks i (omega arith)))))
 
-text-again : (text : List ℕ) (n : ℕ) → Shaped text n → past (suc n) text ≡ [] → lineOf Frame.Header (headerValues (headerAt text)) ++ taskLines (fileTasks text) ≡ text
+text-again : (text : List ℕ) (n : ℕ) → Shaped text n → past (linesTo text n) text ≡ [] → lineOf Frame.Header (headerValues (headerAt text)) ++ taskLines (fileTasks text) ≡ text
 text-again text n s end =
+    let k = linesTo text n in
     let rest : after text ≡ taskLines (fileTasks text) =
-    sym (past-one text) ∙ lines-again text n s ∙ ap (λ (l : List ℕ). taskLines (tasksAmong text (suc n)) ++ l) end ∙ append-nil (taskLines (tasksAmong text (suc n))) ∙ ap taskLines (among-all text (suc n) end) in
-    ap (λ (l : List ℕ). lineOf Frame.Header (headerValues (headerAt text)) ++ l) (sym rest) ∙ sym (header-again text (s .header))
+    sym (past-one text) ∙ lines-again text n s ∙ ap (λ (l : List ℕ). taskLines (tasksAmong text k) ++ l) end ∙ append-nil (taskLines (tasksAmong text k)) ∙ ap taskLines (among-all text k end) in
+    ap (λ (l : List ℕ). lineOf Frame.Header (headerValues (headerAt text)) ++ l) (sym rest) ∙ sym (header-again text (s .opened))
 
 -- figures that were read fit their fields
 header-fits : (text : List ℕ) → formed Frame.Header text ≡ true → headerOverflows (headerAt text) ≡ false
@@ -98,11 +100,13 @@ task-fits rest f = or-neither (fits 0) (or-neither (fits 1) (or-neither (fits 2)
     fits : (k : ℕ) → leb (16 ^ lib.ListN.getD (widthsOf Frame.Task) k 0) (fieldOf Frame.Task k rest) ≡ false
     fits k = lt-leb _ _ (field-below Frame.Task rest f k)
 
-tasks-fit : (text : List ℕ) (i : ℕ) → Shaped text i → some taskOverflows (tasksAmong text (suc i)) ≡ false
-tasks-fit text zero s = ap (some taskOverflows) (among-header text (s .header)) ∙ some-nil taskOverflows
+tasks-fit : (text : List ℕ) (i : ℕ) → Shaped text i → some taskOverflows (tasksAmong text (linesTo text i)) ≡ false
+tasks-fit text zero s = ap (some taskOverflows) (among-opened text (s .opened)) ∙ some-nil taskOverflows
 tasks-fit text (suc i) s =
-    ap (some taskOverflows) (among-task text (suc i) (s .tasks i (omega arith)))
-    ∙ some-more taskOverflows (tasksAmong text (suc i)) (taskAt (past (suc i) text)) (tasks-fit text i (shaped-less text i (suc i) (omega arith) s)) (task-fits (past (suc i) text) (s .tasks i (omega arith)))
+    let k = linesTo text i in
+    let task = s .tasks i (omega arith) in
+    ap (some taskOverflows) (among-task text k task)
+    ∙ some-more taskOverflows (tasksAmong text k) (taskAt (past k text)) (tasks-fit text i (shaped-less text i (suc i) (omega arith) s)) (task-fits (past k text) task)
 
 -- an 02 line that is clear has an id that none before it has
 id-new : (text : List ℕ) (k : ℕ) → 1 ≤ k → formed Frame.Task (past k text) ≡ true → lineOutcome text (suc k) ≡ Done → some (hasId (taskAt (past k text) .id)) (tasksAmong text k) ≡ false
@@ -111,13 +115,14 @@ id-new text k one task clear =
     when-done b (Twice (suc k))
     (first-done (when (eqb (length (tasksAmong text k)) mostTasks) (Count (suc k))) (when b (Twice (suc k))) (sym (later-task text k one task) ∙ clear) .1)
 
-ids-new : (text : List ℕ) (i : ℕ) → Shaped text i → ((j : ℕ) → 1 ≤ j → lineOutcome text j ≡ Done) → twiceRow (tasksAmong text (suc i)) ≡ false
-ids-new text zero s clear = ap twiceRow (among-header text (s .header)) ∙ twice-nil
+ids-new : (text : List ℕ) (i : ℕ) → Shaped text i → ((j : ℕ) → 1 ≤ j → lineOutcome text j ≡ Done) → twiceRow (tasksAmong text (linesTo text i)) ≡ false
+ids-new text zero s clear = ap twiceRow (among-opened text (s .opened)) ∙ twice-nil
 ids-new text (suc i) s clear =
+    let k = linesTo text i in
     let task = s .tasks i (omega arith) in
-    ap twiceRow (among-task text (suc i) task)
-    ∙ twice-more (tasksAmong text (suc i)) (taskAt (past (suc i) text)) (ids-new text i (shaped-less text i (suc i) (omega arith) s) clear)
-    (id-new text (suc i) (omega arith) task (clear (suc (suc i)) (omega arith)))
+    ap twiceRow (among-task text k task)
+    ∙ twice-more (tasksAmong text k) (taskAt (past k text)) (ids-new text i (shaped-less text i (suc i) (omega arith) s) clear)
+    (id-new text k (lines-some text i) task (clear (suc k) (omega arith)))
 
 count-right : (set : TaskSet) → 1 ≤ set .count → set .count ≤ mostTasks → countRow set ≡ false
 unfolding countRow
@@ -126,8 +131,8 @@ count-right set some most = or-neither (ne-eqb (set .count) 0 (λ (e : set .coun
 -- what an accepted file gives can be written, and the text is the file's
 module _ (text : List ℕ) (taken : AcceptedFile text) (none : NoRow text) where
   -- the tasks of the file's lines are those of the answer
-  all : members (readOf text .set) ≡ tasksAmong text (suc (tasksIn text))
-  all = taken .tasks ∙ sym (among-all text (suc (tasksIn text)) (taken .ended))
+  all : members (readOf text .set) ≡ tasksAmong text (linesTo text (tasksIn text))
+  all = taken .tasks ∙ sym (among-all text (linesTo text (tasksIn text)) (taken .ended))
 
   right : writerAsks (readOf text .set) ≡ false
   right =
@@ -136,7 +141,7 @@ module _ (text : List ℕ) (taken : AcceptedFile text) (none : NoRow text) where
       writer-rows set
       (ask-rows set (count-right set (omega (arith, taken .count, taken .any)) (omega (arith, taken .count, taken .most)))
       (ap twiceRow all ∙ ids-new text (tasksIn text) s (none .clear))
-      (ap headerOverflows (taken .header) ∙ header-fits text (s .header))
+      (ap headerOverflows (taken .header) ∙ header-fits text (s .opened))
       (ap (some taskOverflows) all ∙ tasks-fit text (tasksIn text) s))
       (ap boardRow (taken .header) ∙ none .board)
       (ap (some rangeRow) (taken .tasks) ∙ some-nowhere rangeRow zeroTask (fileTasks text) (λ j lt. none .range (suc j) (omega arith) (omega arith)))

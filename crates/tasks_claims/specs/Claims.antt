@@ -1,7 +1,7 @@
 -- What is claimed of task files: each refusal of reading exactly when its row says, what an accepted file is,
 -- what a write answers and leaves, and that reading and writing undo each other.
 -- Document 01, "Refusal numbers and their order" and "How tight each promise is".
-use Prim.Native.Nat.{ℕ, suc, pred, _+_, _*_, _<_, _≤_}
+use Prim.Native.Nat.{ℕ, zero, suc, pred, _+_, _<_, _≤_}
 use mathlib.Core.List.{List, []}
 use mathlib.Core.Bool.{Bool, true, false}
 use mathlib.Core.Path.{_≡_}
@@ -99,14 +99,36 @@ ReadRefuses = (text : List ℕ) (r : Refusal) → readOf text .outcome ≡ Refus
 abbrev pub ReadDetermined : Type 0
 ReadDetermined = (text : List ℕ) (a b : ReadAnswer) → a ≡ readOf text → b ≡ readOf text → a ≡ b
 
--- line 1 is an 01 line, and the n lines after it are 02 lines
-pub record Shaped (text : List ℕ) (n : ℕ) : Type 0 where
-  pub header : formed Frame.Header text ≡ true
-  pub tasks : (j : ℕ) → j < n → formed Frame.Task (past (suc j) text) ≡ true
+-- the lines before the tasks, how many they are and how many bytes they have: line 1 is an 01 line, and there is no other
+abbrev pub Opened : List ℕ → Type 0
+Opened text = formed Frame.Header text ≡ true
 
--- the bytes of an 01 line and n 02 lines
-abbrev pub sizeOf : ℕ → ℕ
-sizeOf n = (lengthOf Frame.Header + 1) + (lengthOf Frame.Task + 1) * n
+abbrev pub opening : List ℕ → ℕ
+opening text = 1
+
+abbrev pub openingBytes : List ℕ → ℕ
+openingBytes text = lengthOf Frame.Header + 1
+
+-- so many lines, or bytes, and behind them n 02 lines
+abbrev pub linesWith : (lines n : ℕ) → ℕ
+linesWith lines zero = lines
+linesWith lines (suc n) = suc (linesWith lines n)
+
+abbrev pub bytesWith : (bytes n : ℕ) → ℕ
+bytesWith bytes zero = bytes
+bytesWith bytes (suc n) = bytesWith bytes n + (lengthOf Frame.Task + 1)
+
+-- the lines of a file that has n tasks, and their bytes
+abbrev pub linesTo : List ℕ → ℕ → ℕ
+linesTo text n = linesWith (opening text) n
+
+abbrev pub sizeOf : List ℕ → ℕ → ℕ
+sizeOf text n = bytesWith (openingBytes text) n
+
+-- the file is opened, and the n lines behind that are 02 lines
+pub record Shaped (text : List ℕ) (n : ℕ) : Type 0 where
+  pub opened : Opened text
+  pub tasks : (j : ℕ) → j < n → formed Frame.Task (past (linesTo text j) text) ≡ true
 
 -- reading looks no further than that
 abbrev pub ReadLooksAt : Type 0
@@ -117,8 +139,8 @@ pub record AcceptedFile (text : List ℕ) : Type 0 where
   pub any : 1 ≤ tasksIn text
   pub most : tasksIn text ≤ mostTasks
   pub shaped : Shaped text (tasksIn text)
-  pub bytes : length text ≡ sizeOf (tasksIn text)
-  pub ended : past (suc (tasksIn text)) text ≡ []
+  pub bytes : length text ≡ sizeOf text (tasksIn text)
+  pub ended : past (linesTo text (tasksIn text)) text ≡ []
   pub header : readOf text .set .header ≡ headerAt text
   pub count : readOf text .set .count ≡ tasksIn text
   pub tasks : members (readOf text .set) ≡ fileTasks text
