@@ -13,22 +13,21 @@ use Rattle.refusals.specs.declared.Outcome.{Outcome}
 use Rattle.refusals.specs.declared.Outcome.the-variants.{Done, Refused}
 use Rattle.places.specs.Padded.{padded}
 use Rattle.servers.specs.Placement.{serversIn}
-use Rattle.servers.specs.Reserve.{reservesOf}
 use Rattle.places.proofs.PaddedLaws.{padded-take}
 use Rattle.servers.proofs.PlacementLaws.{placement-length}
 use Rattle.reserves.specs.Slotted.{SlottedFirst}
 use Rattle.tasks.specs.declared.set.TaskSet.{TaskSet}
 use Rattle.plan.specs.declared.plan.Plan.{Plan}
-use Rattle.rows.specs.Charge.{loadsOfSet, lossOf}
+use Rattle.rows.specs.Figures.{setFigures}
 use Rattle.plan.specs.declared.server.Server.{Server}
 use Rattle.plan.specs.Plan.{noServer, reservesIn, laidOut, reservesWith, planWith, setPlacement, setReserves, planMade}
 use Rattle.plan.proofs.LaidLaws.{take-map, laid-reserves, laid-count}
 use Rattle.plancheck.specs.Agrees.{used, agrees, SamePlan, InRoom, isDone, makes}
 use Rattle.planner.specs.Planner.{Clear, needed, planOutcome, planOf}
 use Rattle.plancheck.proofs.AgreeLaws.{agree-same}
-use Rattle.rows.proofs.Clears.{loads-length}
+use Rattle.rows.proofs.FigureLaws.{figures-length}
 use Rattle.planner.proofs.Served.{laid-by}
-use Rattle.planner.proofs.Made.{fits, count-most, few-loads, sound, slot-some, slot-below, set-count, needed-few, made-servers, made-needs, plan-outcome, outcome-clear}
+use Rattle.planner.proofs.Made.{fits, count-most, few-figures, members, alone, slot-some, slot-below, set-count, needed-few, made-servers, made-needs, plan-outcome, outcome-clear}
 
 is-done : (o : Outcome) → isDone o ≡ true → o ≡ Done
 is-done Done e = refl
@@ -94,7 +93,7 @@ module _ (set : TaskSet) (full : length (set .tasks) ≡ mostTasks) (plan : Plan
   -- the placement has a server for each task
   pub placement-count : Clear set → length (setPlacement set) ≡ set .count
   unfolding setPlacement
-  placement-count clear = placement-length (loadsOfSet set) (set .header .slot) (lossOf (set .header)) ∙ loads-length set (fits set full clear)
+  placement-count clear = placement-length (set .header) (setFigures set) ∙ figures-length set (fits set full clear)
 
   -- the set's own plan has room for all of it
   pub made-room : Clear set → InRoom (planMade set)
@@ -128,8 +127,8 @@ module _ (set : TaskSet) (full : length (set .tasks) ≡ mostTasks) (plan : Plan
 
     -- its reserves are laid
     pub laid-in : length (plan .server) ≡ mostTasks → SlottedFirst (set .header .slot) (map (λ (s : Server). s .reserve) (plan .server)) (plan .servers)
-    unfolding setPlacement setReserves reservesWith reservesOf
+    unfolding setPlacement setReserves reservesWith
     laid-in room =
-        laid-by (loadsOfSet set) (set .header .slot) (lossOf (set .header)) (few-loads set full clear-set) (sound set full clear-set)
+        laid-by (set .header) (setFigures set) (few-figures set full clear-set) (members set full clear-set) (alone set full clear-set)
         (slot-some set full clear-set) (slot-below set full clear-set) (map (λ (s : Server). s .reserve) (plan .server)) (plan .servers)
         (length-map (plan .server) _ ∙ room) (of-set .servers) (take-map (λ (s : Server). s .reserve) (plan .servers) (plan .server) ∙ of-set .reserves)
