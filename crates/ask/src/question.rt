@@ -1,6 +1,6 @@
 // The question that the arguments ask: `who` with a processor and a tick, or `pass` with a server and a reserve.
-use shell::number::Number;
-use shell::number::decimal;
+use decimals::Number;
+use decimals::decimal;
 
 pub enum Question {
     Who(u64, u64),

@@ -20,7 +20,7 @@ add-line c = omega (arith, c .length .ensures, length-most (c .before .args .fra
 mul-result : tie.Need-mul-result
 mul-result c =
     let few : c .before .args .n ≤ 65535 = omega arith in
-    record { fits = lt-of-le-of-lt (mul-le-mul {n₂ = 65535} {m₂ = mostDigits + 1} few (omega (arith, c .length .ensures, length-most (c .before .args .frame)))) (lit< tt) }
+    record { fits = lt-of-le-of-lt (mul-le-mul {n₂ = 65535} {m₂ = mostDigits * 2} few (omega (arith, c .length .ensures, length-most (c .before .args .frame)))) (lit< tt) }
 
 returns : tie.Need-returns
 returns c = ap (λ (k : ℕ). c .before .args .n * (k + 1)) (c .length .ensures)

@@ -1,14 +1,14 @@
--- `shell::number::decimal` meets its contract: the number so far, with the bytes left behind it, is the number of the text.
+-- `decimals::decimal` meets its contract: the number so far, with the bytes left behind it, is the number of the text.
 -- Assumes nothing.
 use Prim.Native.Nat.{_-_, _^_, _≤_, _<_}
 use mathlib.Core.Path.{_≡_, sym, _∙_}
 use native.Mathlib.Omega.{arith}
 use borrow.Author.Needs.{needs}
 use lib.ListN.{length, drop}
-use Rattle.shell.specs.Decimal.{numberFrom, decimalOf}
-use Rattle.shell.proofs.DecimalLaws.{decimal-of, decimal-none, read-out, next-of, next-wrong}
-use Rattle.shell.proofs.number.decimal.Statement.{statement}
-use Rattle.shell.proofs.number.decimal.Tie as tie
+use Rattle.decimals.specs.Decimal.{numberFrom, decimalOf}
+use Rattle.decimals.proofs.DecimalLaws.{decimal-of, decimal-none, read-out, next-of, next-wrong}
+use Rattle.decimals.proofs.decimal.Statement.{statement}
+use Rattle.decimals.proofs.decimal.Tie as tie
 
 abbrev Inv-loop : tie.InvT-loop
 Inv-loop text value₀ i₀ value i = (i ≤ length text) × (value < 2 ^ 64) × (numberFrom value (drop i text) ≡ decimalOf text)

@@ -13,8 +13,8 @@ use native.Mathlib.Omega.{arith}
 use borrow.Author.Tests.{lt-ltb, le-ltb, lt-leb, le-leb}
 use Rattle.laws.proofs.Tests.{clash}
 use Rattle.laws.proofs.Orders.{le-or-lt}
-use Rattle.shell.specs.declared.number.Number.the-variants.{Of, Wrong}
-use Rattle.shell.specs.Decimal.{allDigits, valueFrom, numberFrom, decimalOf}
+use Rattle.decimals.specs.declared.Number.the-variants.{Of, Wrong}
+use Rattle.decimals.specs.Decimal.{allDigits, valueFrom, numberFrom, decimalOf}
 
 -- digits behind a number make it no smaller
 grows : (high : ℕ) (bs : List ℕ) → high ≤ valueFrom high bs

@@ -4,8 +4,8 @@ use Prim.Native.Nat.{ℕ, _+_, _*_, _-_, _^_}
 use mathlib.Core.List.{List, [], _∷_}
 use mathlib.Core.Bool.{Bool, true, cond, _&&_}
 use lib.Dec.{leb, ltb}
-use Rattle.shell.specs.declared.number.Number.{Number}
-use Rattle.shell.specs.declared.number.Number.the-variants.{Of, Wrong}
+use Rattle.decimals.specs.declared.Number.{Number}
+use Rattle.decimals.specs.declared.Number.the-variants.{Of, Wrong}
 
 -- 0-9 are the bytes 48 to 57
 unfoldable pub allDigits : List ℕ → Bool

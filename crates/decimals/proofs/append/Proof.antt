@@ -1,11 +1,11 @@
--- `shell::number::append` meets its contract, by the tests of the byte. Assumes nothing.
+-- `decimals::append` meets its contract, by the tests of the byte. Assumes nothing.
 use mathlib.Core.Path.{sym}
 use mathlib.Core.List.{[]}
 use native.Mathlib.Omega.{arith}
-use Rattle.shell.proofs.DecimalLaws.{below-digits, above-digits, digit-fits, digit-large}
+use Rattle.decimals.proofs.DecimalLaws.{below-digits, above-digits, digit-fits, digit-large}
 use borrow.Author.Needs.{needs}
-use Rattle.shell.proofs.number.append.Statement.{statement}
-use Rattle.shell.proofs.number.append.Tie as tie
+use Rattle.decimals.proofs.append.Statement.{statement}
+use Rattle.decimals.proofs.append.Tie as tie
 
 returns : tie.Need-returns
 returns c = sym (below-digits _ _ [] (omega arith))

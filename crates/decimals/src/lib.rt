@@ -2,7 +2,7 @@
 // What it is stands in specs/Decimal.antt.
 ghost use mathlib.Core.Path.{_≡_};
 ghost use mathlib.Core.List.{[], _∷_};
-ghost use Rattle.shell.specs.Decimal.{numberFrom, decimalOf};
+ghost use Rattle.decimals.specs.Decimal.{numberFrom, decimalOf};
 
 pub enum Number {
     Of(u64),
