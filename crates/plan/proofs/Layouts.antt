@@ -9,17 +9,16 @@ use borrow.Author.Tests.{lt-ltb, le-ltb}
 use lib.ListN.{length, take}
 use Rattle.laws.proofs.Orders.{le-or-lt}
 use Rattle.wholes.proofs.CeilingLaws.{ceiling-least}
-use Rattle.places.specs.Padded.{padded, upTo}
-use Rattle.members.specs.Members.{memberLoads}
-use Rattle.members.specs.Loads.{loadsIn}
+use Rattle.places.specs.Padded.{padWith, padded, upTo}
 use Rattle.servers.specs.declared.Servers.{Servers}
-use Rattle.members.specs.declared.Members.{Members}
 use Rattle.reserves.specs.Slotted.{SlottedFirst}
 use Rattle.reserves.specs.Reserves.{ringTicks, wholes, ringProcessors, processorsOf}
 use Rattle.ring.specs.Who.{firstReserve}
 use Rattle.reserves.proofs.Starts.{wholes-below, ring-holds, taken-length, length-room}
 use Rattle.plan.specs.declared.plan.Plan.{Plan}
-use Rattle.plan.specs.Plan.{ringStart, laidOut}
+use Rattle.ring.specs.declared.cover.Stand.{Stand}
+use Rattle.plan.specs.declared.server.Server.{Server}
+use Rattle.plan.specs.Plan.{zeroServer, zeroStand, serverOf, laidOut}
 use Rattle.plan.specs.Layable.{Layable}
 
 -- reserves and whole processors together take at most a slot a server
@@ -53,51 +52,44 @@ module _ {S n : ℕ} {rs : List ℕ} (laid : SlottedFirst S rs n) {r : ℕ} (e :
   pub sum-few : {w : ℕ} → w ≡ wholes S (take n rs) → r + w ≤ n
   sum-few p = omega (arith, e, p, processors-few S (take n rs) (laid .slot-some), taken-length laid)
 
-abbrev plan-of : (w r n s i : ℕ) (a b c d e f : List ℕ) → Plan
-plan-of w r n s i a b c d e f = record {
+abbrev plan-of : (w r n s i : ℕ) (servers : List Server) (placement : List ℕ) (first : List Stand) → Plan
+plan-of w r n s i servers placement first = record {
   whole = w;
   ring = r;
   servers = n;
   slot = s;
   idle = i;
-  reserve = a;
-  start = b;
-  tasks = c;
-  server = d;
-  first = e;
-  duration = f;
+  server = servers;
+  placement = placement;
+  first = first;
 }
 
-same-plan : {w w′ r r′ n n′ i i′ : ℕ} (s : ℕ) {a a′ b b′ c c′ d d′ e e′ f f′ : List ℕ} →
-    w ≡ w′ → r ≡ r′ → n ≡ n′ → i ≡ i′ → a ≡ a′ → b ≡ b′ → c ≡ c′ → d ≡ d′ → e ≡ e′ → f ≡ f′ →
-    plan-of w r n s i a b c d e f ≡ plan-of w′ r′ n′ s i′ a′ b′ c′ d′ e′ f′
-same-plan s p1 p2 p3 p4 p5 p6 p7 p8 p9 p10 = rw (p1, p2, p3, p4, p5, p6, p7, p8, p9, p10)
+same-plan : {w w′ r r′ n n′ i i′ : ℕ} (s : ℕ) {a a′ : List Server} {b b′ : List ℕ} {c c′ : List Stand} →
+    w ≡ w′ → r ≡ r′ → n ≡ n′ → i ≡ i′ → a ≡ a′ → b ≡ b′ → c ≡ c′ →
+    plan-of w r n s i a b c ≡ plan-of w′ r′ n′ s i′ a′ b′ c′
+same-plan s p1 p2 p3 p4 p5 p6 p7 = rw (p1, p2, p3, p4, p5, p6, p7)
 
 -- the parts of a plan, as the code finds them, are the layout
-module _ {m : Members} {sv : Servers} {S : ℕ} (ok : Layable m sv S) where
+module _ {sv : Servers} {tasks S : ℕ} (ok : Layable sv tasks S) where
   abbrev reserves : List ℕ
   reserves = take (sv .count) (sv .reserve)
 
   abbrev placement : List ℕ
-  placement = take (m .count) (sv .server)
+  placement = take tasks (sv .server)
 
   counted : sv .count ≡ length reserves
   counted = sym (taken-length (ok .laid))
 
   -- put together they are the layout of the definitions
-  pub laid-made : {w r t : ℕ} {st ta fi du : List ℕ} →
+  pub laid-made : (cache : ℕ) {w r t : ℕ} {servers : List Server} {first : List Stand} →
       w ≡ wholes S (take (sv .count) (sv .reserve)) →
       r ≡ ringProcessors S (take (sv .count) (sv .reserve)) →
       t ≡ ringTicks S (take (sv .count) (sv .reserve)) →
-      st ≡ padded (upTo (ringStart S (take (sv .count) (sv .reserve))) (sv .count)) →
-      ta ≡ padded (upTo (λ (q : ℕ). length (loadsIn (memberLoads m) (take (m .count) (sv .server)) q)) (sv .count)) →
-      fi ≡ padded (upTo (λ (p : ℕ). firstReserve S (take (sv .count) (sv .reserve)) p .server) (r + w)) →
-      du ≡ padded (upTo (λ (p : ℕ). firstReserve S (take (sv .count) (sv .reserve)) p .left) (r + w)) →
-      plan-of w r (sv .count) S (r * S - t) (sv .reserve) st ta (sv .server) fi du ≡ laidOut S (memberLoads m) (take (m .count) (sv .server)) (take (sv .count) (sv .reserve))
+      servers ≡ padWith zeroServer (upTo (serverOf S cache (take tasks (sv .server)) (take (sv .count) (sv .reserve))) (sv .count)) →
+      first ≡ padWith zeroStand (upTo (firstReserve S (take (sv .count) (sv .reserve))) (r + w)) →
+      plan-of w r (sv .count) S (r * S - t) servers (sv .server) first ≡ laidOut S cache (take tasks (sv .server)) (take (sv .count) (sv .reserve))
   unfolding laidOut
-  laid-made {w} {r} {t} p1 p2 p3 p4 p5 p6 p7 =
+  laid-made cache {w} {r} {t} p1 p2 p3 p4 p5 =
       let sum : r + w ≡ processorsOf S reserves = rw (p1, p2) in
-      same-plan S p1 p2 counted (rw (p2, p3)) (sym (ok .reserve-room)) (p4 ∙ ap (λ (n : ℕ). padded (upTo (ringStart S reserves) n)) counted)
-      (p5 ∙ ap (λ (n : ℕ). padded (upTo (λ (q : ℕ). length (loadsIn (memberLoads m) placement q)) n)) counted) (sym (ok .server-room))
-      (p6 ∙ ap (λ (n : ℕ). padded (upTo (λ (p : ℕ). firstReserve S reserves p .server) n)) sum)
-      (p7 ∙ ap (λ (n : ℕ). padded (upTo (λ (p : ℕ). firstReserve S reserves p .left) n)) sum)
+      same-plan S p1 p2 counted (rw (p2, p3)) (p4 ∙ ap (λ (n : ℕ). padWith zeroServer (upTo (serverOf S cache placement reserves) n)) counted)
+      (sym (ok .placement-room)) (p5 ∙ ap (λ (n : ℕ). padWith zeroStand (upTo (firstReserve S reserves) n)) sum)

@@ -1,4 +1,4 @@
 pub mod RingStarts
+pub mod RecordLaws
 pub mod Layouts
-pub mod Served
-pub mod Made
+pub mod LaidLaws

@@ -1,4 +1,4 @@
-// The planner over a task set.
+// The plan as a value: its servers, the placement of the tasks, the first reserve of each processor; and how it is laid out.
 pub mod layout; // layout.rt: from placed and sized servers to the plan
-pub mod plan; // plan.rt: the plan
-pub mod planner; // planner.rt: the plan of a set, or the first refusal
+pub mod plan; // plan.rt: the plan, and the reserves of its servers
+pub mod server; // server.rt: one server of a plan

@@ -1,8 +1,12 @@
-// The plan of a set: processors, servers with their reserves and ring starts, placement, first reserves.
-// Places by server, by task in file order and by processor, of which no more are needed than there are servers.
-// Unused room is zero in every answer.
+// The plan of a set: its figures, its servers, the placement of its tasks and the first reserve of each processor.
+// There are no more processors than servers, and no more servers than tasks. Unused room is zero in every answer.
+use crate::server::Server;
+use ring::clock::Position;
+use ring::cover::Stand;
 use tasks::set::TaskSet;
 ghost use mathlib.Core.Path.{_≡_};
+ghost use mathlib.Core.List.{map};
+ghost use Rattle.plan.specs.declared.server.Server.{Server};
 ghost use Rattle.plan.specs.Plan.{zeroPlan};
 
 pub struct Plan {
@@ -11,12 +15,12 @@ pub struct Plan {
     pub servers: u64,
     pub slot: u64,
     pub idle: u64,
-    pub reserve: [u64; TaskSet::MOST_TASKS],
-    pub start: [u64; TaskSet::MOST_TASKS],
-    pub tasks: [u64; TaskSet::MOST_TASKS],
-    pub server: [u64; TaskSet::MOST_TASKS],
-    pub first: [u64; TaskSet::MOST_TASKS],
-    pub duration: [u64; TaskSet::MOST_TASKS],
+    // by server
+    pub server: [Server; TaskSet::MOST_TASKS],
+    // by task in file order: its server
+    pub placement: [u64; TaskSet::MOST_TASKS],
+    // by processor: its first server, and the ticks of that reserve
+    pub first: [Stand; TaskSet::MOST_TASKS],
 }
 
 impl Plan {
@@ -24,19 +28,37 @@ impl Plan {
     pub fn zero() -> Plan
         ensures { λ r. ⌜ r ≡ zeroPlan ⌝ }
     {
-        let none = [0u64; TaskSet::MOST_TASKS];
+        let places = [0u8; TaskSet::MOST_TASKS];
+        let server = Server {
+            count: 0,
+            places,
+            reserve: 0,
+            start: Position(0),
+            cache: 0,
+        };
+        let stand = Stand { server: 0, left: 0 };
         Plan {
             whole: 0,
             ring: 0,
             servers: 0,
             slot: 0,
             idle: 0,
-            reserve: none,
-            start: none,
-            tasks: none,
-            server: none,
-            first: none,
-            duration: none,
+            server: [server; TaskSet::MOST_TASKS],
+            placement: [0u64; TaskSet::MOST_TASKS],
+            first: [stand; TaskSet::MOST_TASKS],
         }
     }
+}
+
+// The reserves of a plan's servers, in server order.
+pub fn reserves(plan: Plan) -> [u64; TaskSet::MOST_TASKS]
+    ensures { λ r. ⌜ r ≡ map (λ (s : Server). s .reserve) (plan .server) ⌝ }
+{
+    let mut row = [0u64; TaskSet::MOST_TASKS];
+    let mut i: usize = 0;
+    while i < TaskSet::MOST_TASKS {
+        row[i] = plan.server[i].reserve;
+        i += 1;
+    }
+    row
 }

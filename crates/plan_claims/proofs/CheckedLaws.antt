@@ -29,14 +29,15 @@ use Rattle.reserves.specs.Reserves.{ringProcessors, wholes, processorsOf}
 use Rattle.ring_claims.proofs.Claims.{who-serves, who-stays}
 use Rattle.tasks.specs.declared.set.TaskSet.{TaskSet}
 use Rattle.plan.specs.declared.plan.Plan.{Plan}
-use Rattle.questions.specs.declared.question.PassAnswer.{PassAnswer}
+use Rattle.doespass.specs.declared.PassAnswer.{PassAnswer}
 use Rattle.rows.specs.Charge.{loadsOfSet, lossOf}
 use Rattle.plan.specs.Plan.{laidOut, setPlacement, setReserves, planMade}
-use Rattle.plan.specs.Planner.{needed, fullRow}
+use Rattle.planner.specs.Planner.{needed, fullRow}
 use Rattle.plancheck.specs.Agrees.{makes}
-use Rattle.questions.specs.Question.{allowed, isProcessor, isServer, whoAnswer, whoRuns, doesPass}
+use Rattle.whoruns.specs.WhoRuns.{isProcessor, whoAnswer, whoRuns}
+use Rattle.doespass.specs.DoesPass.{allowed, isServer, doesPass}
 use Rattle.plan_claims.specs.Claims.{at, PlacedOnce, Reserved, OnBoard, CheckedPlan, WhoTells, PassTells}
-use Rattle.plan.proofs.Made.{sound, slot-some, outcome-clear}
+use Rattle.planner.proofs.Made.{sound, slot-some, outcome-clear}
 use Rattle.plancheck.proofs.Checked.{OfSet, of-set, same-made, makes-done, placement-count}
 
 module _ (set : TaskSet) (plan : Plan) (full : length (set .tasks) ≡ mostTasks) (e : makes set plan ≡ true) where

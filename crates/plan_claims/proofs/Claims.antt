@@ -13,10 +13,11 @@ use Rattle.tasks.specs.declared.set.TaskSet.{TaskSet}
 use Rattle.rows.specs.Charge.{lossOf}
 use Rattle.plan.specs.declared.plan.Plan.{Plan}
 use Rattle.plan.specs.Plan.{planMade, zeroPlan}
-use Rattle.plan.specs.Planner.{planOutcome, answer, planOf}
-use Rattle.plan.proofs.Made.{plan-outcome, plan-is}
+use Rattle.planner.specs.Planner.{planOutcome, answer, planOf}
+use Rattle.planner.proofs.Made.{plan-outcome, plan-is}
 use Rattle.plancheck.specs.Agrees.{makes}
-use Rattle.questions.specs.Question.{allowed, isProcessor, isServer, whoRuns, doesPass}
+use Rattle.whoruns.specs.WhoRuns.{isProcessor, whoRuns}
+use Rattle.doespass.specs.DoesPass.{allowed, isServer, doesPass}
 use Rattle.plancheck.proofs.AgreeLaws.{agree-same, agree-self}
 use Rattle.plancheck.proofs.Checked.{makes-done, makes-agrees}
 use Rattle.plan_claims.specs.Claims.{PlannerRow, turn, refusalOf, NotHeld, FirstHolds, PlanExactly, PlanDone, PlanOnly, PlanGiven, PlanDetermined, RoomIgnored, MakesOwn, PlanChecked, WhoAnswers, PassAnswers, AsksElse}

@@ -21,10 +21,10 @@ use Rattle.refusals.proofs.FirstLaws.{done-refused, refused-same, first-assoc, 
 use Rattle.tasks.proofs.Firsts.{at-none, at-some}
 use Rattle.tasks.proofs.FirstLaws.{Stops, first-stops, stops-first, first-none, none-first}
 use Rattle.rows.specs.Rows.{slotRow, tightRow, horizonRow, chargedOutcome}
-use Rattle.plan.specs.Planner.{needed, fullRow, planOutcome, planOf}
+use Rattle.planner.specs.Planner.{needed, fullRow, planOutcome, planOf}
 use Rattle.plan_claims.specs.Claims.{PlannerRow, ASK, BOARD, RANGE, SLOT, TIGHT, HORIZON, FULL, turn, refusalOf, FirstBreaks, NoneBreaks, HoldsAt, NotHeld}
 use Rattle.rows.proofs.Clears.{at-done}
-use Rattle.plan.proofs.Made.{plan-outcome}
+use Rattle.planner.proofs.Made.{plan-outcome}
 
 -- ---- what each row gives
 

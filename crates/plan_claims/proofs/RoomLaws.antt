@@ -9,9 +9,10 @@ use Rattle.plan.specs.declared.plan.Plan.{Plan}
 use Rattle.rows.specs.Charge.{loadsOfSet}
 use Rattle.rows.specs.Rows.{horizonOf, horizonRow, chargedOutcome}
 use Rattle.plan.specs.Plan.{setPlacement, setReserves, planMade}
-use Rattle.plan.specs.Planner.{needed, fullRow, planOutcome, planOf}
+use Rattle.planner.specs.Planner.{needed, fullRow, planOutcome, planOf}
 use Rattle.plancheck.specs.Agrees.{isDone, makes, SamePlan}
-use Rattle.questions.specs.Question.{isProcessor, isServer, whoRuns, doesPass}
+use Rattle.whoruns.specs.WhoRuns.{isProcessor, whoRuns}
+use Rattle.doespass.specs.DoesPass.{isServer, doesPass}
 use Rattle.plan_claims.specs.Claims.{SameSet, SetRoomIgnored, PlanRoomIgnored}
 use Rattle.plancheck.proofs.AgreeLaws.{agree-alike}
 

@@ -24,15 +24,16 @@ use Rattle.tasks.specs.Set.{mostTasks, members, zeroTask}
 use Rattle.taskrows.specs.Rows.{boardRow, rangeRow}
 use Rattle.taskask.specs.Ask.{askRow}
 use Rattle.plan.specs.declared.plan.Plan.{Plan}
-use Rattle.plan.specs.declared.planner.PlanAnswer.{PlanAnswer}
-use Rattle.questions.specs.declared.question.WhoAnswer.{WhoAnswer}
-use Rattle.questions.specs.declared.question.PassAnswer.{PassAnswer}
+use Rattle.planner.specs.declared.PlanAnswer.{PlanAnswer}
+use Rattle.whoruns.specs.declared.WhoAnswer.{WhoAnswer}
+use Rattle.doespass.specs.declared.PassAnswer.{PassAnswer}
 use Rattle.rows.specs.Charge.{loadsOfSet, lossOf}
 use Rattle.rows.specs.Rows.{slotRow, tightRow, horizonRow}
 use Rattle.plan.specs.Plan.{planMade, zeroPlan}
-use Rattle.plan.specs.Planner.{needed, fullRow, planOf}
+use Rattle.planner.specs.Planner.{needed, fullRow, planOf}
 use Rattle.plancheck.specs.Agrees.{SamePlan, makes}
-use Rattle.questions.specs.Question.{allowed, isProcessor, isServer, whoRuns, doesPass}
+use Rattle.whoruns.specs.WhoRuns.{isProcessor, whoRuns}
+use Rattle.doespass.specs.DoesPass.{allowed, isServer, doesPass}
 
 -- ---- each refusal exactly when its row says
 

@@ -1,17 +1,80 @@
 -- Two plans agree exactly when they are the same in all that is used.
 -- Assumes nothing.
 use Prim.Native.Nat.{ℕ, _+_}
-use mathlib.Core.Path.{_≡_, refl, sym, ap, _∙_}
+use mathlib.Core.Path.{_≡_, refl, sym, ap, ap₂, _∙_}
 use mathlib.Core.Bool.{Bool, true, false, _&&_}
-use mathlib.Core.List.{List, [], _∷_}
+use mathlib.Core.List.{List, map}
 use borrow.Author.Tests.{eq-eqb, eqb-true}
 use lib.Dec.{eqb}
 use lib.ListN.{take}
-use Rattle.laws.proofs.Tests.{and-left, and-right}
-use Rattle.laws.specs.Same.{same}
-use Rattle.laws.proofs.SameLaws.{same-equal, equal-same}
+use Rattle.laws.proofs.Tests.{and-left, and-right, and-both}
+use Rattle.ring.specs.declared.cover.Stand.{Stand}
 use Rattle.plan.specs.declared.plan.Plan.{Plan}
-use Rattle.plancheck.specs.Agrees.{sameFront, sameFigures, sameServers, sameProcessors, agrees, SamePlan}
+use Rattle.plan.specs.declared.server.Server.{Server}
+use Rattle.plancheck.specs.Agrees.{alike, sameFront, sameFigures, used, sameServer, sameUsed, sameServers, sameStand, firsts, sameProcessors, agrees, usedServers, SamePlan}
+use Rattle.plancheck.proofs.Fronts.{alike-equal, alike-self, alike-map}
+
+-- a number is the same as itself
+eqb-self : (n : ℕ) → eqb n n ≡ true
+eqb-self n = eq-eqb n n refl
+
+numbers-equal : (xs ys : List ℕ) → alike eqb xs ys ≡ true → xs ≡ ys
+numbers-equal = alike-equal eqb eqb-true
+
+-- ---- one server
+
+module _ (a b : Server) where
+  abbrev from-cache : Bool
+  from-cache = eqb (a .cache) (b .cache) && alike eqb (a .places) (b .places)
+
+  abbrev from-start : Bool
+  from-start = eqb (a .start .0) (b .start .0) && from-cache
+
+  abbrev from-reserve : Bool
+  from-reserve = eqb (a .reserve) (b .reserve) && from-start
+
+  -- the test of two servers says that they are equal
+  pub server-equal : sameServer a b ≡ true → a ≡ b
+  unfolding sameServer
+  server-equal e =
+      let e1 = and-right (eqb (a .count) (b .count)) from-reserve e in
+      let e2 = and-right (eqb (a .reserve) (b .reserve)) from-start e1 in
+      let e3 = and-right (eqb (a .start .0) (b .start .0)) from-cache e2 in
+      server-of-parts
+      (eqb-true (a .count) (b .count) (and-left (eqb (a .count) (b .count)) from-reserve e))
+      (numbers-equal (a .places) (b .places) (and-right (eqb (a .cache) (b .cache)) (alike eqb (a .places) (b .places)) e3))
+      (eqb-true (a .reserve) (b .reserve) (and-left (eqb (a .reserve) (b .reserve)) from-start e1))
+      (eqb-true (a .start .0) (b .start .0) (and-left (eqb (a .start .0) (b .start .0)) from-cache e2))
+      (eqb-true (a .cache) (b .cache) (and-left (eqb (a .cache) (b .cache)) (alike eqb (a .places) (b .places)) e3))
+    where
+      server-of-parts : a .count ≡ b .count → a .places ≡ b .places → a .reserve ≡ b .reserve → a .start .0 ≡ b .start .0 → a .cache ≡ b .cache → a ≡ b
+      server-of-parts p1 p2 p3 p4 p5 =
+          let parts : _≡_ {A = Server} (record { count = a .count; places = a .places; reserve = a .reserve; start = record { 0 = a .start .0 }; cache = a .cache }) (record { count = b .count; places = b .places; reserve = b .reserve; start = record { 0 = b .start .0 }; cache = b .cache }) = rw (p1, p2, p3, p4, p5) in
+          parts
+
+-- and each server is the same as itself
+pub server-self : (a : Server) → sameServer a a ≡ true
+unfolding sameServer
+server-self a =
+    rw (eqb-self (a .count), eqb-self (a .reserve), eqb-self (a .start .0), eqb-self (a .cache)) (alike-self eqb eqb-self (a .places))
+
+-- ---- one first reserve
+
+stand-equal : (a b : Stand) → sameStand a b ≡ true → a ≡ b
+stand-equal a b e =
+    let parts : _≡_ {A = Stand} (record { server = a .server; left = a .left }) (record { server = b .server; left = b .left }) =
+    rw (eqb-true (a .server) (b .server) (and-left (eqb (a .server) (b .server)) (eqb (a .left) (b .left)) e), eqb-true (a .left) (b .left) (and-right (eqb (a .server) (b .server)) (eqb (a .left) (b .left)) e)) in
+    parts
+
+stand-self : (a : Stand) → sameStand a a ≡ true
+stand-self a = and-both (eqb-self (a .server)) (eqb-self (a .left))
+
+-- ---- two plans
+
+-- the servers are compared without unused room
+servers-by : (a b : Plan) → sameServers a b ≡ alike sameServer (usedServers a) (usedServers b)
+unfolding sameServers
+servers-by a b = alike-map used sameServer (take (a .servers) (a .server)) (take (b .servers) (b .server))
 
 module _ (a b : Plan) where
   abbrev from-slot : Bool
@@ -46,74 +109,49 @@ module _ (a b : Plan) where
         idle = eqb-true (a .idle) (b .idle) (and-right (eqb (a .slot) (b .slot)) (eqb (a .idle) (b .idle)) e3);
       }
 
-  abbrev reserve-test : Bool
-  reserve-test = sameFront (b .servers) (a .reserve) (b .reserve)
-
-  abbrev start-test : Bool
-  start-test = sameFront (b .servers) (a .start) (b .start)
-
-  abbrev tasks-test : Bool
-  tasks-test = sameFront (b .servers) (a .tasks) (b .tasks)
-
-  abbrev first-test : Bool
-  first-test = sameFront (b .ring + b .whole) (a .first) (b .first)
-
-  abbrev duration-test : Bool
-  duration-test = sameFront (b .ring + b .whole) (a .duration) (b .duration)
-
   -- plans that agree are the same in what is used
   pub agree-same : (n : ℕ) → agrees n a b ≡ true → SamePlan n a b
-  unfolding agrees sameServers sameProcessors
+  unfolding agrees sameProcessors
   agree-same n e =
-      let server-test = sameFront n (a .server) (b .server) in
-      let after = (server-test && sameProcessors a b) in
+      let placement-test = sameFront n (a .placement) (b .placement) in
+      let after = (placement-test && sameProcessors a b) in
       let f = figures-same (and-left (sameFigures a b) (sameServers a b && after) e) in
       let e1 = and-right (sameFigures a b) (sameServers a b && after) e in
-      let servers = and-left (sameServers a b) after e1 in
       let later = and-right (sameServers a b) after e1 in
-      let processors = and-right server-test (sameProcessors a b) later in
-      let sum : a .ring + a .whole ≡ b .ring + b .whole = ap (λ (k : ℕ). k + a .whole) (f .ring) ∙ ap (λ (k : ℕ). b .ring + k) (f .whole) in
       record {
         whole = f .whole;
         ring = f .ring;
         servers = f .servers;
         slot = f .slot;
         idle = f .idle;
-        reserve = ap (λ (k : ℕ). take k (a .reserve)) (f .servers) ∙ same-equal (take (b .servers) (a .reserve)) (take (b .servers) (b .reserve)) (and-left reserve-test (start-test && tasks-test) servers);
-        start = ap (λ (k : ℕ). take k (a .start)) (f .servers) ∙ same-equal (take (b .servers) (a .start)) (take (b .servers) (b .start)) (and-left start-test tasks-test (and-right reserve-test (start-test && tasks-test) servers));
-        tasks = ap (λ (k : ℕ). take k (a .tasks)) (f .servers) ∙ same-equal (take (b .servers) (a .tasks)) (take (b .servers) (b .tasks)) (and-right start-test tasks-test (and-right reserve-test (start-test && tasks-test) servers));
-        server = same-equal (take n (a .server)) (take n (b .server)) (and-left server-test (sameProcessors a b) later);
-        first = ap (λ (k : ℕ). take k (a .first)) sum ∙ same-equal (take (b .ring + b .whole) (a .first)) (take (b .ring + b .whole) (b .first)) (and-left first-test duration-test processors);
-        duration = ap (λ (k : ℕ). take k (a .duration)) sum ∙ same-equal (take (b .ring + b .whole) (a .duration)) (take (b .ring + b .whole) (b .duration)) (and-right first-test duration-test processors);
+        server = alike-equal sameServer server-equal (usedServers a) (usedServers b) (sym (servers-by a b) ∙ and-left (sameServers a b) after e1);
+        placement = numbers-equal (take n (a .placement)) (take n (b .placement)) (and-left placement-test (sameProcessors a b) later);
+        first = alike-equal sameStand stand-equal (firsts a) (firsts b) (and-right placement-test (sameProcessors a b) later);
       }
 
 -- a plan agrees with itself
 pub agree-self : (n : ℕ) (a : Plan) → agrees n a a ≡ true
-unfolding agrees sameFigures sameServers sameProcessors
+unfolding agrees sameFigures sameProcessors
 agree-self n a =
-    rw (eq-eqb (a .whole) (a .whole) refl, eq-eqb (a .ring) (a .ring) refl, eq-eqb (a .servers) (a .servers) refl, eq-eqb (a .slot) (a .slot) refl, eq-eqb (a .idle) (a .idle) refl, equal-same (take (a .servers) (a .reserve)), equal-same (take (a .servers) (a .start)), equal-same (take (a .servers) (a .tasks)), equal-same (take n (a .server)), equal-same (take (a .ring + a .whole) (a .first)))
-    (equal-same (take (a .ring + a .whole) (a .duration)))
+    rw (eqb-self (a .whole), eqb-self (a .ring), eqb-self (a .servers), eqb-self (a .slot), eqb-self (a .idle), servers-by a a, alike-self sameServer server-self (usedServers a), alike-self eqb eqb-self (take n (a .placement)))
+    (alike-self sameStand stand-self (firsts a))
 
 -- plans that are the same in what is used agree with the same plans
 module _ (n : ℕ) (a b m : Plan) (s : SamePlan n a b) where
-  by-figures : (x : Bool) → sameFigures b m ≡ x → sameFigures a m ≡ x → agrees n a m ≡ agrees n b m
-  unfolding agrees sameServers sameProcessors
-  by-figures true p q =
-      let fa = figures-same a m q in
-      let fb = figures-same b m p in
-      let front : (row : Plan → List ℕ) → take (a .servers) (row a) ≡ take (b .servers) (row b) → take (m .servers) (row a) ≡ take (m .servers) (row b) =
-      λ row e. ap (λ (k : ℕ). take k (row a)) (sym (fa .servers)) ∙ e ∙ ap (λ (k : ℕ). take k (row b)) (fb .servers) in
-      let sum-a : m .ring + m .whole ≡ a .ring + a .whole = ap (λ (k : ℕ). k + m .whole) (sym (fa .ring)) ∙ ap (λ (k : ℕ). a .ring + k) (sym (fa .whole)) in
-      let sum-b : b .ring + b .whole ≡ m .ring + m .whole = ap (λ (k : ℕ). k + b .whole) (fb .ring) ∙ ap (λ (k : ℕ). m .ring + k) (fb .whole) in
-      let past : (row : Plan → List ℕ) → take (a .ring + a .whole) (row a) ≡ take (b .ring + b .whole) (row b) → take (m .ring + m .whole) (row a) ≡ take (m .ring + m .whole) (row b) =
-      λ row e. ap (λ (k : ℕ). take k (row a)) sum-a ∙ e ∙ ap (λ (k : ℕ). take k (row b)) sum-b in
-      rw (p, q, front (λ (c : Plan). c .reserve) (s .reserve), front (λ (c : Plan). c .start) (s .start), front (λ (c : Plan). c .tasks) (s .tasks), s .server, past (λ (c : Plan). c .first) (s .first), past (λ (c : Plan). c .duration) (s .duration))
-  by-figures false p q = rw (p, q)
-
-  same-figures : sameFigures a m ≡ sameFigures b m
+  figures-alike : sameFigures a m ≡ sameFigures b m
   unfolding sameFigures
-  same-figures = rw (s .whole, s .ring, s .servers, s .slot, s .idle)
+  figures-alike = rw (s .whole, s .ring, s .servers, s .slot, s .idle)
+
+  servers-alike : sameServers a m ≡ sameServers b m
+  servers-alike = servers-by a m ∙ ap (λ (l : List Server). alike sameServer l (usedServers m)) (s .server) ∙ sym (servers-by b m)
+
+  processors-alike : sameProcessors a m ≡ sameProcessors b m
+  unfolding sameProcessors
+  processors-alike = ap (λ (l : List Stand). alike sameStand l (firsts m)) (s .first)
 
   -- so they agree with the same plan, or neither does
   pub agree-alike : agrees n a m ≡ agrees n b m
-  agree-alike = by-figures (sameFigures b m) refl same-figures
+  unfolding agrees
+  agree-alike =
+      ap₂ _&&_ figures-alike
+      (ap₂ _&&_ servers-alike (ap₂ _&&_ (ap (λ (l : List ℕ). alike eqb l (take n (m .placement))) (s .placement)) processors-alike))

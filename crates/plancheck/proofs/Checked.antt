@@ -3,8 +3,9 @@
 use Prim.Native.Nat.{ℕ, _+_}
 use mathlib.Core.Path.{_≡_, refl, sym, ap, subst, _∙_}
 use mathlib.Core.Bool.{Bool, true, false}
-use mathlib.Core.List.{List}
-use lib.ListN.{length, take}
+use mathlib.Core.List.{List, [], _∷_, map}
+use native.Mathlib.Omega.{arith}
+use lib.ListN.{length, take, length-map}
 use Rattle.tasks.specs.Set.{mostTasks}
 use Rattle.laws.proofs.Tests.{and-left, and-right, true-false}
 use Rattle.refusals.specs.declared.Refusal.{Refusal}
@@ -12,19 +13,22 @@ use Rattle.refusals.specs.declared.Outcome.{Outcome}
 use Rattle.refusals.specs.declared.Outcome.the-variants.{Done, Refused}
 use Rattle.places.specs.Padded.{padded}
 use Rattle.servers.specs.Placement.{serversIn}
+use Rattle.servers.specs.Reserve.{reservesOf}
 use Rattle.places.proofs.PaddedLaws.{padded-take}
 use Rattle.servers.proofs.PlacementLaws.{placement-length}
 use Rattle.reserves.specs.Slotted.{SlottedFirst}
 use Rattle.tasks.specs.declared.set.TaskSet.{TaskSet}
 use Rattle.plan.specs.declared.plan.Plan.{Plan}
 use Rattle.rows.specs.Charge.{loadsOfSet, lossOf}
-use Rattle.plan.specs.Plan.{laidOut, setPlacement, setReserves, planMade}
-use Rattle.plancheck.specs.Agrees.{agrees, SamePlan, isDone, makes}
-use Rattle.plan.specs.Planner.{Clear, needed, planOutcome, planOf}
+use Rattle.plan.specs.declared.server.Server.{Server}
+use Rattle.plan.specs.Plan.{noServer, reservesIn, laidOut, reservesWith, planWith, setPlacement, setReserves, planMade}
+use Rattle.plan.proofs.LaidLaws.{take-map, laid-reserves, laid-count}
+use Rattle.plancheck.specs.Agrees.{used, agrees, SamePlan, InRoom, isDone, makes}
+use Rattle.planner.specs.Planner.{Clear, needed, planOutcome, planOf}
 use Rattle.plancheck.proofs.AgreeLaws.{agree-same}
 use Rattle.rows.proofs.Clears.{loads-length}
-use Rattle.plan.proofs.Served.{laid-by}
-use Rattle.plan.proofs.Made.{fits, few-loads, sound, slot-some, slot-below, set-count, made-needs, plan-outcome, outcome-clear}
+use Rattle.planner.proofs.Served.{laid-by}
+use Rattle.planner.proofs.Made.{fits, count-most, few-loads, sound, slot-some, slot-below, set-count, needed-few, made-servers, made-needs, plan-outcome, outcome-clear}
 
 is-done : (o : Outcome) → isDone o ≡ true → o ≡ Done
 is-done Done e = refl
@@ -51,36 +55,57 @@ module _ (set : TaskSet) (plan : Plan) where
   unfolding makes
   makes-agrees e = and-right (isDone (planOutcome set)) (agrees (set .count) plan (planMade set)) e
 
+-- unused room has no reserve
+used-reserves : (servers : List Server) → map (λ (s : Server). s .reserve) (map used servers) ≡ map (λ (s : Server). s .reserve) servers
+used-reserves [] = refl
+used-reserves (s ∷ servers) = ap (λ (l : List ℕ). s .reserve ∷ l) (used-reserves servers)
+
+-- plans that are the same in what is used have the same reserves
+pub reserves-same : {n : ℕ} {a b : Plan} → SamePlan n a b → reservesIn a ≡ reservesIn b
+reserves-same {a = a} {b = b} s =
+    sym (used-reserves (take (a .servers) (a .server))) ∙ ap (map (λ (s : Server). s .reserve)) (s .server) ∙ used-reserves (take (b .servers) (b .server))
+
 -- what a plan that is checked has of its set
 pub record OfSet (set : TaskSet) (plan : Plan) : Type 0 where
   pub clear : Clear set
   pub slot : plan .slot ≡ set .header .slot
   pub processors : plan .ring + plan .whole ≡ needed set
   pub servers : plan .servers ≡ serversIn (setPlacement set)
-  pub reserves : take (plan .servers) (plan .reserve) ≡ setReserves set
-  pub placement : take (set .count) (plan .server) ≡ setPlacement set
+  pub reserves : reservesIn plan ≡ setReserves set
+  pub placement : take (set .count) (plan .placement) ≡ setPlacement set
 
 module _ (set : TaskSet) (full : length (set .tasks) ≡ mostTasks) (plan : Plan) where
   made-slot : planMade set .slot ≡ set .header .slot
-  unfolding planMade laidOut
+  unfolding planMade planWith laidOut
   made-slot = refl
 
   made-count : planMade set .servers ≡ length (setReserves set)
-  unfolding planMade laidOut
+  unfolding planMade planWith laidOut setReserves
   made-count = refl
 
-  made-reserve : planMade set .reserve ≡ padded (setReserves set)
-  unfolding planMade laidOut
-  made-reserve = refl
+  made-reserves : reservesIn (planMade set) ≡ setReserves set
+  unfolding planMade planWith setReserves
+  made-reserves = laid-reserves (set .header .slot) (set .header .cpmdo) (setPlacement set) (reservesWith set (setPlacement set))
 
-  made-server : planMade set .server ≡ padded (setPlacement set)
-  unfolding planMade laidOut
-  made-server = refl
+  made-placement : planMade set .placement ≡ padded (setPlacement set)
+  unfolding planMade planWith laidOut
+  made-placement = refl
 
   -- the placement has a server for each task
   pub placement-count : Clear set → length (setPlacement set) ≡ set .count
   unfolding setPlacement
   placement-count clear = placement-length (loadsOfSet set) (set .header .slot) (lossOf (set .header)) ∙ loads-length set (fits set full clear)
+
+  -- the set's own plan has room for all of it
+  pub made-room : Clear set → InRoom (planMade set)
+  unfolding planMade planWith setReserves
+  made-room clear = record {
+    servers = made-servers set full clear;
+    processors = omega (arith, made-needs set, needed-few set full clear);
+    tasks = λ i h.
+        laid-count (set .header .slot) (set .header .cpmdo) (setPlacement set) (reservesWith set (setPlacement set))
+        (omega (arith, placement-count clear, count-most set full clear)) noServer i (omega (arith, h, made-count));
+  }
 
   module _ (e : makes set plan ≡ true) where
     clear-set : Clear set
@@ -97,13 +122,14 @@ module _ (set : TaskSet) (full : length (set .tasks) ≡ mostTasks) (plan : Plan
       slot = same-made .slot ∙ made-slot;
       processors = ap (λ (n : ℕ). n + plan .whole) (same-made .ring) ∙ ap (λ (n : ℕ). planMade set .ring + n) (same-made .whole) ∙ made-needs set;
       servers = same-made .servers ∙ made-count ∙ set-count set full clear-set;
-      reserves = same-made .reserve ∙ ap (take (planMade set .servers)) made-reserve ∙ padded-take (setReserves set) (planMade set .servers) (sym made-count);
-      placement = same-made .server ∙ ap (take (set .count)) made-server ∙ padded-take (setPlacement set) (set .count) (placement-count clear-set);
+      reserves = reserves-same same-made ∙ made-reserves;
+      placement = same-made .placement ∙ ap (take (set .count)) made-placement ∙ padded-take (setPlacement set) (set .count) (placement-count clear-set);
     }
 
     -- its reserves are laid
-    pub laid-in : length (plan .reserve) ≡ mostTasks → SlottedFirst (set .header .slot) (plan .reserve) (plan .servers)
-    unfolding setPlacement setReserves
+    pub laid-in : length (plan .server) ≡ mostTasks → SlottedFirst (set .header .slot) (map (λ (s : Server). s .reserve) (plan .server)) (plan .servers)
+    unfolding setPlacement setReserves reservesWith reservesOf
     laid-in room =
         laid-by (loadsOfSet set) (set .header .slot) (lossOf (set .header)) (few-loads set full clear-set) (sound set full clear-set)
-        (slot-some set full clear-set) (slot-below set full clear-set) (plan .reserve) (plan .servers) room (of-set .servers) (of-set .reserves)
+        (slot-some set full clear-set) (slot-below set full clear-set) (map (λ (s : Server). s .reserve) (plan .server)) (plan .servers)
+        (length-map (plan .server) _ ∙ room) (of-set .servers) (take-map (λ (s : Server). s .reserve) (plan .servers) (plan .server) ∙ of-set .reserves)

@@ -9,33 +9,36 @@ use lib.Dec.{ltb}
 use lib.ListN.{length, getD}
 use Rattle.tasks.specs.declared.set.Task.{Task}
 use Rattle.tasks.specs.Set.{zeroTask}
+use Rattle.ring.specs.declared.cover.Stand.{Stand}
+use Rattle.plan.specs.declared.server.Server.{Server}
+use Rattle.plan.specs.Plan.{noServer, zeroStand}
 use Rattle.planfigures.specs.Figures.{mark, serverFigures, placedFigures, processorFigures}
 
 -- the figures of each kind of line: how many, and what they are at the place i from 0
-module _ (reserve start tasks : List ℕ) (slot : ℕ) where
-  pub server-each : (q : ℕ) → length (serverFigures reserve start tasks slot q) ≡ 4
+module _ (servers : List Server) (slot : ℕ) where
+  pub server-each : (q : ℕ) → length (serverFigures servers slot q) ≡ 4
   unfolding serverFigures
   server-each q = refl
 
-  pub server-at : (i : ℕ) {begin : ℕ} → begin ≡ cond (ltb (getD reserve i 0) slot) (getD start i 0) mark
-      → (i + 1) ∷ getD reserve i 0 ∷ begin ∷ getD tasks i 0 ∷ [] ≡ serverFigures reserve start tasks slot (i + 1)
+  pub server-at : (i : ℕ) {begin : ℕ} → begin ≡ cond (ltb (getD servers i noServer .reserve) slot) (getD servers i noServer .start .0) mark
+      → (i + 1) ∷ getD servers i noServer .reserve ∷ begin ∷ getD servers i noServer .count ∷ [] ≡ serverFigures servers slot (i + 1)
   unfolding serverFigures
   server-at i e = rw (e, add-sub-cancel i 1)
 
-module _ (tasks : List Task) (server : List ℕ) where
-  pub placed-each : (k : ℕ) → length (placedFigures tasks server k) ≡ 2
+module _ (tasks : List Task) (placement : List ℕ) where
+  pub placed-each : (k : ℕ) → length (placedFigures tasks placement k) ≡ 2
   unfolding placedFigures
   placed-each k = refl
 
-  pub placed-at : (i : ℕ) → getD tasks i zeroTask .id ∷ getD server i 0 ∷ [] ≡ placedFigures tasks server (i + 1)
+  pub placed-at : (i : ℕ) → getD tasks i zeroTask .id ∷ getD placement i 0 ∷ [] ≡ placedFigures tasks placement (i + 1)
   unfolding placedFigures
   placed-at i = rw (add-sub-cancel i 1)
 
-module _ (first duration : List ℕ) where
-  pub processor-each : (p : ℕ) → length (processorFigures first duration p) ≡ 3
+module _ (first : List Stand) where
+  pub processor-each : (p : ℕ) → length (processorFigures first p) ≡ 3
   unfolding processorFigures
   processor-each p = refl
 
-  pub processor-at : (i : ℕ) → (i + 1) ∷ getD first i 0 ∷ getD duration i 0 ∷ [] ≡ processorFigures first duration (i + 1)
+  pub processor-at : (i : ℕ) → (i + 1) ∷ getD first i zeroStand .server ∷ getD first i zeroStand .left ∷ [] ≡ processorFigures first (i + 1)
   unfolding processorFigures
   processor-at i = rw (add-sub-cancel i 1)

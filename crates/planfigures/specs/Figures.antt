@@ -7,6 +7,9 @@ use lib.ListN.{getD}
 use lib.Dec.{ltb}
 use Rattle.tasks.specs.declared.set.Task.{Task}
 use Rattle.tasks.specs.Set.{zeroTask}
+use Rattle.ring.specs.declared.cover.Stand.{Stand}
+use Rattle.plan.specs.declared.server.Server.{Server}
+use Rattle.plan.specs.Plan.{noServer, zeroStand}
 
 -- what stands at place k, from 1, of a row of the plan
 abbrev pub at : List ℕ → ℕ → ℕ
@@ -16,11 +19,17 @@ at row k = getD row (k - 1) 0
 abbrev pub mark : ℕ
 mark = 16 ^ 8 - 1
 
-unfoldable pub serverFigures : (reserve start tasks : List ℕ) (slot : ℕ) → ℕ → List ℕ
-serverFigures reserve start tasks slot q = q ∷ at reserve q ∷ cond (ltb (at reserve q) slot) (at start q) mark ∷ at tasks q ∷ []
+-- server, reserve, ring start or mark, number of tasks
+unfoldable pub serverFigures : (servers : List Server) (slot : ℕ) → ℕ → List ℕ
+serverFigures servers slot q =
+    let s = getD servers (q - 1) noServer in
+    q ∷ s .reserve ∷ cond (ltb (s .reserve) slot) (s .start .0) mark ∷ s .count ∷ []
 
-unfoldable pub placedFigures : (tasks : List Task) (server : List ℕ) → ℕ → List ℕ
-placedFigures tasks server k = getD tasks (k - 1) zeroTask .id ∷ at server k ∷ []
+unfoldable pub placedFigures : (tasks : List Task) (placement : List ℕ) → ℕ → List ℕ
+placedFigures tasks placement k = getD tasks (k - 1) zeroTask .id ∷ at placement k ∷ []
 
-unfoldable pub processorFigures : (first duration : List ℕ) → ℕ → List ℕ
-processorFigures first duration p = p ∷ at first p ∷ at duration p ∷ []
+-- processor, its first server, the ticks of that reserve
+unfoldable pub processorFigures : (first : List Stand) → ℕ → List ℕ
+processorFigures first p =
+    let stand = getD first (p - 1) zeroStand in
+    p ∷ stand .server ∷ stand .left ∷ []

@@ -1,7 +1,8 @@
 // The figures of a plan's lines, one line behind the other, as the writer of lines takes them.
-// What they are stands in specs/Figures.antt. Each function takes the rows that its lines show, not the whole plan.
+// What they are stands in specs/Figures.antt.
 use framelines::figures::put_figures;
 use framewrite::MARK;
+use plan::plan::Plan;
 use tasks::set::TaskSet;
 ghost use mathlib.Core.Path.{_≡_};
 ghost use mathlib.Core.Bool.{cond};
@@ -23,21 +24,18 @@ fn start_or_mark(reserve: u64, slot: u64, start: u64) -> u64
 }
 
 // The figures of the 12 lines, by server.
-pub fn server_values(
-    reserve: &[u64],
-    start: &[u64],
-    tasks: &[u64],
-    n: usize,
-    slot: u64,
-) -> [u64; 4 * TaskSet::MOST_TASKS]
-    requires { ⌜ (n ≤ mostTasks) × (n ≤ count (now reserve)) × (n ≤ count (now start)) × (n ≤ count (now tasks)) ⌝ }
-    ensures { λ r. ⌜ r ≡ filled (4 * mostTasks) (serverFigures (now (reserve .entry)) (now (start .entry)) (now (tasks .entry)) slot) n ⌝ }
+pub fn server_values(plan: Plan) -> [u64; 4 * TaskSet::MOST_TASKS]
+    requires { ⌜ plan .servers ≤ mostTasks ⌝ }
+    ensures { λ r. ⌜ r ≡ filled (4 * mostTasks) (serverFigures (plan .server) (plan .slot)) (plan .servers) ⌝ }
 {
     let mut values = [0; 4 * TaskSet::MOST_TASKS];
+    let n = plan.servers as usize;
+    let slot = plan.slot;
     let mut i = 0;
     while i < n {
-        let begin = start_or_mark(reserve[i], slot, start[i]);
-        let figures = [i as u64 + 1, reserve[i], begin, tasks[i]];
+        let server = plan.server[i];
+        let begin = start_or_mark(server.reserve, slot, server.start.0);
+        let figures = [i as u64 + 1, server.reserve, begin, server.count as u64];
         put_figures(&mut values, 4 * i, &figures);
         i += 1;
     }
@@ -45,35 +43,32 @@ pub fn server_values(
 }
 
 // The figures of the 13 lines, in file order.
-pub fn placed_values(set: TaskSet, server: &[u64]) -> [u64; 2 * TaskSet::MOST_TASKS]
-    requires { ⌜ (set .count ≤ mostTasks) × (set .count ≤ count (now server)) ⌝ }
-    ensures { λ r. ⌜ r ≡ filled (2 * mostTasks) (placedFigures (set .tasks) (now (server .entry))) (set .count) ⌝ }
+pub fn placed_values(set: TaskSet, placement: &[u64]) -> [u64; 2 * TaskSet::MOST_TASKS]
+    requires { ⌜ (set .count ≤ mostTasks) × (set .count ≤ count (now placement)) ⌝ }
+    ensures { λ r. ⌜ r ≡ filled (2 * mostTasks) (placedFigures (set .tasks) (now (placement .entry))) (set .count) ⌝ }
 {
     let mut values = [0; 2 * TaskSet::MOST_TASKS];
     let n = set.count;
     let mut i = 0;
     while i < n {
         let task = set.tasks[i];
-        let figures = [task.id as u64, server[i]];
+        let figures = [task.id as u64, placement[i]];
         put_figures(&mut values, 2 * i, &figures);
         i += 1;
     }
     values
 }
 
-// The figures of the 14 lines, by processor.
-pub fn processor_values(
-    first: &[u64],
-    duration: &[u64],
-    n: usize,
-) -> [u64; 3 * TaskSet::MOST_PROCESSORS as usize]
-    requires { ⌜ (n ≤ mostProcessors) × (n ≤ count (now first)) × (n ≤ count (now duration)) ⌝ }
-    ensures { λ r. ⌜ r ≡ filled (3 * mostProcessors) (processorFigures (now (first .entry)) (now (duration .entry))) n ⌝ }
+// The figures of the 14 lines of the first processors.
+pub fn processor_values(plan: Plan, n: usize) -> [u64; 3 * TaskSet::MOST_PROCESSORS as usize]
+    requires { ⌜ n ≤ mostProcessors ⌝ }
+    ensures { λ r. ⌜ r ≡ filled (3 * mostProcessors) (processorFigures (plan .first)) n ⌝ }
 {
     let mut values = [0; 3 * TaskSet::MOST_PROCESSORS as usize];
     let mut i = 0;
     while i < n {
-        let figures = [i as u64 + 1, first[i], duration[i]];
+        let first = plan.first[i];
+        let figures = [i as u64 + 1, first.server, first.left];
         put_figures(&mut values, 3 * i, &figures);
         i += 1;
     }

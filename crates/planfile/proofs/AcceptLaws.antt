@@ -20,16 +20,16 @@ use Rattle.servers.specs.Reserve.{reservesOf}
 use Rattle.servers.proofs.ReserveLaws.{reserves-count}
 use Rattle.servers.proofs.Claims.{servers-few}
 use Rattle.plan.specs.declared.plan.Plan.{Plan}
-use Rattle.plan.specs.declared.planner.PlanAnswer.{PlanAnswer}
+use Rattle.planner.specs.declared.PlanAnswer.{PlanAnswer}
 use Rattle.rows.specs.Charge.{loadOf, loadsOfSet, lossOf}
 use Rattle.rows.specs.Rows.{RowsClear}
-use Rattle.plan.specs.Plan.{planMade, laidOut, setReserves}
+use Rattle.plan.specs.Plan.{planMade, planWith, laidOut, reservesWith, setPlacement}
 use Rattle.plancheck.specs.Agrees.{makes}
-use Rattle.plan.specs.Planner.{Clear, planOutcome, planOf, needed, fullRow}
+use Rattle.planner.specs.Planner.{Clear, planOutcome, planOf, needed, fullRow}
 use Rattle.plancheck.proofs.AgreeLaws.{agree-same, agree-self}
 use Rattle.plancheck.proofs.Checked.{makes-done, makes-agrees}
 use Rattle.rows.proofs.Clears.{charged-clear}
-use Rattle.plan.proofs.Made.{plan-outcome, plan-is, outcome-clear, made-needs}
+use Rattle.planner.proofs.Made.{plan-outcome, plan-is, outcome-clear, made-needs}
 use Rattle.plantext.specs.Fit.{CountsFit}
 
 module _ (set : TaskSet) (done : planOutcome set ≡ Done) where
@@ -54,7 +54,7 @@ module _ (set : TaskSet) (done : planOutcome set ≡ Done) where
   loads-few = omega (arith, length-map (members set) (loadOf (set .header)), length-take (set .count) (set .tasks), min-le-left (set .count) (length (set .tasks)), tasks-few)
 
   pub servers-few-made : planMade set .servers ≤ mostTasks
-  unfolding planMade laidOut setReserves
+  unfolding planMade planWith laidOut reservesWith setPlacement reservesOf
   servers-few-made =
       let S = set .header .slot in
       let L = lossOf (set .header) in

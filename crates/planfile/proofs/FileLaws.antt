@@ -11,8 +11,8 @@ use Rattle.refusals.specs.declared.Outcome.the-variants.{Done, Refused}
 use Rattle.tasks.specs.declared.set.TaskSet.{TaskSet}
 use Rattle.taskread.specs.declared.read.ReadAnswer.{ReadAnswer}
 use Rattle.taskread.specs.Read.{readOf}
-use Rattle.plan.specs.declared.planner.PlanAnswer.{PlanAnswer}
-use Rattle.plan.specs.Planner.{planOf}
+use Rattle.planner.specs.declared.PlanAnswer.{PlanAnswer}
+use Rattle.planner.specs.Planner.{planOf}
 use Rattle.plancheck.specs.Agrees.{makes}
 use Rattle.planfile.specs.declared.file.FileAnswer.{FileAnswer}
 use Rattle.planfile.specs.File.{unless, refusedFile, plannedSet, filedOf}

@@ -9,9 +9,9 @@ use Rattle.tasks.specs.declared.set.TaskSet.{TaskSet}
 use Rattle.taskread.specs.declared.read.ReadAnswer.{ReadAnswer}
 use Rattle.tasks.specs.Set.{zeroSet}
 use Rattle.taskread.specs.Read.{readOf}
-use Rattle.plan.specs.declared.planner.PlanAnswer.{PlanAnswer}
+use Rattle.planner.specs.declared.PlanAnswer.{PlanAnswer}
 use Rattle.plan.specs.Plan.{zeroPlan}
-use Rattle.plan.specs.Planner.{planOf}
+use Rattle.planner.specs.Planner.{planOf}
 use Rattle.planfile.specs.declared.file.FileAnswer.{FileAnswer}
 
 -- what a refusal makes of it, unless the outcome is done

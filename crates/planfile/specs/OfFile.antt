@@ -3,9 +3,10 @@
 use Prim.Native.Nat.{ℕ}
 use mathlib.Core.List.{List}
 use Rattle.ring.specs.declared.clock.Tick.{Tick}
-use Rattle.questions.specs.declared.question.WhoAnswer.{WhoAnswer}
-use Rattle.questions.specs.declared.question.PassAnswer.{PassAnswer}
-use Rattle.questions.specs.Question.{whoRuns, doesPass, refusedWho, refusedPass}
+use Rattle.whoruns.specs.declared.WhoAnswer.{WhoAnswer}
+use Rattle.doespass.specs.declared.PassAnswer.{PassAnswer}
+use Rattle.whoruns.specs.WhoRuns.{whoRuns, refusedWho}
+use Rattle.doespass.specs.DoesPass.{doesPass, refusedPass}
 use Rattle.planfile.specs.declared.file.FileAnswer.{FileAnswer}
 use Rattle.planfile.specs.File.{unless, filedOf}
 

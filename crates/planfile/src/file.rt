@@ -1,7 +1,7 @@
 // A task file taken to its set and its plan, or to its refusal: what the tool prints and what both questions are asked of.
 // What it means stands in specs/File.antt. A set is planned once.
 use plan::plan::Plan;
-use plan::planner::make;
+use planner::make;
 use refusals::Outcome;
 use refusals::Refusal;
 use taskread::read::read;

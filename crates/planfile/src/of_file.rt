@@ -1,14 +1,14 @@
 // The two questions of a task file. A file that is refused, or whose plan is, refuses the question as it was refused.
 // What is answered stands in specs/OfFile.antt.
 use crate::file::filed;
-use questions::question::PassAnswer;
-use questions::question::WhoAnswer;
-use questions::question::pass_made;
-use questions::question::refused_pass;
-use questions::question::refused_who;
-use questions::question::who_made;
+use doespass::PassAnswer;
+use doespass::pass_made;
+use doespass::refused_pass;
 use refusals::Outcome;
 use ring::clock::Tick;
+use whoruns::WhoAnswer;
+use whoruns::refused_who;
+use whoruns::who_made;
 ghost use mathlib.Core.Path.{_≡_};
 ghost use Rattle.planfile.specs.OfFile.{whoIn, passIn};
 

@@ -32,11 +32,11 @@ use Rattle.ring_claims.proofs.OwnLaws.{whole-at}
 use Rattle.plan.specs.declared.plan.Plan.{Plan}
 use Rattle.rows.specs.Charge.{loadsOfSet}
 use Rattle.plan.specs.Plan.{planMade, laidOut, setPlacement, setReserves, ringStart}
-use Rattle.plan.specs.Planner.{Clear}
+use Rattle.planner.specs.Planner.{Clear}
 use Rattle.plancheck.specs.Agrees.{makes, SamePlan}
 use Rattle.plancheck.proofs.AgreeLaws.{agree-same}
 use Rattle.plancheck.proofs.Checked.{OfSet, of-set, makes-agrees}
-use Rattle.plan.proofs.Made.{set-count, slot-some, few-loads}
+use Rattle.planner.proofs.Made.{set-count, slot-some, few-loads}
 use Rattle.plan_claims.proofs.Claims.{plan-checked}
 use Rattle.places.proofs.PaddedLaws.{up-length, up-at}
 use Rattle.plantext.specs.Fit.{CountsFit}

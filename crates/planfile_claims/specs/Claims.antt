@@ -16,8 +16,8 @@ use Rattle.frames.specs.Table.{widthOf}
 use Rattle.frames.specs.declared.table.Frame.{Frame}
 use Rattle.refusals.specs.Leaves.{leaves}
 use Rattle.plan.specs.declared.plan.Plan.{Plan}
-use Rattle.questions.specs.declared.question.WhoAnswer.{WhoAnswer}
-use Rattle.questions.specs.declared.question.PassAnswer.{PassAnswer}
+use Rattle.whoruns.specs.declared.WhoAnswer.{WhoAnswer}
+use Rattle.doespass.specs.declared.PassAnswer.{PassAnswer}
 use Rattle.plancheck.specs.Agrees.{makes}
 use Rattle.taskread.specs.Read.{furthest}
 use Rattle.plantext.specs.Text.{planText, longestText}

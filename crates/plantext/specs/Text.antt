@@ -21,13 +21,13 @@ unfoldable pub planLine : Plan → List ℕ
 planLine plan = lineOf Frame.Plan (planFigures plan)
 
 unfoldable pub serverLine : Plan → ℕ → List ℕ
-serverLine plan q = lineOf Frame.Server (serverFigures (plan .reserve) (plan .start) (plan .tasks) (plan .slot) q)
+serverLine plan q = lineOf Frame.Server (serverFigures (plan .server) (plan .slot) q)
 
 unfoldable pub placedLine : TaskSet → Plan → ℕ → List ℕ
-placedLine set plan k = lineOf Frame.Placed (placedFigures (set .tasks) (plan .server) k)
+placedLine set plan k = lineOf Frame.Placed (placedFigures (set .tasks) (plan .placement) k)
 
 unfoldable pub processorLine : Plan → ℕ → List ℕ
-processorLine plan p = lineOf Frame.Processor (processorFigures (plan .first) (plan .duration) p)
+processorLine plan p = lineOf Frame.Processor (processorFigures (plan .first) p)
 
 unfoldable pub planText : TaskSet → Plan → List ℕ
 planText set plan =

@@ -25,10 +25,7 @@ fn put_servers(out: &mut [u8], at: usize, plan: Plan)
     ensures { λ r. ⌜ now (out .exit) ≡ stored (now (out .entry)) at (joined (serverLine plan) (plan .servers)) ⌝ }
 {
     let n = plan.servers as usize;
-    let reserve = plan.reserve;
-    let start = plan.start;
-    let tasks = plan.tasks;
-    let values = server_values(&reserve, &start, &tasks, n, plan.slot);
+    let values = server_values(plan);
     put_lines(out, at, Frame::Server, &values, n);
 }
 
@@ -37,8 +34,8 @@ fn put_tasks(out: &mut [u8], at: usize, set: TaskSet, plan: Plan)
     requires { ⌜ (set .count ≤ mostTasks) × (at + set .count * (lengthOf Frame.Placed + 1) ≤ bytes (now out)) ⌝ }
     ensures { λ r. ⌜ now (out .exit) ≡ stored (now (out .entry)) at (joined (placedLine set plan) (set .count)) ⌝ }
 {
-    let server = plan.server;
-    let values = placed_values(set, &server);
+    let placement = plan.placement;
+    let values = placed_values(set, &placement);
     put_lines(out, at, Frame::Placed, &values, set.count);
 }
 
@@ -47,9 +44,7 @@ fn put_processors(out: &mut [u8], at: usize, plan: Plan, n: usize)
     requires { ⌜ (n ≤ mostProcessors) × (at + n * (lengthOf Frame.Processor + 1) ≤ bytes (now out)) ⌝ }
     ensures { λ r. ⌜ now (out .exit) ≡ stored (now (out .entry)) at (joined (processorLine plan) n) ⌝ }
 {
-    let first = plan.first;
-    let duration = plan.duration;
-    let values = processor_values(&first, &duration, n);
+    let values = processor_values(plan, n);
     put_lines(out, at, Frame::Processor, &values, n);
 }
 

@@ -24,10 +24,10 @@ use Rattle.tasks.specs.declared.set.TaskSet.{TaskSet}
 use Rattle.taskask.proofs.Carried.{count-within, ask-count}
 use Rattle.rows.specs.Charge.{loadsOfSet}
 use Rattle.plan.specs.Plan.{setPlacement, setReserves}
-use Rattle.plan.specs.Planner.{Clear}
+use Rattle.planner.specs.Planner.{Clear}
 use Rattle.rows.specs.Rows.{RowsClear}
 use Rattle.rows.proofs.Clears.{board-slot, charged-clear, loads-sound}
-use Rattle.plan.proofs.Made.{plan-outcome, outcome-clear}
+use Rattle.planner.proofs.Made.{plan-outcome, outcome-clear}
 use Rattle.promises.specs.Accepted.{Accepted, slotOf, entryLossOf, serverLoads, IsServer}
 
 module _ (set : TaskSet) (ok : Accepted set) where

@@ -10,7 +10,7 @@ use Rattle.demand.proofs.Claims.{fake-differs}
 use Rattle.tasks_claims.proofs.Examples.{bytesOf}
 use Rattle.taskread.specs.Read.{readOf}
 use Rattle.rows.specs.Rows.{horizonOf}
-use Rattle.plan.specs.Planner.{planOf}
+use Rattle.planner.specs.Planner.{planOf}
 use Rattle.planfile.specs.Tool.{answered}
 use Rattle.promises.proofs.Examples.{Example, examples, answerOf, examples-answered}
 use Rattle.promises.proofs.Horizons.{fileJ, fileK, J-taken, K-refused}

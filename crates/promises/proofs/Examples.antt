@@ -9,8 +9,8 @@ use Rattle.verdict.specs.declared.answer.Reading.{Reading}
 use Rattle.verdict.specs.declared.answer.Verdict.the-variants.{No}
 use Rattle.ring.specs.declared.clock.Tick.{Tick}
 use Rattle.tasks_claims.proofs.Examples.{bytesOf}
-use Rattle.questions.specs.declared.question.WhoAnswer.{WhoAnswer}
-use Rattle.questions.specs.declared.question.PassAnswer.{PassAnswer}
+use Rattle.whoruns.specs.declared.WhoAnswer.{WhoAnswer}
+use Rattle.doespass.specs.declared.PassAnswer.{PassAnswer}
 use Rattle.digits.specs.Digit.{legal, valueOf, digitOf, allLegal}
 use Rattle.digits.specs.Number.{numberFrom, hex}
 use Rattle.frames.specs.Table.{kindOf, widthsOf, sum}
@@ -49,8 +49,9 @@ use Rattle.rows.specs.Rows.{slotRow, tightRow, horizonOf, horizonRow, chargedOu
 use Rattle.places.specs.Padded.{upTo}
 use Rattle.plan.specs.Plan.{laidOut, setPlacement, setReserves, planMade}
 use Rattle.plancheck.specs.Agrees.{sameFigures, sameServers, sameProcessors, agrees, makes}
-use Rattle.plan.specs.Planner.{needed, fullRow, planOutcome, planOf}
-use Rattle.questions.specs.Question.{allowed, isProcessor, isServer, whoRuns, doesPass}
+use Rattle.planner.specs.Planner.{needed, fullRow, planOutcome, planOf}
+use Rattle.whoruns.specs.WhoRuns.{isProcessor, whoRuns}
+use Rattle.doespass.specs.DoesPass.{allowed, isServer, doesPass}
 use Rattle.planfigures.specs.Figures.{serverFigures, placedFigures, processorFigures}
 use Rattle.plantext.specs.Text.{planLine, serverLine, placedLine, processorLine, planText, refusalText}
 use Rattle.planfile.specs.File.{plannedSet, filedOf}

@@ -12,9 +12,9 @@ use Rattle.tasks.specs.declared.set.TaskSet.{TaskSet}
 use Rattle.taskread.specs.declared.read.ReadAnswer.{ReadAnswer}
 use Rattle.refusals.specs.First.{when, till}
 use Rattle.tasks_claims.proofs.Examples.{bytesOf}
-use Rattle.plan.specs.declared.planner.PlanAnswer.{PlanAnswer}
-use Rattle.plan.specs.Planner.{planOf, planOutcome, fullRow, needed}
-use Rattle.plan.proofs.Made.{plan-outcome, plan-charged}
+use Rattle.planner.specs.declared.PlanAnswer.{PlanAnswer}
+use Rattle.planner.specs.Planner.{planOf, planOutcome, fullRow, needed}
+use Rattle.planner.proofs.Made.{plan-outcome, plan-charged}
 use Rattle.digits.specs.Digit.{legal, valueOf, digitOf, allLegal}
 use Rattle.digits.specs.Number.{numberFrom, hex}
 use Rattle.frames.specs.Table.{kindOf, widthsOf, sum}

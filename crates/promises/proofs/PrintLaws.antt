@@ -18,7 +18,7 @@ use Rattle.tasks.specs.declared.set.TaskSet.{TaskSet}
 use Rattle.plan.specs.declared.plan.Plan.{Plan}
 use Rattle.plan.specs.Plan.{ringStart, laidOut, setReserves, planMade}
 use Rattle.plancheck.specs.Agrees.{makes, SamePlan}
-use Rattle.plan.proofs.Made.{plan-outcome}
+use Rattle.planner.proofs.Made.{plan-outcome}
 use Rattle.plancheck.proofs.Checked.{OfSet, of-set, same-made, makes-done}
 use Rattle.promises.specs.Accepted.{PrintsRota, slotOf}
 use Rattle.promises.specs.Promises.{PlanIsRota}

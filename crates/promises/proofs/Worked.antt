@@ -31,7 +31,7 @@ use Rattle.taskrows.specs.Rows.{boardRow, rangeRow, figuresOutcome}
 use Rattle.rows.specs.Charge.{loadOf, loadsOfSet, lossOf}
 use Rattle.rows.specs.Rows.{slotRow, tightRow, horizonOf, horizonRow, chargedOutcome}
 use Rattle.plan.specs.Plan.{setReserves}
-use Rattle.plan.specs.Planner.{needed, fullRow, planOutcome, planOf}
+use Rattle.planner.specs.Planner.{needed, fullRow, planOutcome, planOf}
 use Rattle.promises.specs.Accepted.{Accepted}
 
 abbrev task : (id C : ℕ) → Task

@@ -14,7 +14,7 @@ use Rattle.ring_claims.specs.Serves.{RingServer}
 use Rattle.plan.specs.declared.plan.Plan.{Plan}
 use Rattle.rows.specs.Charge.{loadsOfSet, lossOf}
 use Rattle.plan.specs.Plan.{setPlacement, setReserves}
-use Rattle.plan.specs.Planner.{planOf}
+use Rattle.planner.specs.Planner.{planOf}
 
 -- the planner gives this set a plan
 abbrev pub Accepted : TaskSet → Type 0

@@ -1,4 +1,4 @@
--- `check::makes_plan` meets its contract: the planner's own plan is made and compared.
+-- `makes_plan` meets its contract: the planner's own plan is made and compared.
 -- Assumes nothing.
 use borrow.Author.Needs.{needs}
 use mathlib.Core.Path.{_≡_, sym, ap, _∙_}
@@ -7,11 +7,11 @@ use native.Mathlib.Omega.{arith}
 use Rattle.tasks.specs.Set.{mostTasks}
 use Rattle.refusals.specs.declared.Outcome.the-variants.{Done}
 use Rattle.plan.specs.declared.plan.Plan.{Plan}
-use Rattle.plan.specs.declared.planner.PlanAnswer.{PlanAnswer}
+use Rattle.planner.specs.declared.PlanAnswer.{PlanAnswer}
 use Rattle.plan.specs.Plan.{planMade}
-use Rattle.plan.specs.Planner.{planOutcome}
-use Rattle.plan.proofs.Made.{count-most, made-servers, needed-few, made-sum, plan-outcome, plan-is, outcome-clear}
-use Rattle.plancheck.proofs.Checked.{makes-refused, makes-by}
+use Rattle.planner.specs.Planner.{planOutcome}
+use Rattle.planner.proofs.Made.{count-most, plan-outcome, plan-is, outcome-clear}
+use Rattle.plancheck.proofs.Checked.{makes-refused, makes-by, made-room}
 use Rattle.plancheck.proofs.makes_plan.Statement.{statement}
 use Rattle.plancheck.proofs.makes_plan.Tie as tie
 
@@ -42,11 +42,8 @@ returns c = makes-refused _ _ (sym (ap (λ (a : PlanAnswer). a .outcome) (c .bef
 agree-requires : tie.Need-agree-requires
 agree-requires c κs =
     let s = c .before .before .before in
-    let clear = outcome-clear (s .args .set) (done c) .0 in (
-      omega (arith, count-most (s .args .set) (full s) clear),
-      omega (arith, ap (λ (p : Plan). p .servers) (made c), made-servers (s .args .set) (full s) clear),
-      omega (arith, made-sum (s .args .set) (made c), needed-few (s .args .set) (full s) clear),
-    )
+    let clear = outcome-clear (s .args .set) (done c) .0 in
+    (count-most (s .args .set) (full s) clear, rw (made c) (made-room (s .args .set) (full s) (s .args .plan) clear))
 
 returns-2 : tie.Need-returns-2
 returns-2 c = makes-by (c .before .before .before .before .args .set) (c .before .before .before .before .args .plan) (done (c .before)) (made (c .before)) (c .agree .ensures)

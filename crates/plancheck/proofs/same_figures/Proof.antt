@@ -1,4 +1,4 @@
--- `check::same_figures` meets its contract: the tests are the definition's, in order.
+-- `same_figures` meets its contract: the tests are the definition's, in order.
 -- Assumes nothing.
 use borrow.Author.Tests.{eq-eqb, ne-eqb}
 use Rattle.plancheck.specs.Agrees.{sameFigures}

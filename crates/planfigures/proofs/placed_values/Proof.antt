@@ -13,10 +13,10 @@ use Rattle.planfigures.proofs.placed_values.Statement.{statement}
 use Rattle.planfigures.proofs.placed_values.Tie as tie
 
 abbrev Inv-loop : tie.InvT-loop
-Inv-loop server set values₀ n i₀ values i = Filled (placedFigures (set .tasks) server) (2 * mostTasks) n values i
+Inv-loop placement set values₀ n i₀ values i = Filled (placedFigures (set .tasks) placement) (2 * mostTasks) n values i
 
 abbrev μ-loop : tie.MeasureT-loop
-μ-loop server set values₀ n i₀ values i = n - i
+μ-loop placement set values₀ n i₀ values i = n - i
 
 loop-holds : tie.Need-loop-holds Inv-loop μ-loop
 loop-holds c = filled-none _ _ _
@@ -58,13 +58,13 @@ loop-again : tie.Need-loop-again Inv-loop μ-loop
 loop-again c =
     let turn = c .before .before .before .before .before .before .before in
     let a = turn .before .before .before .args in
-    filled-next (placedFigures (a .t1 .tasks) (a .server .now)) 2 (placed-each (a .t1 .tasks) (a .server .now)) (omega arith) (turn .before .loop .inv) (turn .loop-test .taken)
-    (c .before .put-figures .ensures ∙ ap (stored (turn .before .loop .values) (2 * turn .before .loop .i)) (placed-at (a .t1 .tasks) (a .server .now) (turn .before .loop .i))) (c .before .put-figures .kept .0)
+    filled-next (placedFigures (a .t1 .tasks) (a .placement .now)) 2 (placed-each (a .t1 .tasks) (a .placement .now)) (omega arith) (turn .before .loop .inv) (turn .loop-test .taken)
+    (c .before .put-figures .ensures ∙ ap (stored (turn .before .loop .values) (2 * turn .before .loop .i)) (placed-at (a .t1 .tasks) (a .placement .now) (turn .before .loop .i))) (c .before .put-figures .kept .0)
 
 returns : tie.Need-returns Inv-loop μ-loop
 returns c =
     let a = c .before .before .before .args in
-    filled-all (placedFigures (a .t1 .tasks) (a .server .now)) 2 (placed-each (a .t1 .tasks) (a .server .now)) (omega arith) (c .before .loop .inv) (c .loop-test .left)
+    filled-all (placedFigures (a .t1 .tasks) (a .placement .now)) 2 (placed-each (a .t1 .tasks) (a .placement .now)) (omega arith) (c .before .loop .inv) (c .loop-test .left)
 
 pub placed-values-spec : {M : Type 1} → statement M
 placed-values-spec =

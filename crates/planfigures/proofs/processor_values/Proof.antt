@@ -13,28 +13,22 @@ use Rattle.planfigures.proofs.processor_values.Statement.{statement}
 use Rattle.planfigures.proofs.processor_values.Tie as tie
 
 abbrev Inv-loop : tie.InvT-loop
-Inv-loop first duration n values₀ i₀ values i = Filled (processorFigures first duration) (3 * mostProcessors) n values i
+Inv-loop n plan values₀ i₀ values i = Filled (processorFigures (plan .first)) (3 * mostProcessors) n values i
 
 abbrev μ-loop : tie.MeasureT-loop
-μ-loop first duration n values₀ i₀ values i = n - i
+μ-loop n plan values₀ i₀ values i = n - i
 
 loop-holds : tie.Need-loop-holds Inv-loop μ-loop
 loop-holds c = filled-none _ _ _
 
-add-t9 : tie.Need-add-t9 Inv-loop μ-loop
-add-t9 c = omega arith
+mul-first : tie.Need-mul-first Inv-loop μ-loop
+mul-first c = search needs
 
-mul-t10 : tie.Need-mul-t10 Inv-loop μ-loop
-mul-t10 c = search needs
+element-copy-out-first : tie.Need-element-copy-out-first Inv-loop μ-loop
+element-copy-out-first c = omega arith
 
-shared-slice-read-t12 : tie.Need-shared-slice-read-t12 Inv-loop μ-loop
-shared-slice-read-t12 c = omega arith
-
-mul-t13 : tie.Need-mul-t13 Inv-loop μ-loop
-mul-t13 c = search needs
-
-shared-slice-read-t15 : tie.Need-shared-slice-read-t15 Inv-loop μ-loop
-shared-slice-read-t15 c = omega arith
+add-t14 : tie.Need-add-t14 Inv-loop μ-loop
+add-t14 c = omega arith
 
 slice-aggregate-put-figures : tie.Need-slice-aggregate-put-figures Inv-loop μ-loop
 slice-aggregate-put-figures c = search needs
@@ -46,7 +40,7 @@ slice-aggregate-put-figures-2 : tie.Need-slice-aggregate-put-figures-2 Inv-loop 
 slice-aggregate-put-figures-2 c = search needs
 
 put-figures-requires : tie.Need-put-figures-requires Inv-loop μ-loop
-put-figures-requires c κs = omega (arith, c .before .before .before .before .before .loop .inv .same)
+put-figures-requires c κs = omega (arith, c .before .before .before .before .loop .inv .same)
 
 add-i : tie.Need-add-i Inv-loop μ-loop
 add-i c = omega arith
@@ -56,15 +50,15 @@ loop-less c = omega arith
 
 loop-again : tie.Need-loop-again Inv-loop μ-loop
 loop-again c =
-    let turn = c .before .before .before .before .before .before in
-    let a = turn .before .before .before .before .args in
-    filled-next (processorFigures (a .first .now) (a .duration .now)) 3 (processor-each (a .first .now) (a .duration .now)) (omega arith) (turn .before .loop .inv) (turn .loop-test .taken)
-    (c .before .put-figures .ensures ∙ ap (stored (turn .before .loop .values) (3 * turn .before .loop .i)) (processor-at (a .first .now) (a .duration .now) (turn .before .loop .i))) (c .before .put-figures .kept .0)
+    let turn = c .before .before .before .before .before in
+    let a = turn .before .before .args in
+    filled-next (processorFigures (a .t1 .first)) 3 (processor-each (a .t1 .first)) (omega arith) (turn .before .loop .inv) (turn .loop-test .taken)
+    (c .before .put-figures .ensures ∙ ap (stored (turn .before .loop .values) (3 * turn .before .loop .i)) (processor-at (a .t1 .first) (turn .before .loop .i))) (c .before .put-figures .kept .0)
 
 returns : tie.Need-returns Inv-loop μ-loop
 returns c =
-    let a = c .before .before .before .before .args in
-    filled-all (processorFigures (a .first .now) (a .duration .now)) 3 (processor-each (a .first .now) (a .duration .now)) (omega arith) (c .before .loop .inv) (c .loop-test .left)
+    let a = c .before .before .args in
+    filled-all (processorFigures (a .t1 .first)) 3 (processor-each (a .t1 .first)) (omega arith) (c .before .loop .inv) (c .loop-test .left)
 
 pub processor-values-spec : {M : Type 1} → statement M
 processor-values-spec =
@@ -73,11 +67,9 @@ processor-values-spec =
     Inv-loop
     μ-loop
     loop-holds
-    add-t9
-    mul-t10
-    shared-slice-read-t12
-    mul-t13
-    shared-slice-read-t15
+    mul-first
+    element-copy-out-first
+    add-t14
     slice-aggregate-put-figures
     mul-put-figures
     slice-aggregate-put-figures-2

@@ -13,43 +13,25 @@ use Rattle.planfigures.proofs.server_values.Statement.{statement}
 use Rattle.planfigures.proofs.server_values.Tie as tie
 
 abbrev Inv-loop : tie.InvT-loop
-Inv-loop reserve start tasks n slot values₀ i₀ values i = Filled (serverFigures reserve start tasks slot) (4 * mostTasks) n values i
+Inv-loop plan values₀ n slot i₀ values i = Filled (serverFigures (plan .server) slot) (4 * mostTasks) n values i
 
 abbrev μ-loop : tie.MeasureT-loop
-μ-loop reserve start tasks n slot values₀ i₀ values i = n - i
+μ-loop plan values₀ n slot i₀ values i = n - i
 
 loop-holds : tie.Need-loop-holds Inv-loop μ-loop
 loop-holds c = filled-none _ _ _
 
-mul-start-or-mark : tie.Need-mul-start-or-mark Inv-loop μ-loop
-mul-start-or-mark c = search needs
+mul-server : tie.Need-mul-server Inv-loop μ-loop
+mul-server c = search needs
 
-shared-slice-read-start-or-mark : tie.Need-shared-slice-read-start-or-mark Inv-loop μ-loop
-shared-slice-read-start-or-mark c = omega arith
-
-mul-start-or-mark-2 : tie.Need-mul-start-or-mark-2 Inv-loop μ-loop
-mul-start-or-mark-2 c = search needs
-
-shared-slice-read-start-or-mark-2 : tie.Need-shared-slice-read-start-or-mark-2 Inv-loop μ-loop
-shared-slice-read-start-or-mark-2 c = omega arith
+element-copy-out-server : tie.Need-element-copy-out-server Inv-loop μ-loop
+element-copy-out-server c = omega arith
 
 start-or-mark-requires : tie.Need-start-or-mark-requires Inv-loop μ-loop
 start-or-mark-requires c κs = search needs
 
-add-t16 : tie.Need-add-t16 Inv-loop μ-loop
-add-t16 c = omega arith
-
-mul-t11 : tie.Need-mul-t11 Inv-loop μ-loop
-mul-t11 c = search needs
-
-shared-slice-read-t18 : tie.Need-shared-slice-read-t18 Inv-loop μ-loop
-shared-slice-read-t18 c = omega arith
-
-mul-t14 : tie.Need-mul-t14 Inv-loop μ-loop
-mul-t14 c = search needs
-
-shared-slice-read-t20 : tie.Need-shared-slice-read-t20 Inv-loop μ-loop
-shared-slice-read-t20 c = omega arith
+add-t17 : tie.Need-add-t17 Inv-loop μ-loop
+add-t17 c = omega arith
 
 slice-aggregate-put-figures : tie.Need-slice-aggregate-put-figures Inv-loop μ-loop
 slice-aggregate-put-figures c = search needs
@@ -61,7 +43,7 @@ slice-aggregate-put-figures-2 : tie.Need-slice-aggregate-put-figures-2 Inv-loop 
 slice-aggregate-put-figures-2 c = search needs
 
 put-figures-requires : tie.Need-put-figures-requires Inv-loop μ-loop
-put-figures-requires c κs = omega (arith, c .before .before .before .before .before .before .before .before .loop .inv .same)
+put-figures-requires c κs = omega (arith, c .before .before .before .before .before .loop .inv .same)
 
 add-i : tie.Need-add-i Inv-loop μ-loop
 add-i c = omega arith
@@ -71,15 +53,15 @@ loop-less c = omega arith
 
 loop-again : tie.Need-loop-again Inv-loop μ-loop
 loop-again c =
-    let turn = c .before .before .before .before .before .before .before .before .before in
-    let a = turn .before .before .before .before .before .args in
-    filled-next (serverFigures (a .reserve .now) (a .start .now) (a .tasks .now) (a .slot)) 4 (server-each (a .reserve .now) (a .start .now) (a .tasks .now) (a .slot)) (omega arith) (turn .before .loop .inv) (turn .loop-test .taken)
-    (c .before .put-figures .ensures ∙ ap (stored (turn .before .loop .values) (4 * turn .before .loop .i)) (server-at (a .reserve .now) (a .start .now) (a .tasks .now) (a .slot) (turn .before .loop .i) (c .before .before .before .before .before .before .start-or-mark .ensures))) (c .before .put-figures .kept .0)
+    let turn = c .before .before .before .before .before .before in
+    let a = turn .before .before .args in
+    filled-next (serverFigures (a .t1 .server) (a .t1 .slot)) 4 (server-each (a .t1 .server) (a .t1 .slot)) (omega arith) (turn .before .loop .inv) (turn .loop-test .taken)
+    (c .before .put-figures .ensures ∙ ap (stored (turn .before .loop .values) (4 * turn .before .loop .i)) (server-at (a .t1 .server) (a .t1 .slot) (turn .before .loop .i) (c .before .before .before .before .start-or-mark .ensures))) (c .before .put-figures .kept .0)
 
 returns : tie.Need-returns Inv-loop μ-loop
 returns c =
-    let a = c .before .before .before .before .before .args in
-    filled-all (serverFigures (a .reserve .now) (a .start .now) (a .tasks .now) (a .slot)) 4 (server-each (a .reserve .now) (a .start .now) (a .tasks .now) (a .slot)) (omega arith) (c .before .loop .inv) (c .loop-test .left)
+    let a = c .before .before .args in
+    filled-all (serverFigures (a .t1 .server) (a .t1 .slot)) 4 (server-each (a .t1 .server) (a .t1 .slot)) (omega arith) (c .before .loop .inv) (c .loop-test .left)
 
 pub server-values-spec : {M : Type 1} → statement M
 server-values-spec =
@@ -88,16 +70,10 @@ server-values-spec =
     Inv-loop
     μ-loop
     loop-holds
-    mul-start-or-mark
-    shared-slice-read-start-or-mark
-    mul-start-or-mark-2
-    shared-slice-read-start-or-mark-2
+    mul-server
+    element-copy-out-server
     start-or-mark-requires
-    add-t16
-    mul-t11
-    shared-slice-read-t18
-    mul-t14
-    shared-slice-read-t20
+    add-t17
     slice-aggregate-put-figures
     mul-put-figures
     slice-aggregate-put-figures-2

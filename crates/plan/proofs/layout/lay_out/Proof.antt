@@ -2,9 +2,16 @@
 -- are the layout. Assumes nothing.
 use borrow.Author.Needs.{needs}
 use native.Mathlib.Omega.{arith}
+use mathlib.Core.Path.{_≡_, sym, _∙_}
+use lib.ListN.{length, length-map}
+use Rattle.tasks.specs.Set.{mostTasks}
 use Rattle.plan.proofs.Layouts.{ring-fits, ring-covers, sum-few, laid-made}
 use Rattle.plan.proofs.layout.lay_out.Statement.{statement}
 use Rattle.plan.proofs.layout.lay_out.Tie as tie
+
+-- the placement has a place for each task
+full : (c : tie.Start) → length (c .args .served .server) ≡ mostTasks
+full c = sym (length-map (c .args .served .server) _) ∙ c .good .0 .1 .1 .1 .0 .1 .0 .1
 
 slice-aggregate-whole-count : tie.Need-slice-aggregate-whole-count
 slice-aggregate-whole-count c = search needs
@@ -30,14 +37,16 @@ ring-ticks-requires c κs = search needs
 sub-idle : tie.Need-sub-idle
 sub-idle c = ring-covers (c .before .before .before .before .before .before .before .before .pre .laid) (c .before .before .ring-processors .ensures) (c .ring-ticks .ensures)
 
-slice-aggregate-starts : tie.Need-slice-aggregate-starts
-slice-aggregate-starts c = search needs
+slice-aggregate-records : tie.Need-slice-aggregate-records
+slice-aggregate-records c = search needs
 
-starts-requires : tie.Need-starts-requires
-starts-requires c κs = search needs
+slice-aggregate-records-2 : tie.Need-slice-aggregate-records-2
+slice-aggregate-records-2 c = search needs
 
-task-counts-requires : tie.Need-task-counts-requires
-task-counts-requires c κs = search needs
+records-requires : tie.Need-records-requires
+records-requires c κs =
+    let s = c .before .before .before .before .before .before .before .before .before .before in
+    ((omega (arith, full s, s .pre .tasks-few), s .pre .tasks-few), (s .pre .laid, s .pre .servers-few))
 
 slice-aggregate-first-reserves : tie.Need-slice-aggregate-first-reserves
 slice-aggregate-first-reserves c = search needs
@@ -54,8 +63,12 @@ first-reserves-requires c κs = (
 
 returns : tie.Need-returns
 returns c =
-    laid-made (c .before .before .before .before .before .before .before .before .before .before .before .before .before .before .before .pre) (c .before .before .before .before .before .before .before .before .before .before .before .whole-count .ensures) (c .before .before .before .before .before .before .before .before .before .ring-processors .ensures) (c .before .before .before .before .before .before .before .ring-ticks .ensures) (c .before .before .before .before .before .starts .ensures) (c .before .before .before .before .task-counts .ensures)
-    (c .before .before .first-reserves .ensures .0) (c .before .before .first-reserves .ensures .1)
+    let laid = c .before .before in
+    let ticks = laid .before .before .before in
+    let ring = ticks .before .before in
+    let whole = ring .before .before in
+    let s = whole .before .before .before .before in
+    laid-made (s .pre) (s .args .cache) (whole .whole-count .ensures) (ring .ring-processors .ensures) (ticks .ring-ticks .ensures) (laid .records .ensures) (c .first-reserves .ensures)
 
 pub lay-out-spec : {M : Type 1} → statement M
 lay-out-spec =
@@ -69,9 +82,9 @@ lay-out-spec =
     slice-aggregate-ring-ticks
     ring-ticks-requires
     sub-idle
-    slice-aggregate-starts
-    starts-requires
-    task-counts-requires
+    slice-aggregate-records
+    slice-aggregate-records-2
+    records-requires
     slice-aggregate-first-reserves
     add-first-reserves
     first-reserves-requires

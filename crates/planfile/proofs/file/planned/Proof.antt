@@ -2,7 +2,7 @@
 -- Assumes nothing.
 use mathlib.Core.Path.{_∙_}
 use Rattle.refusals.specs.declared.Outcome.the-variants.{Done}
-use Rattle.plan.specs.declared.planner.PlanAnswer.{PlanAnswer}
+use Rattle.planner.specs.declared.PlanAnswer.{PlanAnswer}
 use Rattle.planfile.specs.File.{refusedFile, plannedSet}
 use Rattle.planfile.proofs.FileLaws.{when-done, when-refused}
 use borrow.Author.Needs.{needs}

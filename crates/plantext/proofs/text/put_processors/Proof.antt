@@ -18,23 +18,8 @@ use borrow.Author.Needs.{needs}
 use Rattle.plantext.proofs.text.put_processors.Statement.{statement}
 use Rattle.plantext.proofs.text.put_processors.Tie as tie
 
--- the rows of a plan have their full length
-first-row : (s : tie.Start) → length (s .args .plan .first) ≡ 64
-first-row s = sym (length-map (s .args .plan .first) _) ∙ s .good .1 .1 .0 .1 .1 .1 .1 .1 .1 .1 .1 .1 .1 .1 .0 .1 .0 .1
-
-duration-row : (s : tie.Start) → length (s .args .plan .duration) ≡ 64
-duration-row s = sym (length-map (s .args .plan .duration) _) ∙ s .good .1 .1 .0 .1 .1 .1 .1 .1 .1 .1 .1 .1 .1 .1 .1 .0 .1 .0 .1
-
-slice-aggregate-processor-values : tie.Need-slice-aggregate-processor-values
-slice-aggregate-processor-values c = search needs
-
-slice-aggregate-processor-values-2 : tie.Need-slice-aggregate-processor-values-2
-slice-aggregate-processor-values-2 c = search needs
-
 processor-values-requires : tie.Need-processor-values-requires
-processor-values-requires c κs =
-    let s = c .before .before .before .before .before in
-    (s .pre .0, omega (arith, s .pre .0, first-row s), omega (arith, s .pre .0, duration-row s))
+processor-values-requires c κs = search needs
 
 slice-aggregate-put-lines : tie.Need-slice-aggregate-put-lines
 slice-aggregate-put-lines c = search needs
@@ -42,9 +27,9 @@ slice-aggregate-put-lines c = search needs
 put-lines-requires : tie.Need-put-lines-requires
 unfolding widthsOf
 put-lines-requires c κs =
-    let s = c .before .before .before .before .before .before .before .before in
+    let s = c .before .before .before .before in
     let a = s .args in
-    (omega (arith, s .pre .0, ap length (c .before .before .processor-values .ensures), filled-length (processorFigures (a .plan .first) (a .plan .duration)) 3 (processor-each (a .plan .first) (a .plan .duration)) (3 * mostProcessors) (a .n) (omega (arith, s .pre .0))), s .pre .1)
+    (omega (arith, s .pre .0, ap length (c .before .before .processor-values .ensures), filled-length (processorFigures (a .plan .first)) 3 (processor-each (a .plan .first)) (3 * mostProcessors) (a .n) (omega (arith, s .pre .0))), s .pre .1)
 
 same-length : tie.Need-same-length
 same-length c = search needs
@@ -52,16 +37,14 @@ same-length c = search needs
 returns : tie.Need-returns
 unfolding widthsOf processorLine
 returns c =
-    let a = c .before .before .before .before .before .before .before .before .before .before .before .args in
+    let a = c .before .before .before .before .before .before .before .args in
     c .before .before .put-lines .ensures ∙ ap (stored (a .out .now) (a .at))
-    (ap (λ (v : List ℕ). linesOf Frame.Processor v (a .n)) (c .before .before .before .before .before .processor-values .ensures) ∙ lines-filled Frame.Processor (processorFigures (a .plan .first) (a .plan .duration)) (processor-each (a .plan .first) (a .plan .duration)) (3 * mostProcessors) (a .n))
+    (ap (λ (v : List ℕ). linesOf Frame.Processor v (a .n)) (c .before .before .before .before .before .processor-values .ensures) ∙ lines-filled Frame.Processor (processorFigures (a .plan .first)) (processor-each (a .plan .first)) (3 * mostProcessors) (a .n))
 
 pub put-processors-spec : {M : Type 1} → statement M
 put-processors-spec =
     tie.close
     (tie.spec
-    slice-aggregate-processor-values
-    slice-aggregate-processor-values-2
     processor-values-requires
     slice-aggregate-put-lines
     put-lines-requires

@@ -18,29 +18,8 @@ use borrow.Author.Needs.{needs}
 use Rattle.plantext.proofs.text.put_servers.Statement.{statement}
 use Rattle.plantext.proofs.text.put_servers.Tie as tie
 
--- the rows of a plan have their full length
-reserve-row : (s : tie.Start) → length (s .args .plan .reserve) ≡ 64
-reserve-row s = sym (length-map (s .args .plan .reserve) _) ∙ s .good .1 .1 .0 .1 .1 .1 .1 .1 .1 .1 .0 .1 .0 .1
-
-start-row : (s : tie.Start) → length (s .args .plan .start) ≡ 64
-start-row s = sym (length-map (s .args .plan .start) _) ∙ s .good .1 .1 .0 .1 .1 .1 .1 .1 .1 .1 .1 .0 .1 .0 .1
-
-tasks-row : (s : tie.Start) → length (s .args .plan .tasks) ≡ 64
-tasks-row s = sym (length-map (s .args .plan .tasks) _) ∙ s .good .1 .1 .0 .1 .1 .1 .1 .1 .1 .1 .1 .1 .0 .1 .0 .1
-
-slice-aggregate-server-values : tie.Need-slice-aggregate-server-values
-slice-aggregate-server-values c = search needs
-
-slice-aggregate-server-values-2 : tie.Need-slice-aggregate-server-values-2
-slice-aggregate-server-values-2 c = search needs
-
-slice-aggregate-server-values-3 : tie.Need-slice-aggregate-server-values-3
-slice-aggregate-server-values-3 c = search needs
-
 server-values-requires : tie.Need-server-values-requires
-server-values-requires c κs =
-    let s = c .before .before .before .before .before .before .before in
-    (s .pre .0, omega (arith, s .pre .0, reserve-row s), omega (arith, s .pre .0, start-row s), omega (arith, s .pre .0, tasks-row s))
+server-values-requires c κs = search needs
 
 slice-aggregate-put-lines : tie.Need-slice-aggregate-put-lines
 slice-aggregate-put-lines c = search needs
@@ -48,9 +27,9 @@ slice-aggregate-put-lines c = search needs
 put-lines-requires : tie.Need-put-lines-requires
 unfolding widthsOf
 put-lines-requires c κs =
-    let s = c .before .before .before .before .before .before .before .before .before .before in
+    let s = c .before .before .before .before in
     let a = s .args in
-    (omega (arith, s .pre .0, ap length (c .before .before .server-values .ensures), filled-length (serverFigures (a .plan .reserve) (a .plan .start) (a .plan .tasks) (a .plan .slot)) 4 (server-each (a .plan .reserve) (a .plan .start) (a .plan .tasks) (a .plan .slot)) (4 * mostTasks) (a .plan .servers) (omega (arith, s .pre .0))), s .pre .1)
+    (omega (arith, s .pre .0, ap length (c .before .before .server-values .ensures), filled-length (serverFigures (a .plan .server) (a .plan .slot)) 4 (server-each (a .plan .server) (a .plan .slot)) (4 * mostTasks) (a .plan .servers) (omega (arith, s .pre .0))), s .pre .1)
 
 same-length : tie.Need-same-length
 same-length c = search needs
@@ -58,17 +37,14 @@ same-length c = search needs
 returns : tie.Need-returns
 unfolding widthsOf serverLine
 returns c =
-    let a = c .before .before .before .before .before .before .before .before .before .before .before .before .before .args in
+    let a = c .before .before .before .before .before .before .before .args in
     c .before .before .put-lines .ensures ∙ ap (stored (a .out .now) (a .at))
-    (ap (λ (v : List ℕ). linesOf Frame.Server v (a .plan .servers)) (c .before .before .before .before .before .server-values .ensures) ∙ lines-filled Frame.Server (serverFigures (a .plan .reserve) (a .plan .start) (a .plan .tasks) (a .plan .slot)) (server-each (a .plan .reserve) (a .plan .start) (a .plan .tasks) (a .plan .slot)) (4 * mostTasks) (a .plan .servers))
+    (ap (λ (v : List ℕ). linesOf Frame.Server v (a .plan .servers)) (c .before .before .before .before .before .server-values .ensures) ∙ lines-filled Frame.Server (serverFigures (a .plan .server) (a .plan .slot)) (server-each (a .plan .server) (a .plan .slot)) (4 * mostTasks) (a .plan .servers))
 
 pub put-servers-spec : {M : Type 1} → statement M
 put-servers-spec =
     tie.close
     (tie.spec
-    slice-aggregate-server-values
-    slice-aggregate-server-values-2
-    slice-aggregate-server-values-3
     server-values-requires
     slice-aggregate-put-lines
     put-lines-requires

@@ -19,8 +19,8 @@ use Rattle.plantext.proofs.text.put_tasks.Statement.{statement}
 use Rattle.plantext.proofs.text.put_tasks.Tie as tie
 
 -- the rows of a plan have their full length
-server-row : (s : tie.Start) → length (s .args .plan .server) ≡ 64
-server-row s = sym (length-map (s .args .plan .server) _) ∙ s .good .1 .1 .1 .0 .1 .1 .1 .1 .1 .1 .1 .1 .1 .1 .0 .1 .0 .1
+placement-row : (s : tie.Start) → length (s .args .plan .placement) ≡ 64
+placement-row s = sym (length-map (s .args .plan .placement) _) ∙ s .good .1 .1 .1 .0 .1 .1 .1 .1 .1 .1 .1 .1 .0 .1 .0 .1
 
 slice-aggregate-placed-values : tie.Need-slice-aggregate-placed-values
 slice-aggregate-placed-values c = search needs
@@ -28,7 +28,7 @@ slice-aggregate-placed-values c = search needs
 placed-values-requires : tie.Need-placed-values-requires
 placed-values-requires c κs =
     let s = c .before .before .before in
-    (s .pre .0, omega (arith, s .pre .0, server-row s))
+    (s .pre .0, omega (arith, s .pre .0, placement-row s))
 
 slice-aggregate-put-lines : tie.Need-slice-aggregate-put-lines
 slice-aggregate-put-lines c = search needs
@@ -38,7 +38,7 @@ unfolding widthsOf
 put-lines-requires c κs =
     let s = c .before .before .before .before .before .before in
     let a = s .args in
-    (omega (arith, s .pre .0, ap length (c .before .before .placed-values .ensures), filled-length (placedFigures (a .set .tasks) (a .plan .server)) 2 (placed-each (a .set .tasks) (a .plan .server)) (2 * mostTasks) (a .set .count) (omega (arith, s .pre .0))), s .pre .1)
+    (omega (arith, s .pre .0, ap length (c .before .before .placed-values .ensures), filled-length (placedFigures (a .set .tasks) (a .plan .placement)) 2 (placed-each (a .set .tasks) (a .plan .placement)) (2 * mostTasks) (a .set .count) (omega (arith, s .pre .0))), s .pre .1)
 
 same-length : tie.Need-same-length
 same-length c = search needs
@@ -48,7 +48,7 @@ unfolding widthsOf placedLine
 returns c =
     let a = c .before .before .before .before .before .before .before .before .before .args in
     c .before .before .put-lines .ensures ∙ ap (stored (a .out .now) (a .at))
-    (ap (λ (v : List ℕ). linesOf Frame.Placed v (a .set .count)) (c .before .before .before .before .before .placed-values .ensures) ∙ lines-filled Frame.Placed (placedFigures (a .set .tasks) (a .plan .server)) (placed-each (a .set .tasks) (a .plan .server)) (2 * mostTasks) (a .set .count))
+    (ap (λ (v : List ℕ). linesOf Frame.Placed v (a .set .count)) (c .before .before .before .before .before .placed-values .ensures) ∙ lines-filled Frame.Placed (placedFigures (a .set .tasks) (a .plan .placement)) (placed-each (a .set .tasks) (a .plan .placement)) (2 * mostTasks) (a .set .count))
 
 pub put-tasks-spec : {M : Type 1} → statement M
 put-tasks-spec =

@@ -3,7 +3,7 @@ use Prim.Native.Nat.{ℕ}
 use mathlib.Core.Path.{_≡_, subst}
 use mathlib.Core.List.{List}
 use Rattle.refusals.specs.declared.Outcome.{Outcome}
-use Rattle.questions.specs.declared.question.PassAnswer.{PassAnswer}
+use Rattle.doespass.specs.declared.PassAnswer.{PassAnswer}
 use Rattle.planfile.specs.OfFile.{passIn}
 use Rattle.told.specs.Told.{statusOf, leavesNumbers, verdictNumbers}
 use Rattle.rack.specs.Rack.{passNumbers, passTold}

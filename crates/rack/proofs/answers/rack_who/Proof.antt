@@ -3,7 +3,7 @@ use Prim.Native.Nat.{ℕ}
 use mathlib.Core.Path.{_≡_}
 use mathlib.Core.List.{List, [], _∷_}
 use Rattle.refusals.specs.declared.Outcome.{Outcome}
-use Rattle.questions.specs.declared.question.WhoAnswer.{WhoAnswer}
+use Rattle.whoruns.specs.declared.WhoAnswer.{WhoAnswer}
 use Rattle.planfile.specs.OfFile.{whoIn}
 use Rattle.told.specs.Told.{statusOf, leavesNumbers}
 use Rattle.rack.specs.Rack.{whoNumbers, whoTold}

@@ -1,0 +1,41 @@
+-- The question does a server pass with a reserve, about a set and its plan.
+-- Document 01, "From tasks to servers to ring" and row 11 of the refusals.
+use Prim.Native.Nat.{ℕ, _+_}
+use mathlib.Core.Bool.{Bool, cond, _&&_, _||_}
+use lib.Dec.{leb, eqb}
+use Rattle.refusals.specs.declared.Refusal.{Refusal}
+use Rattle.refusals.specs.declared.Refusal.the-variants.{Ask}
+use Rattle.refusals.specs.declared.Outcome.the-variants.{Done, Refused}
+use Rattle.verdict.specs.declared.answer.Verdict.{Verdict}
+use Rattle.verdict.specs.declared.answer.Verdict.the-variants.{Yes}
+use Rattle.verdict.specs.Verdict.{verdictOf}
+use Rattle.members.specs.Loads.{loadsIn}
+use Rattle.tasks.specs.declared.set.TaskSet.{TaskSet}
+use Rattle.rows.specs.Charge.{loadsOfSet, lossOf}
+use Rattle.plan.specs.declared.plan.Plan.{Plan}
+use Rattle.plan.specs.Plan.{setPlacement}
+use Rattle.plancheck.specs.Agrees.{makes}
+use Rattle.doespass.specs.declared.PassAnswer.{PassAnswer}
+
+-- L + 1 ≤ R ≤ S − 1, or R = S
+unfoldable pub allowed : (S L R : ℕ) → Bool
+allowed S L R = (leb (L + 1) R && leb (R + 1) S) || eqb R S
+
+-- the servers that are there: 1 to their number
+unfoldable pub isServer : Plan → ℕ → Bool
+isServer plan q = leb 1 q && leb q (plan .servers)
+
+-- a refused question has zeros
+abbrev pub refusedPass : Refusal → PassAnswer
+refusedPass r = record { outcome = Refused r; verdict = Yes (record { length = 0; demand = 0; supply = 0 }) }
+
+abbrev pub passAnswer : Verdict → PassAnswer
+passAnswer verdict = record { outcome = Done; verdict = verdict }
+
+-- does server q pass with R
+unfoldable pub doesPass : TaskSet → Plan → (q R : ℕ) → PassAnswer
+doesPass set plan q R =
+    cond
+    (makes set plan && (isServer plan q && allowed (set .header .slot) (lossOf (set .header)) R))
+    (passAnswer (verdictOf (loadsIn (loadsOfSet set) (setPlacement set) q) (set .header .slot) (lossOf (set .header)) R))
+    (refusedPass Ask)

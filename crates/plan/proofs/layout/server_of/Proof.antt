@@ -1,0 +1,46 @@
+-- `layout::server_of` meets its contract: the places found are stored at the front of zeros, the reserve stands at place q − 1.
+-- Assumes nothing.
+use borrow.Author.Needs.{needs}
+use mathlib.Core.Path.{sym}
+use lib.ListN.{take}
+use Rattle.plan.proofs.RingStarts.{reserve-place}
+use Rattle.plan.proofs.RecordLaws.{server-made}
+use Rattle.plan.proofs.layout.server_of.Statement.{statement}
+use Rattle.plan.proofs.layout.server_of.Tie as tie
+
+slice-aggregate-places-of : tie.Need-slice-aggregate-places-of
+slice-aggregate-places-of c = search needs
+
+places-of-requires : tie.Need-places-of-requires
+places-of-requires c κs = search needs
+
+sub-before : tie.Need-sub-before
+sub-before c = search needs
+
+mul-reserve : tie.Need-mul-reserve
+mul-reserve c = search needs
+
+shared-slice-read-reserve : tie.Need-shared-slice-read-reserve
+shared-slice-read-reserve c = search needs
+
+start-of-requires : tie.Need-start-of-requires
+start-of-requires c κs = search needs
+
+returns : tie.Need-returns
+returns c =
+    let s = c .before .before .before .before .before .before .before in
+    let found = c .before .before .before .places-of .ensures in
+    server-made (s .args .slot) (s .args .cache) _ (take (s .args .n) (s .args .reserves .now)) (s .args .q) (found .0) (found .1)
+    (sym (reserve-place (s .args .reserves .now) (s .args .n) (s .args .q) (s .pre .1 .1) (s .pre .1 .2))) (c .start-of .ensures)
+
+pub server-of-spec : {M : Type 1} → statement M
+server-of-spec =
+    tie.close
+    (tie.spec
+    slice-aggregate-places-of
+    places-of-requires
+    sub-before
+    mul-reserve
+    shared-slice-read-reserve
+    start-of-requires
+    returns)

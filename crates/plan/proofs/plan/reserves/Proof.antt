@@ -1,0 +1,65 @@
+-- `plan::reserves` meets its contract. The loop's invariant: the places passed hold the reserves of the servers so far.
+-- The measure is what is left of the room. Assumes nothing.
+use Prim.Native.Nat.{_-_, _≤_}
+use mathlib.Core.Path.{_≡_, refl, sym, _∙_}
+use native.Mathlib.Omega.{arith}
+use borrow.Author.Needs.{needs}
+use lib.ListN.{length, length-map}
+use Rattle.tasks.specs.Set.{mostTasks}
+use Rattle.places.proofs.PaddedLaws.{Filled, filled-none, filled-next}
+use Rattle.plan.proofs.RecordLaws.{reserveBefore, before-next, row-filled}
+use Rattle.plan.proofs.plan.reserves.Statement.{statement}
+use Rattle.plan.proofs.plan.reserves.Tie as tie
+
+abbrev Inv-loop : tie.InvT-loop
+Inv-loop plan row₀ i₀ row i = (i ≤ mostTasks) × Filled (reserveBefore (plan .server)) i row
+
+abbrev μ-loop : tie.MeasureT-loop
+μ-loop plan row₀ i₀ row i = mostTasks - i
+
+-- a plan's servers have their places
+full : (s : tie.Start Inv-loop μ-loop) → length (s .args .t1 .server) ≡ mostTasks
+full s = sym (length-map (s .args .t1 .server) _) ∙ s .good .0 .1 .1 .1 .1 .1 .1 .1 .0 .1 .0 .1
+
+loop-holds : tie.Need-loop-holds Inv-loop μ-loop
+loop-holds c = (omega arith, filled-none _)
+
+mul-row : tie.Need-mul-row Inv-loop μ-loop
+mul-row c = search needs
+
+element-copy-out-row : tie.Need-element-copy-out-row Inv-loop μ-loop
+element-copy-out-row c = search needs
+
+mul-row-2 : tie.Need-mul-row-2 Inv-loop μ-loop
+mul-row-2 c = search needs
+
+array-write-row : tie.Need-array-write-row Inv-loop μ-loop
+array-write-row c = search needs
+
+add-i : tie.Need-add-i Inv-loop μ-loop
+add-i c = search needs
+
+loop-less : tie.Need-loop-less Inv-loop μ-loop
+loop-less c = search needs
+
+loop-again : tie.Need-loop-again Inv-loop μ-loop
+loop-again c = (omega arith, filled-next (c .before .loop .inv .1) refl (omega arith) (before-next (c .before .before .args .t1 .server) (c .before .loop .i)))
+
+returns : tie.Need-returns Inv-loop μ-loop
+returns c = row-filled (c .before .before .args .t1 .server) (full (c .before .before)) (c .before .loop .inv .1) (omega arith)
+
+pub reserves-spec : {M : Type 1} → statement M
+reserves-spec =
+    tie.close
+    (tie.spec
+    Inv-loop
+    μ-loop
+    loop-holds
+    mul-row
+    element-copy-out-row
+    mul-row-2
+    array-write-row
+    add-i
+    loop-less
+    loop-again
+    returns)

@@ -1,0 +1,166 @@
+-- The plan of a set whose rows are clear, and the planner's answer by the first row that holds.
+-- Assumes nothing.
+use Prim.Native.Nat.{ℕ, _+_, _^_, _≤_, _<_}
+use mathlib.Core.Path.{_≡_, refl, sym, ap, _∙_}
+use mathlib.Core.Bool.{true, false}
+use native.Mathlib.Omega.{arith}
+use borrow.Author.Tests.{lt-ltb, le-ltb}
+use lib.ListN.{length, take}
+use Rattle.refusals.specs.declared.Refusal.{Refusal}
+use Rattle.refusals.specs.declared.Refusal.the-variants.{Full, Ask}
+use Rattle.refusals.specs.declared.Outcome.{Outcome}
+use Rattle.refusals.specs.declared.Outcome.the-variants.{Done, Refused}
+use Rattle.demand.specs.Load.{Sound, Every}
+use Rattle.members.specs.Members.{membersOf, memberLoads, Sized}
+use Rattle.servers.specs.Placement.{serversIn}
+use Rattle.servers.specs.Reserve.{reservesOf, serversOf}
+use Rattle.servers.specs.declared.Servers.{Servers}
+use Rattle.members.specs.declared.Members.{Members}
+use Rattle.servers.proofs.ReserveLaws.{reserves-count}
+use Rattle.tasks.specs.declared.set.TaskSet.{TaskSet}
+use Rattle.tasks.specs.Set.{mostTasks}
+use Rattle.refusals.specs.First.{firstOf, when}
+use Rattle.taskask.specs.Ask.{askRow}
+use Rattle.taskask.proofs.Carried.{count-within, ask-count}
+use Rattle.plan.specs.declared.plan.Plan.{Plan}
+use Rattle.rows.specs.Charge.{loadsOfSet, lossOf}
+use Rattle.rows.specs.Rows.{chargedOutcome, horizonOf, Chargeable, RowsClear}
+use Rattle.plan.specs.Plan.{laidOut, reservesWith, planWith, setPlacement, setReserves, planMade, zeroPlan}
+use Rattle.planner.specs.Planner.{Clear, needed, fullRow, planOutcome, answer, planOf}
+use Rattle.plan.specs.Layable.{Layable}
+use Rattle.refusals.proofs.FirstLaws.{first-done, when-done}
+use Rattle.rows.proofs.Clears.{board-slot, charged-clear, loads-sound, loads-length, horizon-of-loads, horizon-short, slot-small, loss-small, members-sized}
+use Rattle.plan.proofs.Layouts.{processors-few}
+use Rattle.planner.proofs.Served.{count-few, layable, laid-is}
+
+module _ (set : TaskSet) (full : length (set .tasks) ≡ mostTasks) (clear : Clear set) where
+  pub rows-clear : RowsClear set
+  rows-clear = charged-clear set (clear .charged)
+
+  -- at most mostTasks tasks
+  pub count-most : set .count ≤ mostTasks
+  count-most = count-within set (ask-count set (clear .carried)) .1
+
+  -- the set has room for them
+  pub fits : set .count ≤ length (set .tasks)
+  fits = omega (arith, count-most, full)
+
+  -- its tasks may be charged
+  pub may-charge : Chargeable set
+  may-charge = record { few = count-most; board = rows-clear .board; range = rows-clear .range; tight = rows-clear .tight }
+
+  -- there are at most mostTasks loads
+  pub few-loads : length (loadsOfSet set) ≤ mostTasks
+  few-loads = omega (arith, loads-length set fits, count-most)
+
+  -- they are sound
+  pub sound : Every Sound (loadsOfSet set)
+  sound = loads-sound set may-charge
+
+  -- the slot is at least 1
+  pub slot-some : 1 ≤ set .header .slot
+  slot-some = board-slot (set .header) (rows-clear .board)
+
+  -- and small
+  pub slot-below : set .header .slot < 2 ^ 32
+  slot-below = slot-small set (clear .carried)
+
+  -- the reserves are as many as the servers
+  pub set-count : length (setReserves set) ≡ serversIn (setPlacement set)
+  unfolding setReserves reservesWith reservesOf setPlacement
+  set-count = reserves-count (loadsOfSet set) (set .header .slot) (lossOf (set .header))
+
+  -- there are at most mostTasks servers
+  pub set-few : serversIn (setPlacement set) ≤ mostTasks
+  unfolding setPlacement
+  set-few = count-few (loadsOfSet set) (set .header .slot) (lossOf (set .header)) few-loads sound slot-some slot-below
+
+  -- no more processors than tasks are needed
+  pub needed-few : needed set ≤ mostTasks
+  unfolding needed
+  needed-few = omega (arith, processors-few (set .header .slot) (setReserves set) slot-some, set-count, set-few)
+
+  -- the same of the plan's figure
+  pub made-servers : planMade set .servers ≤ mostTasks
+  unfolding planMade planWith laidOut setReserves
+  made-servers = omega (arith, set-count, set-few)
+
+  module _ {m : Members} (e : m ≡ membersOf (loadsOfSet set)) where
+    -- the loads may be placed and sized, by the set's horizon
+    pub set-sized : {H : ℕ} → H ≡ horizonOf set → Sized (m .costs) (m .deadlines) (m .periods) (m .count) (set .header .slot) (lossOf (set .header)) H
+    set-sized h =
+        members-sized (loadsOfSet set) few-loads sound e slot-some (omega (arith, loss-small set (clear .carried))) (h ∙ sym (horizon-of-loads set))
+        (omega (arith, h, horizon-short set (rows-clear .horizon)))
+
+    module _ {sv : Servers} (g : sv ≡ serversOf (memberLoads m) (set .header .slot) (lossOf (set .header))) where
+      -- and then laid out: that is the set's plan
+      pub set-layable : Layable sv (m .count) (set .header .slot)
+      set-layable = layable (loadsOfSet set) (set .header .slot) (lossOf (set .header)) few-loads sound slot-some slot-below e g
+
+      -- its layout is the set's plan
+      pub set-laid : laidOut (set .header .slot) (set .header .cpmdo) (take (m .count) (sv .server)) (take (sv .count) (sv .reserve)) ≡ planMade set
+      unfolding planMade planWith reservesWith reservesOf setPlacement
+      set-laid = laid-is (loadsOfSet set) (set .header .slot) (lossOf (set .header)) few-loads sound slot-some slot-below e g (set .header .cpmdo)
+
+-- the processors of the set's plan are those that it needs
+pub made-needs : (set : TaskSet) → planMade set .ring + planMade set .whole ≡ needed set
+unfolding planMade planWith laidOut setReserves needed
+made-needs set = refl
+
+-- the same of any plan that is the set's
+pub made-sum : (set : TaskSet) {p : Plan} → p ≡ planMade set → p .ring + p .whole ≡ needed set
+made-sum set e = ap (λ (q : Plan). q .ring + q .whole) e ∙ made-needs set
+
+-- row 10 by the test of the sum
+pub full-holds : (set : TaskSet) {n : ℕ} → n ≡ needed set → set .header .processors < n → fullRow set ≡ true
+unfolding fullRow
+full-holds set e h = lt-ltb (set .header .processors) (needed set) (omega (arith, e))
+
+-- the board has enough
+pub full-clear : (set : TaskSet) {n : ℕ} → n ≡ needed set → n ≤ set .header .processors → fullRow set ≡ false
+unfolding fullRow
+full-clear set e h = le-ltb (set .header .processors) (needed set) (omega (arith, e))
+
+-- ---- the planner's answer
+
+answer-outcome : (o : Outcome) (p : Plan) → answer o p .outcome ≡ o
+answer-outcome Done p = refl
+answer-outcome (Refused r) p = refl
+
+module _ (set : TaskSet) where
+  pub plan-outcome : planOf set .outcome ≡ planOutcome set
+  unfolding planOf
+  plan-outcome = answer-outcome (planOutcome set) (planMade set)
+
+  -- done: the plan is the set's
+  pub plan-is : planOutcome set ≡ Done → planOf set .plan ≡ planMade set
+  unfolding planOf
+  plan-is e = rw e
+
+  -- done: every row is clear
+  pub outcome-clear : planOutcome set ≡ Done → Clear set × (fullRow set ≡ false)
+  unfolding planOutcome
+  outcome-clear e =
+      let p = first-done (when (askRow set) Ask) (firstOf (chargedOutcome set) (when (fullRow set) (Full (needed set)))) e in
+      let q = first-done (chargedOutcome set) (when (fullRow set) (Full (needed set))) (p .1) in
+      (record { carried = when-done (askRow set) Ask (p .0); charged = q .0 }, when-done (fullRow set) (Full (needed set)) (q .1))
+
+  -- row 11 holds
+  pub plan-ask : askRow set ≡ true → answer (Refused Ask) zeroPlan ≡ planOf set
+  unfolding planOf planOutcome
+  plan-ask a = rw a
+
+  -- row 11 is clear and one of rows 5 to 9 holds
+  pub plan-charged : {r : Refusal} → askRow set ≡ false → chargedOutcome set ≡ Refused r → answer (Refused r) zeroPlan ≡ planOf set
+  unfolding planOf planOutcome
+  plan-charged a e = rw (a, e)
+
+  -- row 10 alone holds
+  pub plan-full : {n : ℕ} → Clear set → fullRow set ≡ true → n ≡ needed set → answer (Refused (Full n)) zeroPlan ≡ planOf set
+  unfolding planOf planOutcome
+  plan-full clear f e = rw (clear .carried, clear .charged, f, e)
+
+  -- no row holds
+  pub plan-done : {p : Plan} → Clear set → fullRow set ≡ false → p ≡ planMade set → record { outcome = Done; plan = p } ≡ planOf set
+  unfolding planOf planOutcome
+  plan-done clear f e = rw (clear .carried, clear .charged, f, e)

@@ -1,0 +1,58 @@
+-- `make` meets its contract: row 11 first, then rows 5 to 9, then row 10.
+-- Assumes nothing.
+use mathlib.Core.Path.{sym, _∙_}
+use borrow.Author.Needs.{needs}
+use Rattle.taskask.proofs.Carried.{count-within, ask-count}
+use Rattle.rows.proofs.Clears.{rows-clear, rows-refused}
+use Rattle.planner.proofs.Made.{plan-ask, plan-charged}
+use Rattle.planner.proofs.make.Statement.{statement}
+use Rattle.planner.proofs.make.Tie as tie
+
+asks-requires : tie.Need-asks-requires
+asks-requires c κs = search needs
+
+refused-requires : tie.Need-refused-requires
+refused-requires c κs = search needs
+
+returns : tie.Need-returns
+returns c = c .refused .ensures ∙ plan-ask _ (sym (c .before .before .asks .ensures) ∙ c .before .if1 .taken)
+
+charged-requires : tie.Need-charged-requires
+charged-requires c κs = count-within _ (ask-count _ (sym (c .before .asks .ensures) ∙ c .if1 .left)) .1
+
+enum-known-rows : tie.Need-enum-known-rows
+enum-known-rows c = search needs
+
+refused-requires-2 : tie.Need-refused-requires-2
+refused-requires-2 c κs = search needs
+
+enum-known-rows-2 : tie.Need-enum-known-rows-2
+enum-known-rows-2 c = search needs
+
+planned-requires : tie.Need-planned-requires
+planned-requires c κs =
+    let clear = rows-clear _ (sym (c .before .before .before .charged .ensures) ∙ c .before .rows2 .given .1) in
+    (record { carried = sym (c .before .before .before .before .before .asks .ensures) ∙ c .before .before .before .before .if1 .left; charged = clear .0 }, clear .1)
+
+returns-2 : tie.Need-returns-2
+returns-2 c =
+    c .refused2 .ensures
+    ∙ plan-charged _ (sym (c .before .before .before .before .before .before .asks .ensures) ∙ c .before .before .before .before .before .if1 .left) (rows-refused _ (sym (c .before .before .before .before .charged .ensures) ∙ c .before .before .rows .given .1))
+
+returns-3 : tie.Need-returns-3
+returns-3 c = c .planned .ensures
+
+pub make-spec : {M : Type 1} → statement M
+make-spec =
+    tie.close
+    (tie.spec
+    asks-requires
+    refused-requires
+    returns
+    charged-requires
+    enum-known-rows
+    refused-requires-2
+    enum-known-rows-2
+    planned-requires
+    returns-2
+    returns-3)

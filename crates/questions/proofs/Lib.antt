@@ -1,3 +1,0 @@
-pub mod StandingLaws
-pub mod Judging
-pub mod MadeLaws
