@@ -23,7 +23,7 @@ use Rattle.plan.specs.declared.plan.Plan.{Plan}
 use Rattle.planner.specs.declared.PlanAnswer.{PlanAnswer}
 use Rattle.rows.specs.Charge.{loadOf, loadsOfSet, lossOf}
 use Rattle.rows.specs.Rows.{RowsClear}
-use Rattle.plan.specs.Plan.{planMade, laidOut, setReserves}
+use Rattle.plan.specs.Plan.{planMade, planWith, laidOut, reservesWith, setPlacement}
 use Rattle.plancheck.specs.Agrees.{makes}
 use Rattle.planner.specs.Planner.{Clear, planOutcome, planOf, needed, fullRow}
 use Rattle.plancheck.proofs.AgreeLaws.{agree-same, agree-self}
@@ -54,7 +54,7 @@ module _ (set : TaskSet) (done : planOutcome set ≡ Done) where
   loads-few = omega (arith, length-map (members set) (loadOf (set .header)), length-take (set .count) (set .tasks), min-le-left (set .count) (length (set .tasks)), tasks-few)
 
   pub servers-few-made : planMade set .servers ≤ mostTasks
-  unfolding planMade laidOut setReserves
+  unfolding planMade planWith laidOut reservesWith setPlacement reservesOf
   servers-few-made =
       let S = set .header .slot in
       let L = lossOf (set .header) in
