@@ -1,7 +1,5 @@
 -- Task files and what reading answers for each, computed from the definitions of specs/.
 -- Document 01, example A and the rows of the refusals.
-use Prim.Native.Nat.{ℕ}
-use Prim.Native.Char.{code}
 use Prim.Native.String.{String}
 use mathlib.Core.List.{List, [], _∷_, map}
 use mathlib.Core.Path.{_≡_, refl}
@@ -19,11 +17,7 @@ use Rattle.tasks.specs.Search.{some, firstFrom}
 use Rattle.taskrows.specs.Rows.{boardRow, rangeRow, figuresOutcome}
 use Rattle.taskfile.specs.File.{past, tasksAmong, lineRow, orderRow, countLineRow, twiceLineRow, lineOutcome, headerAt, taskAt}
 use Rattle.taskread.specs.Read.{fileSet, readOutcome, readOf}
-
--- the bytes of a text of plain characters
-abbrev pub bytesOf : String → List ℕ
-bytesOf String.[] = []
-bytesOf (String._∷_ c s) = code c ∷ bytesOf s
+pub use Rattle.tasks_claims.specs.Quoted.{bytesOf}
 
 abbrev pub answers : String → Outcome
 answers text = readOf (bytesOf text) .outcome

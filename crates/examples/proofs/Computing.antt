@@ -1,0 +1,52 @@
+-- The definitions between the bytes of a file and an answer, named once: a proof that says `unfolding computing` unfolds all of them.
+-- docs/PROVING.md says how the names are found.
+use Rattle.digits.specs.Digit.{legal, valueOf, digitOf, allLegal}
+use Rattle.digits.specs.Number.{numberFrom, hex}
+use Rattle.frames.specs.Table.{kindOf, widthsOf, sum}
+use Rattle.frameread.specs.Line.{line, after, closed, formed, fieldOf}
+use Rattle.laws.specs.Same.{same}
+use Rattle.framewrite.specs.Line.{fields, lineOf}
+use Rattle.framesizes.specs.Overflow.{lineOverflows, someTooLarge}
+use Rattle.framelines.specs.Lines.{joined}
+use Rattle.tasks.specs.Set.{setOf}
+use Rattle.tasks.specs.Search.{some, firstFrom}
+use Rattle.taskask.specs.Ask.{countRow, twiceRow, headerOverflows, taskOverflows, askRow}
+use Rattle.taskrows.specs.Rows.{boardRow, rangeRow, figuresOutcome}
+use Rattle.refusals.specs.First.{till}
+use Rattle.taskfile.specs.File.{past, tasksAmong, lineRow, orderRow, countLineRow, twiceLineRow, lineOutcome, headerAt, taskAt}
+use Rattle.taskread.specs.Read.{fileSet, readOutcome, readOf}
+use Rattle.wholes.specs.Ceiling.{ceilingOf}
+use Rattle.wholes.specs.Measure.{measureIn, commonMeasure}
+use Rattle.wholes.specs.Multiple.{leastMultiple, leastMultipleOf}
+use Rattle.demand.specs.Charging.{effectiveDeadline, effectiveCost, entryLoss}
+use Rattle.demand.specs.Demand.{jobs, demand}
+use Rattle.demand.specs.Passes.{fake}
+use Rattle.demand.specs.Supply.{gap, supplyPast, supply}
+use Rattle.verdict.specs.Reserve.{enough, smallestReserve}
+use Rattle.verdict.specs.Search.{lastUpTo, firstUpTo, short}
+use Rattle.verdict.specs.Verdict.{failing, ownHorizon, firstFailing, verdictAt, verdictOf, passing}
+use Rattle.places.specs.Places.{chosen}
+use Rattle.members.specs.Loads.{loadsIn}
+use Rattle.servers.specs.Placement.{serversIn, takes, fit, placeFrom, placementOf}
+use Rattle.servers.specs.Reserve.{reservesOf}
+use Rattle.ring.specs.Cover.{covers, covererUpTo, standAt}
+use Rattle.ring.specs.Phase.{phase}
+use Rattle.reserves.specs.Reserves.{ringTicks, wholes}
+use Rattle.reserves.specs.Whole.{wholeFrom}
+use Rattle.ring.specs.Who.{whoOf, firstReserve}
+use Rattle.rows.specs.Charge.{loadOf, loadsOfSet, lossOf}
+use Rattle.rows.specs.Rows.{slotRow, tightRow, horizonOf, horizonRow, chargedOutcome}
+use Rattle.places.specs.Padded.{upTo}
+use Rattle.plan.specs.Plan.{laidOut, setPlacement, setReserves, planMade}
+use Rattle.plancheck.specs.Agrees.{sameFigures, sameServers, sameProcessors, agrees, makes}
+use Rattle.plan.specs.Planner.{needed, fullRow, planOutcome, planOf}
+use Rattle.questions.specs.Question.{allowed, isProcessor, isServer, whoRuns, doesPass}
+use Rattle.planfigures.specs.Figures.{serverFigures, placedFigures, processorFigures}
+use Rattle.plantext.specs.Text.{planLine, serverLine, placedLine, processorLine, planText, refusalText}
+use Rattle.planfile.specs.File.{plannedSet, filedOf}
+use Rattle.planfile.specs.Tool.{answered}
+use Rattle.planfile.specs.OfFile.{whoIn, passIn}
+
+unfoldable pub computing : Unit {0}
+unfolding legal valueOf digitOf allLegal numberFrom hex kindOf widthsOf sum line after closed same formed fieldOf fields lineOf setOf some firstFrom countRow twiceRow boardRow rangeRow figuresOutcome headerOverflows taskOverflows lineOverflows someTooLarge askRow past tasksAmong lineRow orderRow countLineRow twiceLineRow lineOutcome till headerAt taskAt fileSet readOutcome readOf ceilingOf measureIn commonMeasure leastMultiple leastMultipleOf effectiveDeadline effectiveCost entryLoss jobs demand fake gap supplyPast supply enough smallestReserve lastUpTo firstUpTo short failing ownHorizon firstFailing verdictAt verdictOf passing chosen serversIn takes fit placeFrom placementOf reservesOf covers covererUpTo standAt phase ringTicks wholes wholeFrom whoOf firstReserve loadOf loadsOfSet lossOf slotRow tightRow horizonOf horizonRow chargedOutcome upTo laidOut setPlacement setReserves planMade sameFigures sameServers sameProcessors agrees needed fullRow planOutcome planOf makes allowed isProcessor isServer whoRuns doesPass joined serverFigures placedFigures processorFigures planLine serverLine placedLine processorLine planText refusalText plannedSet filedOf answered whoIn passIn
+computing = tt

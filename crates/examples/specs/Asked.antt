@@ -1,0 +1,79 @@
+-- What the examples ask of a task file, and what the project's own definitions answer.
+-- Document 01, "What the rack tool covers" and "Examples to prove (A to L) and to run".
+use Prim.Native.Nat.{ℕ, _+_, _-_}
+use Prim.Native.String.{String}
+use mathlib.Core.List.{List}
+use mathlib.Core.Path.{_≡_}
+use Rattle.refusals.specs.declared.Refusal.the-variants.{Full}
+use Rattle.refusals.specs.declared.Outcome.{Outcome}
+use Rattle.refusals.specs.First.{firstOf, when}
+use Rattle.demand.specs.Demand.{demand}
+use Rattle.demand.specs.Passes.{fake}
+use Rattle.tasks.specs.declared.set.TaskSet.{TaskSet}
+use Rattle.taskread.specs.declared.read.ReadAnswer.{ReadAnswer}
+use Rattle.taskread.specs.Read.{readOf}
+use Rattle.ring.specs.declared.clock.Tick.{Tick}
+use Rattle.members.specs.Loads.{loadsIn}
+use Rattle.rows.specs.Charge.{loadsOfSet, lossOf}
+use Rattle.rows.specs.Rows.{horizonOf, chargedOutcome}
+use Rattle.plan.specs.Plan.{setPlacement}
+use Rattle.plan.specs.Planner.{needed, fullRow}
+use Rattle.questions.specs.declared.question.WhoAnswer.{WhoAnswer}
+use Rattle.questions.specs.declared.question.PassAnswer.{PassAnswer}
+use Rattle.planfile.specs.declared.file.FileAnswer.{FileAnswer}
+use Rattle.planfile.specs.File.{filedOf}
+use Rattle.planfile.specs.Tool.{answered}
+use Rattle.planfile.specs.OfFile.{whoIn, passIn}
+use Rattle.tasks_claims.specs.Quoted.{bytesOf}
+
+-- the fake-task sum of a set's server q with reserve R at length t: its demand, and that of a task of cost and deadline
+-- S − R + L and period S; the reserve passes there where the sum is at most t
+abbrev pub fakeSum : TaskSet → (q R t : ℕ) → ℕ
+fakeSum set q R t =
+    demand (loadsIn (loadsOfSet set) (setPlacement set) q) t
+    + fake (set .header .slot) (set .header .slot - R + lossOf (set .header)) t
+
+abbrev pub fakeSumIn : List ℕ → (q R t : ℕ) → ℕ
+fakeSumIn text q R t = fakeSum (readOf text .set) q R t
+
+-- the horizon H of a file
+abbrev pub horizonIn : List ℕ → ℕ
+horizonIn text = horizonOf (readOf text .set)
+
+-- the first of rows 1 to 9 that refuses a file, if any
+abbrev pub rowsIn : List ℕ → Outcome
+rowsIn text = firstOf (readOf text .outcome) (chargedOutcome (readOf text .set))
+
+-- that is the tool's refusal: where none of rows 1 to 9 refuses a file, row 10 does, or its plan is made
+abbrev pub RowsRefuse : Type 0
+RowsRefuse = (text : List ℕ) → filedOf text .outcome ≡ firstOf (rowsIn text) (when (fullRow (readOf text .set)) (Full (needed (readOf text .set))))
+
+-- what is asked of a file
+pub data Question : Type 0 where
+  -- what does `rota` print
+  prints : (file : String) → Question
+  -- who runs on a processor at a tick
+  runs : (file : String) → (processor : ℕ) → Tick → Question
+  -- does a server pass with a reserve
+  passes : (file : String) → (server reserve : ℕ) → Question
+  -- the fake-task sum of a server with a reserve at a length
+  sums : (file : String) → (server reserve length : ℕ) → Question
+  -- the horizon
+  lasts : (file : String) → Question
+  -- which of rows 1 to 9 refuses it, if any
+  refuses : (file : String) → Question
+
+pub data Answer : Type 0 where
+  text : List ℕ → Answer
+  running : WhoAnswer → Answer
+  passed : PassAnswer → Answer
+  ticks : ℕ → Answer
+  outcome : Outcome → Answer
+
+abbrev pub answerOf : Question → Answer
+answerOf (prints file) = text (answered (bytesOf file))
+answerOf (runs file p x) = running (whoIn (bytesOf file) p x)
+answerOf (passes file q R) = passed (passIn (bytesOf file) q R)
+answerOf (sums file q R t) = ticks (fakeSumIn (bytesOf file) q R t)
+answerOf (lasts file) = ticks (horizonIn (bytesOf file))
+answerOf (refuses file) = outcome (rowsIn (bytesOf file))

@@ -1,0 +1,132 @@
+-- Examples A to L of document 01: one list of what is asked and what is given, and one statement, that each row holds.
+-- It is proved in proofs/Claims.antt.
+use Prim.Native.Nat.{ℕ}
+use Prim.Native.String.{String}
+use mathlib.Core.List.{List, [], _∷_}
+use mathlib.Core.Path.{_≡_}
+use Rattle.refusals.specs.declared.Refusal.the-variants.{Horizon}
+use Rattle.refusals.specs.declared.Outcome.the-variants.{Done, Refused}
+use Rattle.verdict.specs.declared.answer.Reading.{Reading}
+use Rattle.verdict.specs.declared.answer.Verdict.the-variants.{No}
+use Rattle.ring.specs.declared.clock.Tick.{Tick}
+use Rattle.questions.specs.declared.question.WhoAnswer.{WhoAnswer}
+use Rattle.questions.specs.declared.question.PassAnswer.{PassAnswer}
+use Rattle.tasks_claims.specs.Quoted.{bytesOf}
+use Rattle.examples.specs.Asked.{Question, Answer, answerOf}
+use Rattle.examples.specs.Asked.Question.{prints, runs, passes, sums, lasts, refuses}
+use Rattle.examples.specs.Asked.Answer.{text, running, passed, ticks, outcome}
+
+pub record Example : Type 0 where
+  pub asked : Question
+  pub given : Answer
+
+-- a row: what is asked, and what is given
+abbrev pub row : Question → Answer → Example
+row question answer = record { asked = question; given = answer }
+
+-- the answers in the documents' words: the lines printed; the server on the processor and the ticks left; the first failing
+-- length, the demand and the supply there
+abbrev pub lines : String → Answer
+lines quoted = text (bytesOf quoted)
+
+abbrev pub server : (number left : ℕ) → Answer
+server number left = running (record { outcome = Done; server = number; left = left })
+
+abbrev pub failsAt : (length demand supply : ℕ) → Answer
+failsAt length demand supply = passed (record { outcome = Done; verdict = No (record { length = length; demand = demand; supply = supply }) })
+
+abbrev pub at : ℕ → Tick
+at tick = record { 0 = tick }
+
+-- m 2, S 10, three tasks 6/10/10 (C/D/T)
+abbrev pub fileA : String
+fileA = "010200000A00000000000000000000\n020100000600000A00000A\n020200000600000A00000A\n020300000600000A00000A\n"
+
+-- the same with m 1
+abbrev pub fileB : String
+fileB = "010100000A00000000000000000000\n020100000600000A00000A\n020200000600000A00000A\n020300000600000A00000A\n"
+
+-- from here on m 64 and, unless said, S 10; two tasks 5/10/10
+abbrev pub fileC : String
+fileC = "014000000A00000000000000000000\n020100000500000A00000A\n020200000500000A00000A\n"
+
+-- a third, 1/10/10
+abbrev pub fileD : String
+fileD = "014000000A00000000000000000000\n020100000500000A00000A\n020200000500000A00000A\n020300000100000A00000A\n"
+
+-- S 4, task 2/7/8
+abbrev pub fileE : String
+fileE = "014000000400000000000000000000\n0201000002000007000008\n"
+
+-- S 4, task 2/5/8
+abbrev pub fileF : String
+fileF = "014000000400000000000000000000\n0201000002000005000008\n"
+
+-- task 3/10/10, ResD 1
+abbrev pub fileG : String
+fileG = "014000000A00000000000000010000\n020100000300000A00000A\n"
+
+-- RelO 1, task 10/10/10
+abbrev pub fileH10 : String
+fileH10 = "014000000A00000001000000000000\n020100000A00000A00000A\n"
+
+-- RelO 1, task 9/10/10
+abbrev pub fileH9 : String
+fileH9 = "014000000A00000001000000000000\n020100000900000A00000A\n"
+
+-- RelJ 10, task 5/10/10
+abbrev pub fileI : String
+fileI = "014000000A000A0000000000000000\n020100000500000A00000A\n"
+
+-- S 128, T 1,000,000 and 78,125
+abbrev pub fileJ : String
+fileJ = "014000008000000000000000000000\n02010000010F42400F4240\n020200000101312D01312D\n"
+
+-- S 11, T 1,000,000
+abbrev pub fileK : String
+fileK = "014000000B00000000000000000000\n02010000010F42400F4240\n"
+
+abbrev pub examples : List Example
+examples =
+    -- A
+    row (prints fileA) (lines "1100020300000A00000002\n12010000060000000001\n12020000060000000601\n12030000060000000C01\n130101\n130202\n130303\n140101000006\n140202000002\n")
+    -- B
+    ∷ row (prints fileB) (lines "1F0A02\n")
+    -- C: one server, R = 10, r = 0
+    ∷ row (prints fileC) (lines "1101000100000A00000000\n120100000AFFFFFFFF02\n130101\n130201\n14010100000A\n")
+    -- D: a second server, R = 1
+    ∷ row (prints fileD) (lines "1101010200000A00000009\n120100000AFFFFFFFF02\n12020000010000000001\n130101\n130201\n130302\n140102000001\n14020100000A\n")
+    -- E: R = 1 fails first at length 7, demand 2, supply 1; the smallest R is 2
+    ∷ row (passes fileE 1 1) (failsAt 7 2 1)
+    ∷ row (prints fileE) (lines "1100010100000400000002\n12010000020000000001\n130101\n140101000002\n")
+    -- F: R = 1 fails first at 5, demand 2, supply 1; the fake-task sum is 5 there and passes; it fails at 7 with 8
+    ∷ row (passes fileF 1 1) (failsAt 5 2 1)
+    ∷ row (sums fileF 1 1 5) (ticks 5)
+    ∷ row (sums fileF 1 1 7) (ticks 8)
+    ∷ row (prints fileF) (lines "1100010100000400000002\n12010000020000000001\n130101\n140101000002\n")
+    -- G: R = 4
+    ∷ row (prints fileG) (lines "1100010100000A00000006\n12010000040000000001\n130101\n140101000004\n")
+    -- H: refusal 8; accepted
+    ∷ row (prints fileH10) (lines "1F0801\n")
+    ∷ row (prints fileH9) (lines "1101000100000A00000000\n120100000AFFFFFFFF01\n130101\n14010100000A\n")
+    -- I: refusal 8
+    ∷ row (prints fileI) (lines "1F0801\n")
+    -- J: H is 10,000,000, no refusal 9, nor one of those before it
+    ∷ row (lasts fileJ) (ticks 10000000)
+    ∷ row (refuses fileJ) (outcome Done)
+    -- K: H is 11,000,000, refusal 9
+    ∷ row (lasts fileK) (ticks 11000000)
+    ∷ row (refuses fileK) (outcome (Refused Horizon))
+    ∷ row (prints fileK) (lines "1F0900\n")
+    -- L: in A at tick 0, server 2 is on processor 2 with 2 ticks left; at tick 6 on processor 1 with 6
+    ∷ row (runs fileA 2 (at 0)) (server 2 2)
+    ∷ row (runs fileA 1 (at 6)) (server 2 6)
+    ∷ []
+
+-- every row of a list holds: what is asked has the answer given
+abbrev pub Every : List Example → Type 0
+Every [] = Unit {0}
+Every (r ∷ rs) = (answerOf (r .asked) ≡ r .given) × Every rs
+
+abbrev pub AtoL : Type 0
+AtoL = Every examples
