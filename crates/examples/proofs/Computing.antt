@@ -23,24 +23,26 @@ use Rattle.demand.specs.Demand.{jobs, demand}
 use Rattle.demand.specs.Passes.{fake}
 use Rattle.demand.specs.Supply.{gap, supplyPast, supply}
 use Rattle.verdict.specs.Reserve.{enough, smallestReserve}
-use Rattle.verdict.specs.Search.{lastUpTo, firstUpTo, short}
+use Rattle.verdict.specs.Search.{lastUpTo, firstUpTo, firstAfter, short}
 use Rattle.verdict.specs.Verdict.{failing, ownHorizon, firstFailing, verdictAt, verdictOf, passing}
-use Rattle.places.specs.Places.{chosen}
-use Rattle.members.specs.Loads.{loadsIn}
-use Rattle.servers.specs.Placement.{serversIn, takes, fit, placeFrom, placementOf}
-use Rattle.servers.specs.Reserve.{reservesOf}
+use Rattle.places.specs.Places.{placesFrom, chosen}
+use Rattle.members.specs.Charge.{cacheOf, chargedIn, serverLoads, serverLoss}
+use Rattle.members.specs.Server.{passesWith, fits, reserveFor, verdictFor}
+use Rattle.servers.specs.Placement.{serversIn, takes, join, fit, placeBy, placementOf}
+use Rattle.sizing.specs.Reserve.{reservesOf}
 use Rattle.ring.specs.Cover.{covers, covererUpTo, standAt}
 use Rattle.ring.specs.Phase.{phase}
 use Rattle.reserves.specs.Reserves.{ringTicks, wholes}
 use Rattle.reserves.specs.Whole.{wholeFrom}
 use Rattle.ring.specs.Who.{whoOf, firstReserve}
-use Rattle.rows.specs.Charge.{loadOf, loadsOfSet, lossOf}
+use Rattle.rows.specs.Figures.{setFigures}
 use Rattle.rows.specs.Rows.{slotRow, tightRow, horizonOf, horizonRow, chargedOutcome}
 use Rattle.places.specs.Padded.{upTo}
-use Rattle.plan.specs.Plan.{laidOut, setPlacement, setReserves, planMade}
-use Rattle.plancheck.specs.Agrees.{sameFigures, sameServers, sameProcessors, agrees, makes}
-use Rattle.plan.specs.Planner.{needed, fullRow, planOutcome, planOf}
-use Rattle.questions.specs.Question.{allowed, isProcessor, isServer, whoRuns, doesPass}
+use Rattle.plan.specs.Plan.{laidOut, reservesWith, planWith, setPlacement, setReserves, planMade}
+use Rattle.plancheck.specs.Agrees.{alike, sameFigures, sameServer, sameServers, sameProcessors, agrees, makes}
+use Rattle.planner.specs.Planner.{needed, fullRow, planOutcome, planOf}
+use Rattle.whoruns.specs.WhoRuns.{isProcessor, whoRuns}
+use Rattle.doespass.specs.DoesPass.{allowed, isServer, doesPass}
 use Rattle.planfigures.specs.Figures.{serverFigures, placedFigures, processorFigures}
 use Rattle.plantext.specs.Text.{planLine, serverLine, placedLine, processorLine, planText, refusalText}
 use Rattle.planfile.specs.File.{plannedSet, filedOf}
@@ -48,5 +50,5 @@ use Rattle.planfile.specs.Tool.{answered}
 use Rattle.planfile.specs.OfFile.{whoIn, passIn}
 
 unfoldable pub computing : Unit {0}
-unfolding legal valueOf digitOf allLegal numberFrom hex kindOf widthsOf sum line after closed same formed fieldOf fields lineOf setOf some firstFrom countRow twiceRow boardRow rangeRow figuresOutcome headerOverflows taskOverflows lineOverflows someTooLarge askRow past tasksAmong lineRow orderRow countLineRow twiceLineRow lineOutcome till headerAt taskAt fileSet readOutcome readOf ceilingOf measureIn commonMeasure leastMultiple leastMultipleOf effectiveDeadline effectiveCost entryLoss jobs demand fake gap supplyPast supply enough smallestReserve lastUpTo firstUpTo short failing ownHorizon firstFailing verdictAt verdictOf passing chosen serversIn takes fit placeFrom placementOf reservesOf covers covererUpTo standAt phase ringTicks wholes wholeFrom whoOf firstReserve loadOf loadsOfSet lossOf slotRow tightRow horizonOf horizonRow chargedOutcome upTo laidOut setPlacement setReserves planMade sameFigures sameServers sameProcessors agrees needed fullRow planOutcome planOf makes allowed isProcessor isServer whoRuns doesPass joined serverFigures placedFigures processorFigures planLine serverLine placedLine processorLine planText refusalText plannedSet filedOf answered whoIn passIn
+unfolding legal valueOf digitOf allLegal numberFrom hex kindOf widthsOf sum line after closed same formed fieldOf fields lineOf setOf some firstFrom countRow twiceRow boardRow rangeRow figuresOutcome headerOverflows taskOverflows lineOverflows someTooLarge askRow past tasksAmong lineRow orderRow countLineRow twiceLineRow lineOutcome till headerAt taskAt fileSet readOutcome readOf ceilingOf measureIn commonMeasure leastMultiple leastMultipleOf effectiveDeadline effectiveCost entryLoss jobs demand fake gap supplyPast supply enough smallestReserve lastUpTo firstUpTo firstAfter short failing ownHorizon firstFailing verdictAt verdictOf passing placesFrom chosen cacheOf chargedIn serverLoads serverLoss passesWith fits reserveFor verdictFor serversIn takes join fit placeBy placementOf reservesOf covers covererUpTo standAt phase ringTicks wholes wholeFrom whoOf firstReserve setFigures slotRow tightRow horizonOf horizonRow chargedOutcome upTo laidOut reservesWith planWith setPlacement setReserves planMade alike sameFigures sameServer sameServers sameProcessors agrees needed fullRow planOutcome planOf makes allowed isProcessor isServer whoRuns doesPass joined serverFigures placedFigures processorFigures planLine serverLine placedLine processorLine planText refusalText plannedSet filedOf answered whoIn passIn
 computing = tt

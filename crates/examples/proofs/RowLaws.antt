@@ -16,9 +16,9 @@ use Rattle.taskread.specs.Read.{readOf}
 use Rattle.taskwrite.proofs.WriteAsks.{writer-ask}
 use Rattle.tasks_claims.proofs.Claims.{written-read}
 use Rattle.rows.specs.Rows.{chargedOutcome}
-use Rattle.plan.specs.declared.planner.PlanAnswer.{PlanAnswer}
-use Rattle.plan.specs.Planner.{needed, fullRow, planOutcome, planOf}
-use Rattle.plan.proofs.Made.{plan-outcome}
+use Rattle.planner.specs.declared.PlanAnswer.{PlanAnswer}
+use Rattle.planner.specs.Planner.{needed, fullRow, planOutcome, planOf}
+use Rattle.planner.proofs.Made.{plan-outcome}
 use Rattle.plantext.specs.Text.{planText, refusalText}
 use Rattle.planfile.specs.declared.file.FileAnswer.{FileAnswer}
 use Rattle.planfile.specs.File.{unless, refusedFile, plannedSet, filedOf}

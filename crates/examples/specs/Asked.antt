@@ -7,19 +7,20 @@ use mathlib.Core.Path.{_≡_}
 use Rattle.refusals.specs.declared.Refusal.the-variants.{Full}
 use Rattle.refusals.specs.declared.Outcome.{Outcome}
 use Rattle.refusals.specs.First.{firstOf, when}
-use Rattle.demand.specs.Demand.{demand}
 use Rattle.demand.specs.Passes.{fake}
 use Rattle.tasks.specs.declared.set.TaskSet.{TaskSet}
 use Rattle.taskread.specs.declared.read.ReadAnswer.{ReadAnswer}
 use Rattle.taskread.specs.Read.{readOf}
 use Rattle.ring.specs.declared.clock.Tick.{Tick}
-use Rattle.members.specs.Loads.{loadsIn}
-use Rattle.rows.specs.Charge.{loadsOfSet, lossOf}
+use Rattle.places.specs.Places.{chosen}
+use Rattle.members.specs.Charge.{serverLoss}
+use Rattle.members.specs.Server.{serverDemand}
+use Rattle.rows.specs.Figures.{setFigures}
 use Rattle.rows.specs.Rows.{horizonOf, chargedOutcome}
 use Rattle.plan.specs.Plan.{setPlacement}
-use Rattle.plan.specs.Planner.{needed, fullRow}
-use Rattle.questions.specs.declared.question.WhoAnswer.{WhoAnswer}
-use Rattle.questions.specs.declared.question.PassAnswer.{PassAnswer}
+use Rattle.planner.specs.Planner.{needed, fullRow}
+use Rattle.whoruns.specs.declared.WhoAnswer.{WhoAnswer}
+use Rattle.doespass.specs.declared.PassAnswer.{PassAnswer}
 use Rattle.planfile.specs.declared.file.FileAnswer.{FileAnswer}
 use Rattle.planfile.specs.File.{filedOf}
 use Rattle.planfile.specs.Tool.{answered}
@@ -30,8 +31,8 @@ use Rattle.tasks_claims.specs.Quoted.{bytesOf}
 -- S − R + L and period S; the reserve passes there where the sum is at most t
 abbrev pub fakeSum : TaskSet → (q R t : ℕ) → ℕ
 fakeSum set q R t =
-    demand (loadsIn (loadsOfSet set) (setPlacement set) q) t
-    + fake (set .header .slot) (set .header .slot - R + lossOf (set .header)) t
+    let members = chosen (setFigures set) (setPlacement set) q in
+    serverDemand (set .header) members t + fake (set .header .slot) (set .header .slot - R + serverLoss (set .header) members) t
 
 abbrev pub fakeSumIn : List ℕ → (q R t : ℕ) → ℕ
 fakeSumIn text q R t = fakeSum (readOf text .set) q R t
