@@ -16,12 +16,13 @@ use Rattle.tasks.specs.Set.{members, mostTasks, mostProcessors}
 use Rattle.taskrows.specs.Rows.{boardRow}
 use Rattle.taskask.proofs.Carried.{ask-count, count-within}
 use Rattle.servers.specs.Placement.{placementOf, serversIn}
-use Rattle.servers.specs.Reserve.{reservesOf}
-use Rattle.servers.proofs.ReserveLaws.{reserves-count}
+use Rattle.sizing.specs.Reserve.{reservesOf}
+use Rattle.sizing.proofs.Claims.{reserves-count}
 use Rattle.servers.proofs.Claims.{servers-few}
 use Rattle.plan.specs.declared.plan.Plan.{Plan}
 use Rattle.planner.specs.declared.PlanAnswer.{PlanAnswer}
-use Rattle.rows.specs.Charge.{loadOf, loadsOfSet, lossOf}
+use Rattle.members.specs.Charge.{figuresOf}
+use Rattle.rows.specs.Figures.{setFigures}
 use Rattle.rows.specs.Rows.{RowsClear}
 use Rattle.plan.specs.Plan.{planMade, planWith, laidOut, reservesWith, setPlacement}
 use Rattle.plancheck.specs.Agrees.{makes}
@@ -49,16 +50,16 @@ module _ (set : TaskSet) (done : planOutcome set ≡ Done) where
   unfolding fullRow
   needed-few = omega (arith, ltb-false (set .header .processors) (needed set) (outcome-clear set done .1), boards-few)
 
-  loads-few : length (loadsOfSet set) ≤ mostTasks
-  unfolding loadsOfSet
-  loads-few = omega (arith, length-map (members set) (loadOf (set .header)), length-take (set .count) (set .tasks), min-le-left (set .count) (length (set .tasks)), tasks-few)
+  figures-few : length (setFigures set) ≤ mostTasks
+  unfolding setFigures
+  figures-few = omega (arith, length-map (members set) figuresOf, length-take (set .count) (set .tasks), min-le-left (set .count) (length (set .tasks)), tasks-few)
 
   pub servers-few-made : planMade set .servers ≤ mostTasks
-  unfolding planMade planWith laidOut reservesWith setPlacement reservesOf
+  unfolding planMade planWith laidOut reservesWith setPlacement
   servers-few-made =
-      let S = set .header .slot in
-      let L = lossOf (set .header) in
-      omega (arith, reserves-count (loadsOfSet set) S L, servers-few (loadsOfSet set) S L, loads-few)
+      let h = set .header in
+      let figures = setFigures set in
+      omega (arith, reserves-count h figures (placementOf h figures), servers-few h figures, figures-few)
 
   -- the plan that the planner makes has room for what it counts
   pub made-counted : CountsFit set (planMade set)
