@@ -1,120 +1,88 @@
 -- What a checked plan is, and what the two questions answer about it, from the theorems of placement, sizing, verdict and ring.
 -- Assumes nothing.
-use Prim.Native.Nat.{ℕ, _+_, _-_, _≤_, _<_}
+use Prim.Native.Nat.{ℕ, zero, suc, _+_, _-_, _≤_, _<_}
 use mathlib.Core.Path.{_≡_, refl, sym, ap, subst, _∙_}
-use mathlib.Core.Logic.{_⊎_, ⊎-elim}
 use mathlib.Core.Bool.{true}
-use mathlib.Core.List.{List}
+use mathlib.Core.List.{List, [], _∷_, _++_}
 use native.Mathlib.Omega.{arith}
 use borrow.Author.Tests.{leb-true, ltb-false}
 use lib.Dec.{leb}
-use lib.ListN.{length, getD, take}
-use lib.Seq.{getD-take}
+use lib.ListN.{length, take}
 use Rattle.tasks.specs.Set.{mostTasks}
 use Rattle.laws.proofs.Tests.{and-left, and-right}
-use Rattle.refusals.specs.declared.Outcome.the-variants.{Done}
-use Rattle.demand.specs.Passes.{Passes}
-use Rattle.verdict.specs.Verdict.{verdictOf}
-use Rattle.verdict.specs.Reserve.{Smallest}
-use Rattle.verdict.specs.Claims.{Asked}
+use Rattle.demand.specs.Load.{Load}
+use Rattle.demand.specs.Lawful.{Lawful}
 use Rattle.verdict.proofs.Claims.{verdict-means}
-use Rattle.members.specs.Loads.{loadsIn}
-use Rattle.servers.specs.Placement.{serversIn}
-use Rattle.servers.specs.Claims.{Parted}
-use Rattle.servers.proofs.Claims.{each-in-one, every-passes, smallest-reserves}
-use Rattle.members.proofs.LoadLaws.{every-in}
+use Rattle.places.specs.Places.{chosen}
+use Rattle.members.specs.Charge.{serverLoss, Member}
+use Rattle.members.specs.Server.{serverDemand, serverHorizon, verdictFor}
+use Rattle.members.proofs.ServerLaws.{server-lawful}
+use Rattle.servers.specs.Fitting.{Fitting}
+use Rattle.servers.proofs.Claims.{planner-fits}
+use Rattle.servers.proofs.FittingLaws.{every-chosen}
 use Rattle.ring.specs.declared.clock.Tick.{Tick}
 use Rattle.ring.specs.Who.{whoOf}
 use Rattle.reserves.specs.Reserves.{ringProcessors, wholes, processorsOf}
 use Rattle.ring_claims.proofs.Claims.{who-serves, who-stays}
 use Rattle.tasks.specs.declared.set.TaskSet.{TaskSet}
+use Rattle.rows.specs.Figures.{setFigures}
 use Rattle.plan.specs.declared.plan.Plan.{Plan}
-use Rattle.doespass.specs.declared.PassAnswer.{PassAnswer}
-use Rattle.rows.specs.Charge.{loadsOfSet, lossOf}
-use Rattle.plan.specs.Plan.{laidOut, setPlacement, setReserves, planMade}
+use Rattle.plan.specs.Plan.{laidOut, planWith, setPlacement, setReserves, planMade}
 use Rattle.planner.specs.Planner.{needed, fullRow}
+use Rattle.planner.proofs.Made.{members, alone, slot-some, outcome-clear}
 use Rattle.plancheck.specs.Agrees.{makes}
+use Rattle.plancheck.proofs.Checked.{OfSet, of-set, same-made, makes-done}
 use Rattle.whoruns.specs.WhoRuns.{isProcessor, whoAnswer, whoRuns}
-use Rattle.doespass.specs.DoesPass.{allowed, isServer, doesPass}
-use Rattle.plan_claims.specs.Claims.{at, PlacedOnce, Reserved, OnBoard, CheckedPlan, WhoTells, PassTells}
-use Rattle.planner.proofs.Made.{sound, slot-some, outcome-clear}
-use Rattle.plancheck.proofs.Checked.{OfSet, of-set, same-made, makes-done, placement-count}
+use Rattle.doespass.specs.declared.PassAnswer.{PassAnswer}
+use Rattle.doespass.specs.DoesPass.{allowed, isServer, passAnswer, doesPass}
+use Rattle.plan_claims.specs.Claims.{membersIn, FittingPlan, CheckedPlan, WhoTells, PassTells}
+use Rattle.plan_claims.proofs.FittingLaws.{Holds, fitting-plan}
 
 module _ (set : TaskSet) (plan : Plan) (full : length (set .tasks) ≡ mostTasks) (e : makes set plan ≡ true) where
   known : OfSet set plan
   known = of-set set full plan e
 
-  asked : Asked (loadsOfSet set) (set .header .slot)
-  asked = record { sound = sound set full (known .clear); slot = slot-some set full (known .clear) }
+  slot : 1 ≤ set .header .slot
+  slot = slot-some set full (known .clear)
 
-  parted : Parted (loadsOfSet set) (setPlacement set)
+  -- the planner's placement fits
+  planner-placed : Fitting (set .header) (setFigures set) (setPlacement set)
   unfolding setPlacement
-  parted = each-in-one (loadsOfSet set) (set .header .slot) (lossOf (set .header))
-
-  counted : length (setPlacement set) ≡ set .count
-  counted = placement-count set full plan (known .clear)
-
-  server-at : (i : ℕ) → i < set .count → getD (setPlacement set) i 0 ≡ getD (plan .server) i 0
-  server-at i h = sym (ap (λ (l : List ℕ). getD l i 0) (known .placement)) ∙ getD-take (set .count) (plan .server) i 0 h
-
-  placed : PlacedOnce set plan
-  placed = record {
-    there = λ k h l.
-        let i : k - 1 < length (setPlacement set) = omega (arith, counted) in
-        let j : k - 1 < set .count = omega arith in
-        let w = parted .there (k - 1) i in
-        (omega (arith, server-at (k - 1) j, w .0), omega (arith, server-at (k - 1) j, w .1, known .servers));
-    none-empty = λ q h l.
-        let w = parted .none-empty q h (omega (arith, known .servers)) in
-        let i : w .0 < set .count = omega (arith, counted, w .1) in
-        let s : w .0 + 1 - 1 ≡ w .0 = omega arith in
-        (w .0 + 1, omega arith, omega arith, ap (λ (n : ℕ). getD (plan .server) n 0) s ∙ sym (server-at (w .0) i) ∙ w .2);
-  }
-
-  reserve-at : (q : ℕ) → 1 ≤ q → q ≤ plan .servers → getD (setReserves set) (q - 1) 0 ≡ at (plan .reserve) q
-  reserve-at q h l =
-      sym (ap (λ (r : List ℕ). getD r (q - 1) 0) (known .reserves)) ∙ getD-take (plan .servers) (plan .reserve) (q - 1) 0 (omega arith)
-
-  passes-whole : (q : ℕ) → 1 ≤ q → q ≤ serversIn (setPlacement set) →
-      Passes (loadsIn (loadsOfSet set) (setPlacement set) q) (set .header .slot) (lossOf (set .header)) (set .header .slot)
-  unfolding setPlacement
-  passes-whole = every-passes (loadsOfSet set) (set .header .slot) (lossOf (set .header)) asked
-
-  smallest-each : (q : ℕ) → 1 ≤ q → q ≤ serversIn (setPlacement set) →
-      Smallest (loadsIn (loadsOfSet set) (setPlacement set) q) (set .header .slot) (lossOf (set .header)) (getD (setReserves set) (q - 1) 0)
-  unfolding setPlacement setReserves
-  smallest-each = smallest-reserves (loadsOfSet set) (set .header .slot) (lossOf (set .header)) asked .1
-
-  reserved : Reserved set plan
-  reserved = record {
-    whole = λ q h l. rw (known .placement) (passes-whole q h (omega (arith, known .servers)));
-    smallest = λ q h l.
-        subst (λ (R : ℕ). Smallest (loadsIn (loadsOfSet set) (take (set .count) (plan .server)) q) (set .header .slot) (lossOf (set .header)) R) (reserve-at q h l)
-        (rw (known .placement) (smallest-each q h (omega (arith, known .servers))));
-  }
+  planner-placed = planner-fits (set .header) (setFigures set) slot (members set full (known .clear)) (alone set full (known .clear))
 
   made-ring : planMade set .ring ≡ ringProcessors (set .header .slot) (setReserves set)
-  unfolding planMade laidOut
+  unfolding planMade planWith laidOut setReserves
   made-ring = refl
 
   made-whole : planMade set .whole ≡ wholes (set .header .slot) (setReserves set)
-  unfolding planMade laidOut
+  unfolding planMade planWith laidOut setReserves
   made-whole = refl
+
+  -- a checked plan holds it
+  checked-holds : Holds set (setPlacement set) plan
+  unfolding setReserves
+  checked-holds = record {
+    servers = known .servers;
+    placement = known .placement;
+    reserves = known .reserves;
+    ring = same-made set full plan e .ring ∙ made-ring;
+    whole = same-made set full plan e .whole ∙ made-whole;
+  }
+
+  checked-fits : FittingPlan set plan
+  checked-fits = fitting-plan set full (known .clear) (setPlacement set) planner-placed plan checked-holds
 
   on-board : needed set ≤ set .header .processors
   unfolding fullRow
   on-board = ltb-false (set .header .processors) (needed set) (outcome-clear set (makes-done set plan e) .1)
 
-  within-board : OnBoard set plan
-  within-board = record {
-    ring = same-made set full plan e .ring ∙ made-ring ∙ ap (ringProcessors (set .header .slot)) (sym (known .reserves));
-    whole = same-made set full plan e .whole ∙ made-whole ∙ ap (wholes (set .header .slot)) (sym (known .reserves));
-    within = omega (arith, known .processors, on-board);
-  }
-
   -- all of it
   pub checked-plan : CheckedPlan set plan
-  checked-plan = record { placed = placed; reserved = reserved; on-board = within-board }
+  checked-plan = record {
+    placed = checked-fits .placed;
+    reserved = checked-fits .reserved;
+    on-board = record { needs = checked-fits .needs; within = omega (arith, known .processors, on-board) };
+  }
 
   -- ---- who runs
 
@@ -135,7 +103,7 @@ module _ (set : TaskSet) (plan : Plan) (full : length (set .tasks) ≡ mostTasks
     pub who-tells : (x : Tick) → WhoTells set plan p x
     who-tells x =
         let served = who-serves (set .header .slot) (setReserves set) p x from-one among in
-        let stays = who-stays (set .header .slot) (setReserves set) p x (asked .slot) from-one among in
+        let stays = who-stays (set .header .slot) (setReserves set) p x slot from-one among in
         record {
           done = rw (who-is x);
           names = rw (known .reserves, who-is x) (served .names);
@@ -146,18 +114,27 @@ module _ (set : TaskSet) (plan : Plan) (full : length (set .tasks) ≡ mostTasks
 
   -- ---- does it pass
 
-  module _ (q R : ℕ) (s : isServer plan q ≡ true) (a : allowed (set .header .slot) (lossOf (set .header)) R ≡ true) where
-    pass-is : doesPass set plan q R ≡ record { outcome = Done; verdict = verdictOf (loadsIn (loadsOfSet set) (setPlacement set) q) (set .header .slot) (lossOf (set .header)) R }
-    unfolding doesPass
-    pass-is = rw (e, s, a)
+  module _ (q R : ℕ) (s : isServer plan q ≡ true) (a : allowed (set .header .slot) (serverLoss (set .header) (membersIn set plan q)) R ≡ true) where
+    own : List Load
+    own = chosen (setFigures set) (setPlacement set) q
 
-    own-asked : Asked (loadsIn (loadsOfSet set) (setPlacement set) q) (set .header .slot)
-    own-asked = record { sound = every-in _ (loadsOfSet set) (setPlacement set) q (asked .sound); slot = asked .slot }
+    allowed-own : allowed (set .header .slot) (serverLoss (set .header) own) R ≡ true
+    unfolding own
+    allowed-own = subst (λ (p : List ℕ). allowed (set .header .slot) (serverLoss (set .header) (chosen (setFigures set) p q)) R ≡ true) (known .placement) a
+
+    pass-is : doesPass set plan q R ≡ passAnswer (verdictFor (set .header) own R)
+    unfolding doesPass own
+    pass-is = rw (e, s, allowed-own)
+
+    lawful : Lawful (serverDemand (set .header) own) (serverHorizon (set .header) own)
+    unfolding own
+    lawful = server-lawful (set .header) own (every-chosen (Member (set .header)) (setFigures set) (setPlacement set) q (members set full (known .clear))) slot
 
     -- what it answers
     pub pass-tells : PassTells set plan q R
+    unfolding verdictFor own
     pass-tells =
-        let v = verdict-means (loadsIn (loadsOfSet set) (setPlacement set) q) (set .header .slot) (lossOf (set .header)) R own-asked in
+        let v = verdict-means (serverDemand (set .header) own) (serverHorizon (set .header) own) (set .header .slot) (serverLoss (set .header) own) R lawful slot in
         record {
           done = ap (λ (x : PassAnswer). x .outcome) pass-is;
           yes-means = rw (known .placement, pass-is) (v .0);

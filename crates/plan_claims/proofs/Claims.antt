@@ -3,26 +3,31 @@
 use Prim.Native.Nat.{ℕ, _<_}
 use mathlib.Core.Path.{_≡_, refl, sym, ap, subst, _∙_}
 use mathlib.Core.Logic.{_⊎_, ⊎-elim}
-use mathlib.Core.Bool.{true, false, and-false}
+use mathlib.Core.Bool.{Bool, true, false, and-false}
+use mathlib.Core.List.{List}
 use native.Mathlib.Omega.{arith}
 use Rattle.refusals.specs.declared.Refusal.{Refusal}
+use Rattle.refusals.specs.declared.Refusal.the-variants.{Ask}
 use Rattle.refusals.specs.declared.Outcome.{Outcome}
 use Rattle.refusals.specs.declared.Outcome.the-variants.{Done, Refused}
 use Rattle.refusals.proofs.FirstLaws.{done-refused, till-done, done-till, stays, found}
 use Rattle.tasks.specs.declared.set.TaskSet.{TaskSet}
-use Rattle.rows.specs.Charge.{lossOf}
+use Rattle.demand.specs.Load.{Load}
+use Rattle.members.specs.Charge.{serverLoss}
 use Rattle.plan.specs.declared.plan.Plan.{Plan}
 use Rattle.plan.specs.Plan.{planMade, zeroPlan}
 use Rattle.planner.specs.Planner.{planOutcome, answer, planOf}
 use Rattle.planner.proofs.Made.{plan-outcome, plan-is}
 use Rattle.plancheck.specs.Agrees.{makes}
 use Rattle.whoruns.specs.WhoRuns.{isProcessor, whoRuns}
-use Rattle.doespass.specs.DoesPass.{allowed, isServer, doesPass}
+use Rattle.doespass.specs.DoesPass.{allowed, isServer, refusedPass, doesPass}
 use Rattle.plancheck.proofs.AgreeLaws.{agree-same, agree-self}
 use Rattle.plancheck.proofs.Checked.{makes-done, makes-agrees}
-use Rattle.plan_claims.specs.Claims.{PlannerRow, turn, refusalOf, NotHeld, FirstHolds, PlanExactly, PlanDone, PlanOnly, PlanGiven, PlanDetermined, RoomIgnored, MakesOwn, PlanChecked, WhoAnswers, PassAnswers, AsksElse}
+use Rattle.plan_claims.specs.Claims.{PlannerRow, turn, refusalOf, membersIn, NotHeld, FirstHolds, PlanExactly, PlanDone, PlanOnly, PlanGiven, PlanDetermined, RoomIgnored, MakesOwn, PlanFitting, PlanChecked, WhoAnswers, PassAnswers, AsksElse}
 use Rattle.plan_claims.proofs.ExactLaws.{outcomeOf, rowAt, rowOf, outs, holds-by, by-holds, not-by, by-not, refusal-named, row-back, at-turn, turn-below, turn-at, outcome-is}
 use Rattle.plan_claims.proofs.RoomLaws.{set-room, plan-room}
+use Rattle.plan_claims.proofs.MemberLaws.{members-made}
+use Rattle.plan_claims.proofs.FittingLaws.{with-fitting}
 use Rattle.plan_claims.proofs.CheckedLaws.{checked-plan, who-tells, pass-tells}
 
 -- each refusal exactly when its row holds first
@@ -109,6 +114,10 @@ plan-determined = record {
 pub room-ignored : RoomIgnored
 room-ignored = record { of-sets = set-room; of-plans = plan-room }
 
+-- what a plan of any fitting placement is
+pub plan-fitting : PlanFitting
+plan-fitting set placement full clear w = with-fitting set placement full clear w
+
 -- what a checked plan is
 pub plan-checked : PlanChecked
 plan-checked set plan full e = checked-plan set plan full e
@@ -121,6 +130,15 @@ who-answers set plan p x full e t = who-tells set plan full e p t x
 pub pass-answers : PassAnswers
 pass-answers set plan q R full e s a = pass-tells set plan full e q R s a
 
+-- a server that is not there, or a reserve that is not allowed; a plan that is not the planner's is refused before its members count
+module _ (set : TaskSet) (plan : Plan) (q R : ℕ) where
+  pass-else : (b : Bool) → makes set plan ≡ b → allowed (set .header .slot) (serverLoss (set .header) (membersIn set plan q)) R ≡ false →
+      doesPass set plan q R ≡ refusedPass Ask
+  unfolding doesPass
+  pass-else false m a = rw m
+  pass-else true m a =
+      rw (subst (λ (own : List Load). allowed (set .header .slot) (serverLoss (set .header) own) R ≡ false) (members-made set plan m q) a, and-false (isServer plan q), and-false (makes set plan))
+
 -- both questions refuse where something is not there
 pub asks-else : AsksElse
 unfolding whoRuns doesPass
@@ -129,8 +147,5 @@ asks-else = record {
       ⊎-elim (λ (e : makes set plan ≡ false). rw e) (λ (e : isProcessor plan p ≡ false). rw (e, and-false (makes set plan))) h;
   pass = λ set plan q R h.
       ⊎-elim (λ (e : makes set plan ≡ false). rw e)
-      (λ (w : (isServer plan q ≡ false) ⊎ (allowed (set .header .slot) (lossOf (set .header)) R ≡ false)).
-      ⊎-elim (λ (e : isServer plan q ≡ false). rw (e, and-false (makes set plan)))
-      (λ (e : allowed (set .header .slot) (lossOf (set .header)) R ≡ false). rw (e, and-false (isServer plan q), and-false (makes set plan))) w)
-      h;
+      (λ w. ⊎-elim (λ (e : isServer plan q ≡ false). rw (e, and-false (makes set plan))) (pass-else set plan q R (makes set plan) refl) w) h;
 }

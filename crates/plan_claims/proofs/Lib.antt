@@ -1,4 +1,6 @@
 pub mod ExactLaws
 pub mod RoomLaws
+pub mod MemberLaws
+pub mod FittingLaws
 pub mod CheckedLaws
 pub mod Claims

@@ -6,9 +6,9 @@ use Rattle.tasks.specs.declared.set.TaskSet.{TaskSet}
 use Rattle.taskask.specs.Ask.{countRow, askRow}
 use Rattle.taskrows.specs.Rows.{figuresOutcome}
 use Rattle.plan.specs.declared.plan.Plan.{Plan}
-use Rattle.rows.specs.Charge.{loadsOfSet}
+use Rattle.rows.specs.Figures.{setFigures}
 use Rattle.rows.specs.Rows.{horizonOf, horizonRow, chargedOutcome}
-use Rattle.plan.specs.Plan.{setPlacement, setReserves, planMade}
+use Rattle.plan.specs.Plan.{reservesWith, planWith, setPlacement, setReserves, planMade}
 use Rattle.planner.specs.Planner.{needed, fullRow, planOutcome, planOf}
 use Rattle.plancheck.specs.Agrees.{isDone, makes, SamePlan}
 use Rattle.whoruns.specs.WhoRuns.{isProcessor, whoRuns}
@@ -27,21 +27,21 @@ module _ (a b : TaskSet) (s : SameSet a b) where
   unfolding chargedOutcome figuresOutcome horizonRow horizonOf
   same-charged = rw (s .tasks, s .header)
 
-  same-loads : loadsOfSet a ≡ loadsOfSet b
-  unfolding loadsOfSet
-  same-loads = rw (s .tasks, s .header)
+  same-figures : setFigures a ≡ setFigures b
+  unfolding setFigures
+  same-figures = rw (s .tasks)
 
   same-placement : setPlacement a ≡ setPlacement b
   unfolding setPlacement
-  same-placement = rw (same-loads, s .header)
+  same-placement = rw (same-figures, s .header)
 
   same-reserves : setReserves a ≡ setReserves b
-  unfolding setReserves
-  same-reserves = rw (same-loads, s .header)
+  unfolding setReserves reservesWith
+  same-reserves = rw (same-figures, same-placement, s .header)
 
   same-made : planMade a ≡ planMade b
-  unfolding planMade
-  same-made = rw (same-loads, same-placement, same-reserves, s .header)
+  unfolding planMade planWith reservesWith
+  same-made = rw (same-figures, same-placement, s .header)
 
   same-needed : needed a ≡ needed b
   unfolding needed
@@ -66,7 +66,7 @@ module _ (a b : TaskSet) (s : SameSet a b) where
     planner = rw (same-outcome, same-made);
     check = same-check;
     who = λ plan p x. rw (same-check plan, same-reserves, s .header);
-    pass = λ plan q R. rw (same-check plan, same-loads, same-placement, s .header);
+    pass = λ plan q R. rw (same-check plan, same-figures, same-placement, s .header);
   }
 
 -- ---- two plans that differ in unused room alone

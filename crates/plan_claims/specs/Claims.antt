@@ -13,7 +13,11 @@ use Rattle.demand.specs.Passes.{Passes}
 use Rattle.verdict.specs.declared.answer.Verdict.the-variants.{Yes, No}
 use Rattle.verdict.specs.Reserve.{Smallest}
 use Rattle.verdict.specs.Claims.{FailsFirst}
-use Rattle.members.specs.Loads.{loadsIn}
+use Rattle.demand.specs.Load.{Load}
+use Rattle.places.specs.Places.{chosen}
+use Rattle.members.specs.Charge.{serverLoss}
+use Rattle.members.specs.Server.{serverDemand}
+use Rattle.servers.specs.Fitting.{PassesWhole, Fitting}
 use Rattle.ring.specs.declared.clock.Tick.{Tick}
 use Rattle.reserves.specs.Reserves.{ringProcessors, wholes}
 use Rattle.ring_claims.specs.Serves.{Serves}
@@ -27,10 +31,10 @@ use Rattle.plan.specs.declared.plan.Plan.{Plan}
 use Rattle.planner.specs.declared.PlanAnswer.{PlanAnswer}
 use Rattle.whoruns.specs.declared.WhoAnswer.{WhoAnswer}
 use Rattle.doespass.specs.declared.PassAnswer.{PassAnswer}
-use Rattle.rows.specs.Charge.{loadsOfSet, lossOf}
+use Rattle.rows.specs.Figures.{setFigures}
 use Rattle.rows.specs.Rows.{slotRow, tightRow, horizonRow}
-use Rattle.plan.specs.Plan.{planMade, zeroPlan}
-use Rattle.planner.specs.Planner.{needed, fullRow, planOf}
+use Rattle.plan.specs.Plan.{zeroPlan, serverAt, reservesIn, planWith, planMade}
+use Rattle.planner.specs.Planner.{Clear, needed, fullRow, planOf}
 use Rattle.plancheck.specs.Agrees.{SamePlan, makes}
 use Rattle.whoruns.specs.WhoRuns.{isProcessor, whoRuns}
 use Rattle.doespass.specs.DoesPass.{allowed, isServer, doesPass}
@@ -153,28 +157,48 @@ pub record MakesOwn (set : TaskSet) : Type 0 where
   pub own : planOf set .outcome ≡ Done → makes set (planOf set .plan) ≡ true
   pub other : (plan : Plan) → makes set plan ≡ true → (planOf set .outcome ≡ Done) × SamePlan (set .count) plan (planOf set .plan)
 
--- ---- what a checked plan is
+-- ---- what a plan of a fitting placement is, and a checked plan
 
--- what stands at place k, from 1
-abbrev pub at : List ℕ → ℕ → ℕ
-at figures k = getD figures (k - 1) 0
+-- the server of task k; tasks count from 1
+abbrev pub serverOfTask : Plan → (k : ℕ) → ℕ
+serverOfTask plan k = getD (plan .placement) (k - 1) 0
+
+-- the members of server q: those that the plan's own figures name
+abbrev pub membersIn : TaskSet → Plan → (q : ℕ) → List Load
+membersIn set plan q = chosen (setFigures set) (take (set .count) (plan .placement)) q
 
 -- every task is in exactly one server, and no server is empty
 pub record PlacedOnce (set : TaskSet) (plan : Plan) : Type 0 where
-  pub there : (k : ℕ) → 1 ≤ k → k ≤ set .count → (1 ≤ at (plan .server) k) × (at (plan .server) k ≤ plan .servers)
-  pub none-empty : (q : ℕ) → 1 ≤ q → q ≤ plan .servers → (k : ℕ) × (1 ≤ k) × (k ≤ set .count) × (at (plan .server) k ≡ q)
+  pub there : (k : ℕ) → 1 ≤ k → k ≤ set .count → (1 ≤ serverOfTask plan k) × (serverOfTask plan k ≤ plan .servers)
+  pub none-empty : (q : ℕ) → 1 ≤ q → q ≤ plan .servers → (k : ℕ) × (1 ≤ k) × (k ≤ set .count) × (serverOfTask plan k ≡ q)
 
 -- every server passes with R = S, and its reserve is the smallest allowed one with which it passes
 pub record Reserved (set : TaskSet) (plan : Plan) : Type 0 where
-  pub whole : (q : ℕ) → 1 ≤ q → q ≤ plan .servers →
-      Passes (loadsIn (loadsOfSet set) (take (set .count) (plan .server)) q) (set .header .slot) (lossOf (set .header)) (set .header .slot)
+  pub whole : (q : ℕ) → 1 ≤ q → q ≤ plan .servers → PassesWhole (set .header) (membersIn set plan q)
   pub smallest : (q : ℕ) → 1 ≤ q → q ≤ plan .servers →
-      Smallest (loadsIn (loadsOfSet set) (take (set .count) (plan .server)) q) (set .header .slot) (lossOf (set .header)) (at (plan .reserve) q)
+      Smallest (serverDemand (set .header) (membersIn set plan q)) (set .header .slot) (serverLoss (set .header) (membersIn set plan q)) (serverAt plan q .reserve)
+
+-- the processors are those that the reserves need
+pub record Needs (set : TaskSet) (plan : Plan) : Type 0 where
+  pub ring : plan .ring ≡ ringProcessors (set .header .slot) (reservesIn plan)
+  pub whole : plan .whole ≡ wholes (set .header .slot) (reservesIn plan)
+
+-- what a plan of a fitting placement is, in its own figures
+pub record FittingPlan (set : TaskSet) (plan : Plan) : Type 0 where
+  pub placed : PlacedOnce set plan
+  pub reserved : Reserved set plan
+  pub needs : Needs set plan
+
+-- Whoever placed the tasks: the plan of any fitting placement is all of this, where row 11 and rows 5 to 9 are clear. A set has
+-- room for mostTasks tasks, by its type.
+abbrev pub PlanFitting : Type 0
+PlanFitting =
+    (set : TaskSet) (placement : List ℕ) → length (set .tasks) ≡ mostTasks → Clear set → Fitting (set .header) (setFigures set) placement →
+    FittingPlan set (planWith set placement)
 
 -- the processors are those that the reserves need, and no more than the board has
 pub record OnBoard (set : TaskSet) (plan : Plan) : Type 0 where
-  pub ring : plan .ring ≡ ringProcessors (set .header .slot) (take (plan .servers) (plan .reserve))
-  pub whole : plan .whole ≡ wholes (set .header .slot) (take (plan .servers) (plan .reserve))
+  pub needs : Needs set plan
   pub within : plan .ring + plan .whole ≤ set .header .processors
 
 pub record CheckedPlan (set : TaskSet) (plan : Plan) : Type 0 where
@@ -182,7 +206,7 @@ pub record CheckedPlan (set : TaskSet) (plan : Plan) : Type 0 where
   pub reserved : Reserved set plan
   pub on-board : OnBoard set plan
 
--- A plan that the planner gives, or that is handed in and checked, is all of this. A set has room for mostTasks tasks, by its type.
+-- A plan that the planner gives, or that is handed in and checked, is all of this, and has room on the board.
 abbrev pub PlanChecked : Type 0
 PlanChecked =
     (set : TaskSet) (plan : Plan) → length (set .tasks) ≡ mostTasks → makes set plan ≡ true → CheckedPlan set plan
@@ -192,8 +216,8 @@ PlanChecked =
 -- who runs: the server that the processor serves, or 0; the ticks left, this one included, and so on from tick to tick
 pub record WhoTells (set : TaskSet) (plan : Plan) (p : ℕ) (x : Tick) : Type 0 where
   pub done : whoRuns set plan p x .outcome ≡ Done
-  pub names : (q : ℕ) → ((1 ≤ q) × (whoRuns set plan p x .server ≡ q)) ↔ Serves (set .header .slot) (take (plan .servers) (plan .reserve)) p q x
-  pub idle : (whoRuns set plan p x .server ≡ 0) ↔ ((q : ℕ) → Serves (set .header .slot) (take (plan .servers) (plan .reserve)) p q x → ⊥)
+  pub names : (q : ℕ) → ((1 ≤ q) × (whoRuns set plan p x .server ≡ q)) ↔ Serves (set .header .slot) (reservesIn plan) p q x
+  pub idle : (whoRuns set plan p x .server ≡ 0) ↔ ((q : ℕ) → Serves (set .header .slot) (reservesIn plan) p q x → ⊥)
   pub some : 1 ≤ whoRuns set plan p x .left
   pub on : (j : ℕ) → j < whoRuns set plan p x .left →
       whoRuns set plan p (later x j) ≡ record { outcome = Done; server = whoRuns set plan p x .server; left = whoRuns set plan p x .left - j }
@@ -208,19 +232,19 @@ WhoAnswers =
 pub record PassTells (set : TaskSet) (plan : Plan) (q R : ℕ) : Type 0 where
   pub done : doesPass set plan q R .outcome ≡ Done
   pub yes-means : (doesPass set plan q R .verdict ≡ Yes (record { length = 0; demand = 0; supply = 0 })) ↔
-      Passes (loadsIn (loadsOfSet set) (take (set .count) (plan .server)) q) (set .header .slot) (lossOf (set .header)) R
+      Passes (serverDemand (set .header) (membersIn set plan q)) (set .header .slot) (serverLoss (set .header) (membersIn set plan q)) R
   pub no-means : (t w s : ℕ) → (doesPass set plan q R .verdict ≡ No (record { length = t; demand = w; supply = s })) ↔
-      FailsFirst (loadsIn (loadsOfSet set) (take (set .count) (plan .server)) q) (set .header .slot) (lossOf (set .header)) R t w s
+      FailsFirst (serverDemand (set .header) (membersIn set plan q)) (set .header .slot) (serverLoss (set .header) (membersIn set plan q)) R t w s
 
 abbrev pub PassAnswers : Type 0
 PassAnswers =
     (set : TaskSet) (plan : Plan) (q R : ℕ) → length (set .tasks) ≡ mostTasks → makes set plan ≡ true → isServer plan q ≡ true →
-    allowed (set .header .slot) (lossOf (set .header)) R ≡ true → PassTells set plan q R
+    allowed (set .header .slot) (serverLoss (set .header) (membersIn set plan q)) R ≡ true → PassTells set plan q R
 
 -- Both answer 11, and zeros, where the plan is not the planner's of the set, or what is named is not there or not allowed.
 pub record AsksElse : Type 0 where
   pub who : (set : TaskSet) (plan : Plan) (p : ℕ) (x : Tick) →
       (makes set plan ≡ false) ⊎ (isProcessor plan p ≡ false) → whoRuns set plan p x ≡ record { outcome = Refused Ask; server = 0; left = 0 }
   pub pass : (set : TaskSet) (plan : Plan) (q R : ℕ) →
-      (makes set plan ≡ false) ⊎ ((isServer plan q ≡ false) ⊎ (allowed (set .header .slot) (lossOf (set .header)) R ≡ false)) →
+      (makes set plan ≡ false) ⊎ ((isServer plan q ≡ false) ⊎ (allowed (set .header .slot) (serverLoss (set .header) (membersIn set plan q)) R ≡ false)) →
       doesPass set plan q R ≡ record { outcome = Refused Ask; verdict = Yes (record { length = 0; demand = 0; supply = 0 }) }

@@ -1,0 +1,106 @@
+-- A plan that has the servers, the placement and the reserves of a fitting placement is what the claims say of it, in its own
+-- figures. The plan of a set with any fitting placement is one.
+-- Assumes nothing.
+use Prim.Native.Nat.{ℕ, _+_, _-_, _≤_, _<_}
+use mathlib.Core.Path.{_≡_, refl, sym, ap, subst, _∙_}
+use mathlib.Core.List.{List}
+use native.Mathlib.Numerals.{sub-one}
+use native.Mathlib.Omega.{arith}
+use lib.ListN.{length, getD, take, List·getD-map}
+use lib.Seq.{getD-take}
+use Rattle.tasks.specs.Set.{mostTasks}
+use Rattle.tasks.specs.declared.set.TaskSet.{TaskSet}
+use Rattle.verdict.specs.Reserve.{Smallest}
+use Rattle.places.specs.Places.{chosen}
+use Rattle.places.proofs.PaddedLaws.{padded-take}
+use Rattle.members.specs.Charge.{serverLoss}
+use Rattle.members.specs.Server.{serverDemand}
+use Rattle.servers.specs.Placement.{serversIn}
+use Rattle.servers.specs.Fitting.{Fitting}
+use Rattle.sizing.proofs.Claims.{smallest-reserves, reserves-count}
+use Rattle.reserves.specs.Reserves.{ringProcessors, wholes}
+use Rattle.rows.specs.Figures.{setFigures}
+use Rattle.rows.proofs.FigureLaws.{figures-length}
+use Rattle.plan.specs.declared.plan.Plan.{Plan}
+use Rattle.plan.specs.declared.server.Server.{Server}
+use Rattle.plan.specs.Plan.{noServer, serverAt, reservesIn, laidOut, reservesWith, planWith}
+use Rattle.plan.proofs.LaidLaws.{laid-reserves}
+use Rattle.planner.specs.Planner.{Clear}
+use Rattle.planner.proofs.Made.{fits, members, slot-some}
+use Rattle.plan_claims.specs.Claims.{serverOfTask, membersIn, PlacedOnce, Reserved, Needs, FittingPlan, PlanFitting}
+
+-- a plan holds a placement: its servers, the tasks' servers, the reserves and the processors
+pub record Holds (set : TaskSet) (named : List ℕ) (plan : Plan) : Type 0 where
+  pub servers : plan .servers ≡ serversIn named
+  pub placement : take (set .count) (plan .placement) ≡ named
+  pub reserves : reservesIn plan ≡ reservesWith set named
+  pub ring : plan .ring ≡ ringProcessors (set .header .slot) (reservesWith set named)
+  pub whole : plan .whole ≡ wholes (set .header .slot) (reservesWith set named)
+
+module _ (set : TaskSet) (full : length (set .tasks) ≡ mostTasks) (clear : Clear set) (named : List ℕ) (w : Fitting (set .header) (setFigures set) named) where
+  counted : length named ≡ set .count
+  counted = w .parted .one-each ∙ figures-length set (fits set full clear)
+
+  -- the reserves are the smallest
+  smallest-each : (q : ℕ) → 1 ≤ q → q ≤ serversIn named →
+      Smallest (serverDemand (set .header) (chosen (setFigures set) named q)) (set .header .slot) (serverLoss (set .header) (chosen (setFigures set) named q)) (getD (reservesWith set named) (q - 1) 0)
+  unfolding reservesWith
+  smallest-each = smallest-reserves (set .header) (setFigures set) named (slot-some set full clear) (members set full clear) w .1
+
+  module _ (plan : Plan) (own : Holds set named plan) where
+    server-at : (i : ℕ) → i < set .count → getD named i 0 ≡ getD (plan .placement) i 0
+    server-at i h = sym (ap (λ (l : List ℕ). getD l i 0) (own .placement)) ∙ getD-take (set .count) (plan .placement) i 0 h
+
+    placed : PlacedOnce set plan
+    placed = record {
+      there = λ k h l.
+          let i : k - 1 < length named = omega (arith, counted) in
+          let j : k - 1 < set .count = omega arith in
+          let p = w .parted .there (k - 1) i in
+          (omega (arith, server-at (k - 1) j, p .0), omega (arith, server-at (k - 1) j, p .1, own .servers));
+      none-empty = λ q h l.
+          let p = w .parted .none-empty q h (omega (arith, own .servers)) in
+          let i : p .0 < set .count = omega (arith, counted, p .1) in
+          let s : p .0 + 1 - 1 ≡ p .0 = omega arith in
+          (p .0 + 1, omega arith, omega arith, ap (λ (n : ℕ). getD (plan .placement) n 0) s ∙ sym (server-at (p .0) i) ∙ p .2);
+    }
+
+    reserve-at : (q : ℕ) → 1 ≤ q → q ≤ plan .servers → getD (reservesWith set named) (q - 1) 0 ≡ serverAt plan q .reserve
+    reserve-at q h l =
+        sym (ap (λ (r : List ℕ). getD r (q - 1) 0) (own .reserves))
+        ∙ List·getD-map (λ (s : Server). s .reserve) (take (plan .servers) (plan .server)) (q - 1) noServer
+        ∙ ap (λ (s : Server). s .reserve) (getD-take (plan .servers) (plan .server) (q - 1) noServer (omega arith))
+        ∙ ap (λ (i : ℕ). getD (plan .server) i noServer .reserve) (sub-one q)
+
+    reserved : Reserved set plan
+    reserved = record {
+      whole = λ q h l. rw (own .placement) (w .passes q h (omega (arith, own .servers)));
+      smallest = λ q h l.
+          subst (Smallest (serverDemand (set .header) (membersIn set plan q)) (set .header .slot) (serverLoss (set .header) (membersIn set plan q)))
+          (reserve-at q h l) (rw (own .placement) (smallest-each q h (omega (arith, own .servers))));
+    }
+
+    needs : Needs set plan
+    needs = record {
+      ring = own .ring ∙ ap (ringProcessors (set .header .slot)) (sym (own .reserves));
+      whole = own .whole ∙ ap (wholes (set .header .slot)) (sym (own .reserves));
+    }
+
+    -- all of it
+    pub fitting-plan : FittingPlan set plan
+    fitting-plan = record { placed = placed; reserved = reserved; needs = needs }
+
+  -- the plan of the placement holds it
+  with-holds : Holds set named (planWith set named)
+  unfolding planWith laidOut reservesWith
+  with-holds = record {
+    servers = reserves-count (set .header) (setFigures set) named;
+    placement = padded-take named (set .count) counted;
+    reserves = laid-reserves (set .header .slot) (set .header .cpmdo) named (reservesWith set named);
+    ring = refl;
+    whole = refl;
+  }
+
+-- so it is all of this
+pub with-fitting : PlanFitting
+with-fitting set named full clear w = fitting-plan set full clear named w (planWith set named) (with-holds set full clear named w)
