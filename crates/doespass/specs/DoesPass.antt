@@ -2,16 +2,19 @@
 -- Document 01, "From tasks to servers to ring" and row 11 of the refusals.
 use Prim.Native.Nat.{ℕ, _+_}
 use mathlib.Core.Bool.{Bool, cond, _&&_, _||_}
+use mathlib.Core.List.{List}
 use lib.Dec.{leb, eqb}
 use Rattle.refusals.specs.declared.Refusal.{Refusal}
 use Rattle.refusals.specs.declared.Refusal.the-variants.{Ask}
 use Rattle.refusals.specs.declared.Outcome.the-variants.{Done, Refused}
 use Rattle.verdict.specs.declared.answer.Verdict.{Verdict}
 use Rattle.verdict.specs.declared.answer.Verdict.the-variants.{Yes}
-use Rattle.verdict.specs.Verdict.{verdictOf}
-use Rattle.members.specs.Loads.{loadsIn}
+use Rattle.demand.specs.Load.{Load}
+use Rattle.places.specs.Places.{chosen}
+use Rattle.members.specs.Charge.{serverLoss}
+use Rattle.members.specs.Server.{verdictFor}
 use Rattle.tasks.specs.declared.set.TaskSet.{TaskSet}
-use Rattle.rows.specs.Charge.{loadsOfSet, lossOf}
+use Rattle.rows.specs.Figures.{setFigures}
 use Rattle.plan.specs.declared.plan.Plan.{Plan}
 use Rattle.plan.specs.Plan.{setPlacement}
 use Rattle.plancheck.specs.Agrees.{makes}
@@ -25,6 +28,10 @@ allowed S L R = (leb (L + 1) R && leb (R + 1) S) || eqb R S
 unfoldable pub isServer : Plan → ℕ → Bool
 isServer plan q = leb 1 q && leb q (plan .servers)
 
+-- the members of server q: the figures of its tasks, in file order
+abbrev pub serverMembers : TaskSet → (q : ℕ) → List Load
+serverMembers set q = chosen (setFigures set) (setPlacement set) q
+
 -- a refused question has zeros
 abbrev pub refusedPass : Refusal → PassAnswer
 refusedPass r = record { outcome = Refused r; verdict = Yes (record { length = 0; demand = 0; supply = 0 }) }
@@ -36,6 +43,6 @@ passAnswer verdict = record { outcome = Done; verdict = verdict }
 unfoldable pub doesPass : TaskSet → Plan → (q R : ℕ) → PassAnswer
 doesPass set plan q R =
     cond
-    (makes set plan && (isServer plan q && allowed (set .header .slot) (lossOf (set .header)) R))
-    (passAnswer (verdictOf (loadsIn (loadsOfSet set) (setPlacement set) q) (set .header .slot) (lossOf (set .header)) R))
+    (makes set plan && (isServer plan q && allowed (set .header .slot) (serverLoss (set .header) (serverMembers set q)) R))
+    (passAnswer (verdictFor (set .header) (serverMembers set q) R))
     (refusedPass Ask)

@@ -1,24 +1,22 @@
 // The question does a server pass with a reserve, about a set and its plan.
 // What it means stands in specs/DoesPass.antt. Before it stands the function for a plan that is checked already.
-use members::gather;
-use members::own_horizon;
+use judging::judged;
+use members::loss;
 use plan::plan::Plan;
 use plancheck::makes_plan;
 use refusals::Outcome;
 use refusals::Refusal;
-use rows::charge;
+use rows::figures;
 use rows::rows::horizon;
 use tasks::set::TaskSet;
 use verdict::answer::Reading;
 use verdict::answer::Verdict;
 ghost use mathlib.Core.Path.{_≡_};
 ghost use mathlib.Core.Bool.{true};
-ghost use Rattle.members.specs.Loads.{loadsIn};
-ghost use Rattle.verdict.specs.Verdict.{verdictOf};
-ghost use Rattle.rows.specs.Charge.{loadsOfSet, lossOf};
-ghost use Rattle.plan.specs.Plan.{setPlacement};
+ghost use Rattle.members.specs.Charge.{serverLoss};
+ghost use Rattle.members.specs.Server.{verdictFor};
 ghost use Rattle.plancheck.specs.Agrees.{makes};
-ghost use Rattle.doespass.specs.DoesPass.{isServer, allowed, refusedPass, doesPass};
+ghost use Rattle.doespass.specs.DoesPass.{isServer, allowed, serverMembers, refusedPass, doesPass};
 
 // A refused question holds a yes of zeros, which says nothing.
 pub struct PassAnswer {
@@ -48,37 +46,20 @@ pub fn is_server(plan: Plan, server: u64) -> bool
     server <= plan.servers
 }
 
-// Does a server of a plan that is checked already pass with an allowed reserve.
+// Does a server of a plan that is checked already pass with an allowed reserve: its members are at the places of its record.
 pub fn pass_judged(set: TaskSet, plan: Plan, server: u64, reserve: u64) -> Verdict
-    requires { ⌜ (makes set plan ≡ true) × (allowed (set .header .slot) (lossOf (set .header)) reserve ≡ true) ⌝ }
-    ensures { λ r. ⌜ r ≡ verdictOf (loadsIn (loadsOfSet set) (setPlacement set) server) (set .header .slot) (lossOf (set .header)) reserve ⌝ }
+    requires { ⌜ (makes set plan ≡ true) × (isServer plan server ≡ true) ⌝ }
+    requires { ⌜ allowed (set .header .slot) (serverLoss (set .header) (serverMembers set server)) reserve ≡ true ⌝ }
+    ensures { λ r. ⌜ r ≡ verdictFor (set .header) (serverMembers set server) reserve ⌝ }
 {
     let common = horizon(set);
+    let numbers = figures(set);
+    let at = server as usize - 1;
+    let own = plan.server[at];
     let header = set.header;
-    let slot = header.slot as u64;
-    let loads = charge::loads(set);
-    let n = loads.count;
-    let own = gather(
-        &loads.costs,
-        &loads.deadlines,
-        &loads.periods,
-        &plan.placement,
-        n,
-        server,
-    );
-    let own_common = own_horizon(own, slot, common);
+    let cache = own.cache;
     let k = own.count;
-    let loss = charge::loss(header);
-    verdict::judge::verdict(
-        &own.costs,
-        &own.deadlines,
-        &own.periods,
-        k,
-        slot,
-        loss,
-        reserve,
-        own_common,
-    )
+    judged(header, cache, &numbers, &own.places, k, reserve, common)
 }
 
 pub fn refused_pass(refusal: Refusal) -> PassAnswer
@@ -103,7 +84,10 @@ pub fn pass_made(set: TaskSet, plan: Plan, server: u64, reserve: u64) -> PassAns
         return refused_pass(Refusal::Ask);
     }
     let header = set.header;
-    if !is_allowed(header.slot as u64, charge::loss(header), reserve) {
+    let at = server as usize - 1;
+    let own = plan.server[at];
+    let lost = loss(header, own.cache);
+    if !is_allowed(header.slot as u64, lost, reserve) {
         return refused_pass(Refusal::Ask);
     }
     PassAnswer {
