@@ -8,7 +8,7 @@ use mathlib.Core.List.{List}
 use native.Mathlib.Omega.{arith}
 use borrow.Author.Tests.{leb-true, ltb-false}
 use lib.Dec.{leb}
-use lib.ListN.{length, getD, take}
+use lib.ListN.{length, getD, take, List·getD-map}
 use lib.Seq.{getD-take}
 use Rattle.tasks.specs.Set.{mostTasks}
 use Rattle.laws.proofs.Tests.{and-left, and-right}
@@ -20,6 +20,7 @@ use Rattle.verdict.specs.Claims.{Asked}
 use Rattle.verdict.proofs.Claims.{verdict-means}
 use Rattle.members.specs.Loads.{loadsIn}
 use Rattle.servers.specs.Placement.{serversIn}
+use Rattle.servers.specs.Reserve.{reservesOf}
 use Rattle.servers.specs.Claims.{Parted}
 use Rattle.servers.proofs.Claims.{each-in-one, every-passes, smallest-reserves}
 use Rattle.members.proofs.LoadLaws.{every-in}
@@ -29,9 +30,10 @@ use Rattle.reserves.specs.Reserves.{ringProcessors, wholes, processorsOf}
 use Rattle.ring_claims.proofs.Claims.{who-serves, who-stays}
 use Rattle.tasks.specs.declared.set.TaskSet.{TaskSet}
 use Rattle.plan.specs.declared.plan.Plan.{Plan}
+use Rattle.plan.specs.declared.server.Server.{Server}
 use Rattle.doespass.specs.declared.PassAnswer.{PassAnswer}
 use Rattle.rows.specs.Charge.{loadsOfSet, lossOf}
-use Rattle.plan.specs.Plan.{laidOut, setPlacement, setReserves, planMade}
+use Rattle.plan.specs.Plan.{noServer, laidOut, reservesWith, planWith, setPlacement, setReserves, planMade}
 use Rattle.planner.specs.Planner.{needed, fullRow}
 use Rattle.plancheck.specs.Agrees.{makes}
 use Rattle.whoruns.specs.WhoRuns.{isProcessor, whoAnswer, whoRuns}
@@ -54,8 +56,8 @@ module _ (set : TaskSet) (plan : Plan) (full : length (set .tasks) ≡ mostTasks
   counted : length (setPlacement set) ≡ set .count
   counted = placement-count set full plan (known .clear)
 
-  server-at : (i : ℕ) → i < set .count → getD (setPlacement set) i 0 ≡ getD (plan .server) i 0
-  server-at i h = sym (ap (λ (l : List ℕ). getD l i 0) (known .placement)) ∙ getD-take (set .count) (plan .server) i 0 h
+  server-at : (i : ℕ) → i < set .count → getD (setPlacement set) i 0 ≡ getD (plan .placement) i 0
+  server-at i h = sym (ap (λ (l : List ℕ). getD l i 0) (known .placement)) ∙ getD-take (set .count) (plan .placement) i 0 h
 
   placed : PlacedOnce set plan
   placed = record {
@@ -68,12 +70,14 @@ module _ (set : TaskSet) (plan : Plan) (full : length (set .tasks) ≡ mostTasks
         let w = parted .none-empty q h (omega (arith, known .servers)) in
         let i : w .0 < set .count = omega (arith, counted, w .1) in
         let s : w .0 + 1 - 1 ≡ w .0 = omega arith in
-        (w .0 + 1, omega arith, omega arith, ap (λ (n : ℕ). getD (plan .server) n 0) s ∙ sym (server-at (w .0) i) ∙ w .2);
+        (w .0 + 1, omega arith, omega arith, ap (λ (n : ℕ). getD (plan .placement) n 0) s ∙ sym (server-at (w .0) i) ∙ w .2);
   }
 
-  reserve-at : (q : ℕ) → 1 ≤ q → q ≤ plan .servers → getD (setReserves set) (q - 1) 0 ≡ at (plan .reserve) q
+  reserve-at : (q : ℕ) → 1 ≤ q → q ≤ plan .servers → getD (setReserves set) (q - 1) 0 ≡ getD (plan .server) (q - 1) noServer .reserve
   reserve-at q h l =
-      sym (ap (λ (r : List ℕ). getD r (q - 1) 0) (known .reserves)) ∙ getD-take (plan .servers) (plan .reserve) (q - 1) 0 (omega arith)
+      sym (ap (λ (r : List ℕ). getD r (q - 1) 0) (known .reserves))
+      ∙ List·getD-map (λ (s : Server). s .reserve) (take (plan .servers) (plan .server)) (q - 1) noServer
+      ∙ ap (λ (s : Server). s .reserve) (getD-take (plan .servers) (plan .server) (q - 1) noServer (omega arith))
 
   passes-whole : (q : ℕ) → 1 ≤ q → q ≤ serversIn (setPlacement set) →
       Passes (loadsIn (loadsOfSet set) (setPlacement set) q) (set .header .slot) (lossOf (set .header)) (set .header .slot)
@@ -82,23 +86,23 @@ module _ (set : TaskSet) (plan : Plan) (full : length (set .tasks) ≡ mostTasks
 
   smallest-each : (q : ℕ) → 1 ≤ q → q ≤ serversIn (setPlacement set) →
       Smallest (loadsIn (loadsOfSet set) (setPlacement set) q) (set .header .slot) (lossOf (set .header)) (getD (setReserves set) (q - 1) 0)
-  unfolding setPlacement setReserves
+  unfolding setPlacement setReserves reservesWith reservesOf
   smallest-each = smallest-reserves (loadsOfSet set) (set .header .slot) (lossOf (set .header)) asked .1
 
   reserved : Reserved set plan
   reserved = record {
     whole = λ q h l. rw (known .placement) (passes-whole q h (omega (arith, known .servers)));
     smallest = λ q h l.
-        subst (λ (R : ℕ). Smallest (loadsIn (loadsOfSet set) (take (set .count) (plan .server)) q) (set .header .slot) (lossOf (set .header)) R) (reserve-at q h l)
+        subst (λ (R : ℕ). Smallest (loadsIn (loadsOfSet set) (take (set .count) (plan .placement)) q) (set .header .slot) (lossOf (set .header)) R) (reserve-at q h l)
         (rw (known .placement) (smallest-each q h (omega (arith, known .servers))));
   }
 
   made-ring : planMade set .ring ≡ ringProcessors (set .header .slot) (setReserves set)
-  unfolding planMade laidOut
+  unfolding planMade planWith laidOut setReserves
   made-ring = refl
 
   made-whole : planMade set .whole ≡ wholes (set .header .slot) (setReserves set)
-  unfolding planMade laidOut
+  unfolding planMade planWith laidOut setReserves
   made-whole = refl
 
   on-board : needed set ≤ set .header .processors

@@ -8,7 +8,7 @@ use Rattle.taskrows.specs.Rows.{figuresOutcome}
 use Rattle.plan.specs.declared.plan.Plan.{Plan}
 use Rattle.rows.specs.Charge.{loadsOfSet}
 use Rattle.rows.specs.Rows.{horizonOf, horizonRow, chargedOutcome}
-use Rattle.plan.specs.Plan.{setPlacement, setReserves, planMade}
+use Rattle.plan.specs.Plan.{reservesWith, planWith, setPlacement, setReserves, planMade}
 use Rattle.planner.specs.Planner.{needed, fullRow, planOutcome, planOf}
 use Rattle.plancheck.specs.Agrees.{isDone, makes, SamePlan}
 use Rattle.whoruns.specs.WhoRuns.{isProcessor, whoRuns}
@@ -36,12 +36,12 @@ module _ (a b : TaskSet) (s : SameSet a b) where
   same-placement = rw (same-loads, s .header)
 
   same-reserves : setReserves a ≡ setReserves b
-  unfolding setReserves
-  same-reserves = rw (same-loads, s .header)
+  unfolding setReserves reservesWith
+  same-reserves = rw (same-loads, same-placement, s .header)
 
   same-made : planMade a ≡ planMade b
-  unfolding planMade
-  same-made = rw (same-loads, same-placement, same-reserves, s .header)
+  unfolding planMade planWith setReserves
+  same-made = rw (same-placement, same-reserves, s .header)
 
   same-needed : needed a ≡ needed b
   unfolding needed

@@ -29,7 +29,7 @@ use Rattle.whoruns.specs.declared.WhoAnswer.{WhoAnswer}
 use Rattle.doespass.specs.declared.PassAnswer.{PassAnswer}
 use Rattle.rows.specs.Charge.{loadsOfSet, lossOf}
 use Rattle.rows.specs.Rows.{slotRow, tightRow, horizonRow}
-use Rattle.plan.specs.Plan.{planMade, zeroPlan}
+use Rattle.plan.specs.Plan.{noServer, reservesIn, planMade, zeroPlan}
 use Rattle.planner.specs.Planner.{needed, fullRow, planOf}
 use Rattle.plancheck.specs.Agrees.{SamePlan, makes}
 use Rattle.whoruns.specs.WhoRuns.{isProcessor, whoRuns}
@@ -161,20 +161,20 @@ at figures k = getD figures (k - 1) 0
 
 -- every task is in exactly one server, and no server is empty
 pub record PlacedOnce (set : TaskSet) (plan : Plan) : Type 0 where
-  pub there : (k : ℕ) → 1 ≤ k → k ≤ set .count → (1 ≤ at (plan .server) k) × (at (plan .server) k ≤ plan .servers)
-  pub none-empty : (q : ℕ) → 1 ≤ q → q ≤ plan .servers → (k : ℕ) × (1 ≤ k) × (k ≤ set .count) × (at (plan .server) k ≡ q)
+  pub there : (k : ℕ) → 1 ≤ k → k ≤ set .count → (1 ≤ at (plan .placement) k) × (at (plan .placement) k ≤ plan .servers)
+  pub none-empty : (q : ℕ) → 1 ≤ q → q ≤ plan .servers → (k : ℕ) × (1 ≤ k) × (k ≤ set .count) × (at (plan .placement) k ≡ q)
 
 -- every server passes with R = S, and its reserve is the smallest allowed one with which it passes
 pub record Reserved (set : TaskSet) (plan : Plan) : Type 0 where
   pub whole : (q : ℕ) → 1 ≤ q → q ≤ plan .servers →
-      Passes (loadsIn (loadsOfSet set) (take (set .count) (plan .server)) q) (set .header .slot) (lossOf (set .header)) (set .header .slot)
+      Passes (loadsIn (loadsOfSet set) (take (set .count) (plan .placement)) q) (set .header .slot) (lossOf (set .header)) (set .header .slot)
   pub smallest : (q : ℕ) → 1 ≤ q → q ≤ plan .servers →
-      Smallest (loadsIn (loadsOfSet set) (take (set .count) (plan .server)) q) (set .header .slot) (lossOf (set .header)) (at (plan .reserve) q)
+      Smallest (loadsIn (loadsOfSet set) (take (set .count) (plan .placement)) q) (set .header .slot) (lossOf (set .header)) (getD (plan .server) (q - 1) noServer .reserve)
 
 -- the processors are those that the reserves need, and no more than the board has
 pub record OnBoard (set : TaskSet) (plan : Plan) : Type 0 where
-  pub ring : plan .ring ≡ ringProcessors (set .header .slot) (take (plan .servers) (plan .reserve))
-  pub whole : plan .whole ≡ wholes (set .header .slot) (take (plan .servers) (plan .reserve))
+  pub ring : plan .ring ≡ ringProcessors (set .header .slot) (reservesIn plan)
+  pub whole : plan .whole ≡ wholes (set .header .slot) (reservesIn plan)
   pub within : plan .ring + plan .whole ≤ set .header .processors
 
 pub record CheckedPlan (set : TaskSet) (plan : Plan) : Type 0 where
@@ -192,8 +192,8 @@ PlanChecked =
 -- who runs: the server that the processor serves, or 0; the ticks left, this one included, and so on from tick to tick
 pub record WhoTells (set : TaskSet) (plan : Plan) (p : ℕ) (x : Tick) : Type 0 where
   pub done : whoRuns set plan p x .outcome ≡ Done
-  pub names : (q : ℕ) → ((1 ≤ q) × (whoRuns set plan p x .server ≡ q)) ↔ Serves (set .header .slot) (take (plan .servers) (plan .reserve)) p q x
-  pub idle : (whoRuns set plan p x .server ≡ 0) ↔ ((q : ℕ) → Serves (set .header .slot) (take (plan .servers) (plan .reserve)) p q x → ⊥)
+  pub names : (q : ℕ) → ((1 ≤ q) × (whoRuns set plan p x .server ≡ q)) ↔ Serves (set .header .slot) (reservesIn plan) p q x
+  pub idle : (whoRuns set plan p x .server ≡ 0) ↔ ((q : ℕ) → Serves (set .header .slot) (reservesIn plan) p q x → ⊥)
   pub some : 1 ≤ whoRuns set plan p x .left
   pub on : (j : ℕ) → j < whoRuns set plan p x .left →
       whoRuns set plan p (later x j) ≡ record { outcome = Done; server = whoRuns set plan p x .server; left = whoRuns set plan p x .left - j }
@@ -208,9 +208,9 @@ WhoAnswers =
 pub record PassTells (set : TaskSet) (plan : Plan) (q R : ℕ) : Type 0 where
   pub done : doesPass set plan q R .outcome ≡ Done
   pub yes-means : (doesPass set plan q R .verdict ≡ Yes (record { length = 0; demand = 0; supply = 0 })) ↔
-      Passes (loadsIn (loadsOfSet set) (take (set .count) (plan .server)) q) (set .header .slot) (lossOf (set .header)) R
+      Passes (loadsIn (loadsOfSet set) (take (set .count) (plan .placement)) q) (set .header .slot) (lossOf (set .header)) R
   pub no-means : (t w s : ℕ) → (doesPass set plan q R .verdict ≡ No (record { length = t; demand = w; supply = s })) ↔
-      FailsFirst (loadsIn (loadsOfSet set) (take (set .count) (plan .server)) q) (set .header .slot) (lossOf (set .header)) R t w s
+      FailsFirst (loadsIn (loadsOfSet set) (take (set .count) (plan .placement)) q) (set .header .slot) (lossOf (set .header)) R t w s
 
 abbrev pub PassAnswers : Type 0
 PassAnswers =
