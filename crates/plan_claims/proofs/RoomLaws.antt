@@ -41,7 +41,7 @@ module _ (a b : TaskSet) (s : SameSet a b) where
 
   same-made : planMade a ≡ planMade b
   unfolding planMade planWith setReserves
-  same-made = rw (same-placement, same-reserves, s .header)
+  same-made = rw (same-reserves, same-placement, s .header)
 
   same-needed : needed a ≡ needed b
   unfolding needed
