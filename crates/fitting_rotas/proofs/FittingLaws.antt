@@ -1,7 +1,7 @@
 -- The rota of a set under a fitting placement stands: each server has its smallest reserve, a lawful demand, and some demand.
 -- Assumes nothing.
 use Prim.Native.Nat.{ℕ, _-_, _≤_}
-use mathlib.Core.Path.{_≡_, subst}
+use mathlib.Core.Path.{subst}
 use mathlib.Core.List.{List, [], _∷_}
 use native.Mathlib.Numerals.{sub-one}
 use native.Mathlib.Omega.{arith}
@@ -25,7 +25,7 @@ use Rattle.sizing.proofs.Claims.{smallest-reserves}
 use Rattle.rows.specs.Figures.{setFigures}
 use Rattle.rows.specs.Rows.{Chargeable}
 use Rattle.rows.proofs.Clears.{board-slot, figures-members}
-use Rattle.rotas.specs.Rota.{Rota, IsServer, StandingServer, Standing}
+use Rattle.rotas.specs.Rota.{IsServer, StandingServer, Standing}
 use Rattle.fitting_rotas.specs.Rota.{rotaOf}
 
 -- sound loads, at least one, demand something at some length

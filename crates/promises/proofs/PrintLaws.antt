@@ -1,89 +1,123 @@
--- What a plan that the planner makes of a set prints: place by place the figures of the set's rota.
+-- What a plan that is laid out prints, and any plan that agrees with it in what is used.
 -- Assumes nothing.
 use Prim.Native.Nat.{ℕ, zero, suc, _+_, _-_, _≤_, _<_}
-use mathlib.Core.Path.{_≡_, refl, sym, ap, _∙_}
-use mathlib.Core.Bool.{Bool, true, cond}
-use mathlib.Core.List.{List, [], _∷_, _++_}
+use mathlib.Core.Path.{_≡_, refl, sym, ap, subst, _∙_}
+use mathlib.Core.Bool.{Bool, cond}
+use mathlib.Core.List.{List, [], _∷_, map}
 use native.Mathlib.Numerals.{add-one}
 use native.Mathlib.Omega.{arith}
 use borrow.Author.Tests.{lt-ltb}
 use lib.ListN.{length, getD, take}
 use lib.Seq.{getD-take}
-use Rattle.places.specs.Padded.{padded, upTo}
-use Rattle.places.proofs.PaddedLaws.{padded-take, up-length, up-at}
+use Rattle.places.specs.Places.{placesIn}
+use Rattle.places.proofs.PaddedLaws.{padded-take}
 use Rattle.reserves.specs.Reserves.{reserveOf, startOf, processorsOf}
+use Rattle.ring.specs.declared.cover.Stand.{Stand}
 use Rattle.ring.specs.Who.{firstReserve}
-use Rattle.ring_claims.specs.Serves.{RingServer}
-use Rattle.tasks.specs.declared.set.TaskSet.{TaskSet}
 use Rattle.plan.specs.declared.plan.Plan.{Plan}
-use Rattle.plan.specs.Plan.{ringStart, laidOut, setReserves, planMade}
-use Rattle.plancheck.specs.Agrees.{makes, SamePlan}
-use Rattle.planner.proofs.Made.{plan-outcome}
-use Rattle.plancheck.proofs.Checked.{OfSet, of-set, same-made, makes-done}
-use Rattle.promises.specs.Accepted.{PrintsRota, slotOf}
-use Rattle.promises.specs.Promises.{PlanIsRota}
+use Rattle.plan.specs.declared.server.Server.{Server}
+use Rattle.plan.specs.Plan.{noServer, zeroStand, serverAt, serverOf, laidOut}
+use Rattle.plan.proofs.LaidLaws.{laid-reserves, laid-server, laid-first}
+use Rattle.plancheck.specs.Agrees.{used, SamePlan}
+use Rattle.plancheck.proofs.Checked.{reserves-same}
+use Rattle.rotas.specs.Rota.{Rota, IsServer}
+use Rattle.promises.specs.Prints.{PrintsServer, PrintsRota}
 
-module _ (f : ℕ → ℕ) where
-  -- a row whose used part is that of another, filled so, has f q at place q − 1
-  pub printed : (a b : List ℕ) (n m : ℕ) → n ≡ m → b ≡ padded (upTo f m) → take n a ≡ take m b → (q : ℕ) → 1 ≤ q → q ≤ m → getD a (q - 1) 0 ≡ f q
-  printed a b n m e g same zero h l = absurd (omega arith)
-  printed a b n m e g same (suc i) h l =
-      let p : suc i - 1 ≡ i = omega arith in
-      ap (λ (k : ℕ). getD a k 0) p
-      ∙ sym (getD-take n a i 0 (omega arith))
-      ∙ ap (λ (ns : List ℕ). getD ns i 0) (same ∙ ap (take m) g ∙ padded-take (upTo f m) m (up-length f m))
-      ∙ up-at f m i l ∙ ap f (add-one i)
+-- what stands at a place of something of each element
+map-at : {A B : Type 0} (f : A → B) (d : A) (xs : List A) (i : ℕ) → getD (map f xs) i (f d) ≡ f (getD xs i d)
+map-at f d [] zero = refl
+map-at f d [] (suc i) = refl
+map-at f d (x ∷ xs) zero = refl
+map-at f d (x ∷ xs) (suc i) = map-at f d xs i
 
-module _ (set : TaskSet) (plan : Plan) (full : length (set .tasks) ≡ 64) (e : makes set plan ≡ true) where
-  -- what agrees with the set
-  known : OfSet set plan
-  known = of-set set full plan e
+module _ (rota : Rota) (placement : List ℕ) where
+  -- ---- a plan that is laid out
 
-  -- what agrees with the planner's own plan
-  made : SamePlan (set .count) plan (planMade set)
-  made = same-made set full plan e
+  module _ (cache : ℕ) where
+    abbrev laid : Plan
+    laid = laidOut (rota .slot) cache placement (rota .reserves)
 
-  -- the start of a ring server
-  start-at : (q : ℕ) → RingServer (slotOf set) (setReserves set) q → getD (plan .start) (q - 1) 0 ≡ startOf (slotOf set) (setReserves set) q
-  unfolding planMade laidOut
-  start-at q r =
-      printed (ringStart (slotOf set) (setReserves set)) (plan .start) (planMade set .start) (plan .servers) (planMade set .servers) (made .servers) refl
-      (made .start) q (r .some) (r .there)
-      ∙ ap (λ (b : Bool). cond b (startOf (slotOf set) (setReserves set) q) 0) (lt-ltb (reserveOf (setReserves set) q) (slotOf set) (r .ring))
+    -- the server of a number
+    server-is : (q : ℕ) → IsServer rota q → serverAt laid q ≡ serverOf (rota .slot) cache placement (rota .reserves) q
+    server-is zero s = absurd (omega (arith, s .some))
+    server-is (suc i) s =
+        laid-server (rota .slot) cache placement (rota .reserves) noServer i (s .there)
+        ∙ ap (serverOf (rota .slot) cache placement (rota .reserves)) (add-one i)
 
-  -- as many processors
-  all-processors : plan .ring + plan .whole ≡ planMade set .ring + planMade set .whole
-  all-processors = ap (λ (n : ℕ). n + plan .whole) (made .ring) ∙ ap (λ (n : ℕ). planMade set .ring + n) (made .whole)
+    -- what it prints
+    server-of : (q : ℕ) → PrintsServer rota placement q (serverOf (rota .slot) cache placement (rota .reserves) q)
+    server-of q = record {
+      reserve = refl;
+      start = λ h. ap (λ (b : Bool). cond b (startOf (rota .slot) (rota .reserves) q) 0) (lt-ltb (reserveOf (rota .reserves) q) (rota .slot) h);
+      tasks = refl;
+      places = padded-take (placesIn placement q) (length (placesIn placement q)) refl;
+    }
 
-  module _ (p : ℕ) (some : 1 ≤ p) (there : p ≤ processorsOf (slotOf set) (setReserves set)) where
-    -- the first server of a processor
-    first-at : getD (plan .first) (p - 1) 0 ≡ firstReserve (slotOf set) (setReserves set) p .server
-    unfolding planMade laidOut
-    first-at =
-        printed (λ k. firstReserve (slotOf set) (setReserves set) k .server) (plan .first) (planMade set .first) (plan .ring + plan .whole)
-        (planMade set .ring + planMade set .whole) all-processors refl (made .first) p some there
+    -- the first reserve of a processor
+    first-is : (p : ℕ) → 1 ≤ p → p ≤ processorsOf (rota .slot) (rota .reserves) →
+        getD (laid .first) (p - 1) zeroStand ≡ firstReserve (rota .slot) (rota .reserves) p
+    first-is zero h l = absurd (omega arith)
+    first-is (suc i) h l =
+        let e : suc i - 1 ≡ i = omega arith in
+        ap (λ (k : ℕ). getD (laid .first) k zeroStand) e
+        ∙ laid-first (rota .slot) cache placement (rota .reserves) zeroStand i l
+        ∙ ap (firstReserve (rota .slot) (rota .reserves)) (add-one i)
 
-    -- and its first duration
-    duration-at : getD (plan .duration) (p - 1) 0 ≡ firstReserve (slotOf set) (setReserves set) p .left
-    unfolding planMade laidOut
-    duration-at =
-        printed (λ k. firstReserve (slotOf set) (setReserves set) k .left) (plan .duration) (planMade set .duration) (plan .ring + plan .whole)
-        (planMade set .ring + planMade set .whole) all-processors refl (made .duration) p some there
+    pub laid-prints : PrintsRota rota placement laid
+    unfolding laidOut
+    laid-prints = record {
+      slot = refl;
+      reserves = laid-reserves (rota .slot) cache placement (rota .reserves);
+      servers = refl;
+      server = λ q s. subst (PrintsServer rota placement q) (sym (server-is q s)) (server-of q);
+      placed = padded-take placement (length placement) refl;
+      ring = refl;
+      whole = refl;
+      first = first-is;
+    }
 
-  -- every figure that is used
-  prints : PrintsRota set plan
-  unfolding planMade laidOut
-  prints = record {
-    accepted = plan-outcome set ∙ makes-done set plan e;
-    slot = known .slot;
-    reserves = known .reserves;
-    starts = start-at;
-    placement = known .placement;
-    ring = made .ring;
-    whole = made .whole;
-    first = λ p some there. (first-at p some there, duration-at p some there);
-  }
+  -- ---- a plan that agrees with one that prints the rota
 
--- a plan that the planner makes prints the set's rota
-pub plan-is-rota : PlanIsRota
-plan-is-rota set plan full e = prints set plan full e
+  module _ {a b : Plan} (same : SamePlan (length placement) a b) (prints : PrintsRota rota placement b) where
+    -- what is used of a server is the same
+    used-same : (i : ℕ) → i < b .servers → used (getD (a .server) i noServer) ≡ used (getD (b .server) i noServer)
+    used-same i h =
+        sym (used-at a (omega (arith, same .servers, h))) ∙ ap (λ (l : List Server). getD l i (used noServer)) (same .server) ∙ used-at b h
+      where
+        used-at : (plan : Plan) → i < plan .servers → getD (map used (take (plan .servers) (plan .server))) i (used noServer) ≡ used (getD (plan .server) i noServer)
+        used-at plan l = map-at used noServer (take (plan .servers) (plan .server)) i ∙ ap used (getD-take (plan .servers) (plan .server) i noServer l)
+
+    -- and prints the same
+    server-prints : (q : ℕ) → {s t : Server} → used s ≡ used t → PrintsServer rota placement q t → PrintsServer rota placement q s
+    server-prints q e p = record {
+      reserve = ap (λ (u : Server). u .reserve) e ∙ p .reserve;
+      start = λ h. ap (λ (u : Server). u .start .0) e ∙ p .start h;
+      tasks = ap (λ (u : Server). u .count) e ∙ p .tasks;
+      places = ap (λ (u : Server). u .places) e ∙ p .places;
+    }
+
+    server-at : (q : ℕ) → IsServer rota q → PrintsServer rota placement q (serverAt a q)
+    server-at zero s = absurd (omega (arith, s .some))
+    server-at (suc i) s = server-prints (suc i) (used-same i (omega (arith, prints .servers, s .there))) (prints .server (suc i) s)
+
+    -- the first reserves
+    first-at : (p : ℕ) → 1 ≤ p → p ≤ processorsOf (rota .slot) (rota .reserves) →
+        getD (a .first) (p - 1) zeroStand ≡ firstReserve (rota .slot) (rota .reserves) p
+    first-at p h l =
+        let k : p - 1 < b .ring + b .whole = omega (arith, prints .ring, prints .whole) in
+        sym (getD-take (a .ring + a .whole) (a .first) (p - 1) zeroStand (omega (arith, k, same .ring, same .whole)))
+        ∙ ap (λ (l : List Stand). getD l (p - 1) zeroStand) (same .first)
+        ∙ getD-take (b .ring + b .whole) (b .first) (p - 1) zeroStand k
+        ∙ prints .first p h l
+
+    pub same-prints : PrintsRota rota placement a
+    same-prints = record {
+      slot = same .slot ∙ prints .slot;
+      reserves = reserves-same same ∙ prints .reserves;
+      servers = same .servers ∙ prints .servers;
+      server = server-at;
+      placed = same .placement ∙ prints .placed;
+      ring = same .ring ∙ prints .ring;
+      whole = same .whole ∙ prints .whole;
+      first = first-at;
+    }

@@ -10,29 +10,31 @@ use Rattle.wholes.specs.Multiple.{leastMultiple, leastMultipleOf}
 use Rattle.demand.specs.Charging.{effectiveDeadline, effectiveCost, entryLoss}
 use Rattle.demand.specs.Demand.{jobs, demand}
 use Rattle.demand.specs.Supply.{supplyPast, supply}
-use Rattle.verdict.specs.Search.{firstUpTo}
+use Rattle.verdict.specs.Search.{firstUpTo, firstAfter}
 use Rattle.verdict.specs.Verdict.{failing, ownHorizon, firstFailing, verdictAt, verdictOf, passing}
 use Rattle.verdict.specs.Reserve.{enough, smallestReserve}
-use Rattle.places.specs.Places.{chosen}
-use Rattle.members.specs.Loads.{loadsIn}
-use Rattle.servers.specs.Placement.{serversIn, takes, fit, placeFrom, placementOf}
 use Rattle.places.specs.Padded.{upTo}
-use Rattle.servers.specs.Reserve.{reservesOf}
+use Rattle.places.specs.Places.{chosen}
+use Rattle.members.specs.Charge.{cacheOf, chargedIn, serverLoads, serverLoss}
+use Rattle.members.specs.Server.{passesWith, fits, reserveFor}
+use Rattle.servers.specs.Placement.{serversIn, takes, join, placeBy, fit, placementOf}
+use Rattle.sizing.specs.Reserve.{reservesOf}
 use Rattle.reserves.specs.Reserves.{ringTicks, wholes}
 use Rattle.ring_claims.specs.Serves.{RingServer, WholeProcessor}
 use Rattle.tasks.specs.declared.set.Task.{Task}
 use Rattle.tasks.specs.declared.set.TaskSet.{TaskSet}
 use Rattle.tasks.specs.Set.{setOf}
+use Rattle.tasks.specs.Search.{some, firstFrom}
 use Rattle.frames.specs.Table.{widthsOf}
 use Rattle.framesizes.specs.Overflow.{lineOverflows, someTooLarge}
-use Rattle.tasks.specs.Search.{some, firstFrom}
 use Rattle.taskask.specs.Ask.{countRow, twiceRow, headerOverflows, taskOverflows, askRow}
 use Rattle.taskrows.specs.Rows.{boardRow, rangeRow, figuresOutcome}
-use Rattle.rows.specs.Charge.{loadOf, loadsOfSet, lossOf}
+use Rattle.rows.specs.Figures.{setFigures}
 use Rattle.rows.specs.Rows.{slotRow, tightRow, horizonOf, horizonRow, chargedOutcome}
-use Rattle.plan.specs.Plan.{setReserves}
+use Rattle.plan.specs.Plan.{reservesWith, setPlacement, setReserves}
 use Rattle.planner.specs.Planner.{needed, fullRow, planOutcome, planOf}
-use Rattle.promises.specs.Accepted.{Accepted}
+use Rattle.fitting_rotas.specs.Rota.{rotaOf}
+use Rattle.promises.specs.Claims.{Accepted}
 
 abbrev task : (id C : ℕ) → Task
 task id C = record { id = id; cost = C; deadline = 10; period = 10 }
@@ -41,20 +43,24 @@ task id C = record { id = id; cost = C; deadline = 10; period = 10 }
 abbrev pub setD : TaskSet
 setD = setOf (record { processors = 64; slot = 10; relj = 0; relo = 0; ctswo = 0; resd = 0; cpmdo = 0 }) (task 1 5 ∷ task 2 5 ∷ task 3 1 ∷ [])
 
+-- the reserves of D's rota
+abbrev reservesD : List ℕ
+reservesD = rotaOf setD (setPlacement setD) .reserves
+
 -- what the promises ask, met by D
 pub record WorkedD : Type 0 where
   pub accepted : Accepted setD
-  pub reserves : setReserves setD ≡ 10 ∷ 1 ∷ []
-  pub whole : WholeProcessor 10 (setReserves setD) 1
-  pub ring : RingServer 10 (setReserves setD) 2
+  pub reserves : reservesD ≡ 10 ∷ 1 ∷ []
+  pub whole : WholeProcessor 10 reservesD 1
+  pub ring : RingServer 10 reservesD 2
 
 -- each by computing
 accepted-D : Accepted setD
-unfolding setOf planOf planOutcome askRow countRow twiceRow some firstFrom boardRow rangeRow figuresOutcome headerOverflows taskOverflows lineOverflows someTooLarge widthsOf chargedOutcome slotRow tightRow horizonRow horizonOf loadOf loadsOfSet lossOf setReserves needed fullRow reservesOf upTo placementOf placeFrom fit takes serversIn chosen smallestReserve enough passing verdictOf verdictAt firstFailing firstUpTo failing ownHorizon leastMultipleOf leastMultiple commonMeasure measureIn demand jobs supply supplyPast effectiveDeadline effectiveCost entryLoss ceilingOf ringTicks wholes
+unfolding setOf planOf planOutcome askRow countRow twiceRow some firstFrom boardRow rangeRow figuresOutcome headerOverflows taskOverflows lineOverflows someTooLarge widthsOf chargedOutcome slotRow tightRow horizonRow horizonOf setReserves needed fullRow chosen cacheOf chargedIn serverLoads serverLoss passesWith fits reserveFor serversIn takes join placeBy fit placementOf reservesOf upTo setFigures reservesWith setPlacement smallestReserve enough passing verdictOf verdictAt firstFailing firstUpTo firstAfter failing ownHorizon leastMultipleOf leastMultiple commonMeasure measureIn demand jobs supply supplyPast effectiveDeadline effectiveCost entryLoss ceilingOf ringTicks wholes
 accepted-D = refl
 
-reserves-D : setReserves setD ≡ 10 ∷ 1 ∷ []
-unfolding setOf loadOf loadsOfSet lossOf setReserves reservesOf upTo placementOf placeFrom fit takes serversIn chosen smallestReserve enough passing verdictOf verdictAt firstFailing firstUpTo failing ownHorizon leastMultipleOf leastMultiple commonMeasure measureIn demand jobs supply supplyPast effectiveDeadline effectiveCost entryLoss
+reserves-D : reservesD ≡ 10 ∷ 1 ∷ []
+unfolding setOf chosen cacheOf chargedIn serverLoads serverLoss passesWith fits reserveFor serversIn takes join placeBy fit placementOf reservesOf upTo setFigures reservesWith setPlacement smallestReserve enough passing verdictOf verdictAt firstFailing firstUpTo firstAfter failing ownHorizon leastMultipleOf leastMultiple commonMeasure measureIn demand jobs supply supplyPast effectiveDeadline effectiveCost entryLoss
 reserves-D = refl
 
 pub worked-D : WorkedD

@@ -1,3 +1,2 @@
-pub mod Accepted
-pub mod Counted
-pub mod Promises
+pub mod Prints
+pub mod Claims

@@ -1,1 +1,1 @@
-// No code of its own: what the note asks of every accepted plan, over all time, stated over the crates below and proved.
+// No code of its own: every accepted plan prints a rota that stands, so that the note's demand 3 holds of its figures.

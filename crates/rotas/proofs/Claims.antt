@@ -1,7 +1,7 @@
 -- Each claim of specs/Claims.antt, proved.
 -- Assumes nothing.
 use Prim.Native.Nat.{ℕ, _-_, _≤_, _<_}
-use mathlib.Core.Path.{_≡_, sym, subst}
+use mathlib.Core.Path.{sym, subst}
 use mathlib.Core.List.{List}
 use mathlib.Core.Logic.{inr, ⊎-elim, _↔_}
 use native.Mathlib.Omega.{arith}

@@ -1,16 +1,14 @@
 -- What a standing rota has: reserves as the rules of the ring ask, each server on the ring with an allowed reserve or on a whole
 -- processor, and one processor that serves a whole-processor server at every tick.
 -- Assumes nothing.
-use Prim.Native.Nat.{ℕ, zero, suc, _≤_, _<_}
+use Prim.Native.Nat.{ℕ, suc, _≤_, _<_}
 use mathlib.Core.Path.{_≡_}
 use mathlib.Core.Logic.{_⊎_, inl, inr, ⊎-elim}
 use native.Mathlib.Omega.{arith}
 use lib.ListN.{length, getD}
 use Rattle.demand.specs.Supply.{Ring}
-use Rattle.verdict.specs.Reserve.{Smallest}
 use Rattle.ring.specs.declared.clock.Tick.{Tick}
 use Rattle.reserves.specs.Reserves.{reserveOf}
-use Rattle.ring.proofs.CoverLaws.{Covers}
 use Rattle.ring_claims.specs.Slotted.{Slotted}
 use Rattle.ring_claims.specs.Serves.{RingServer, WholeProcessor, ServesOnRing, ServesWhole, Serves}
 use Rattle.ring_claims.proofs.ServeLaws.{serves-covers}

@@ -11,11 +11,11 @@ use Rattle.demand.specs.Supply.{Allowed}
 use Rattle.demand.specs.Passes.{Passes}
 use Rattle.demand.proofs.Supply.{supply-all}
 use Rattle.ring.specs.declared.clock.Tick.{Tick}
-use Rattle.windows.specs.Window.{usableAt, usableIn, FallsShort}
+use Rattle.windows.specs.Window.{usableAt, usableIn}
 use Rattle.windows.proofs.Claims.{passes-is-covered, whole-covers, smaller-falls-short}
 use Rattle.rotas.specs.Rota.{Rota, IsServer, Standing}
 use Rattle.rotas.specs.Counted.{Counted}
-use Rattle.rotas.specs.Claims.{CoveredWindow, Covers, ShortWindow}
+use Rattle.rotas.specs.Claims.{Covers, ShortWindow}
 use Rattle.rotas.proofs.CountLaws.{once, counts-all, counts-usable}
 
 module _ (rota : Rota) (stands : Standing rota) (q : ℕ) (s : IsServer rota q) where

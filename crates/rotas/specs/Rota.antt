@@ -20,8 +20,8 @@ pub record IsServer (rota : Rota) (q : ℕ) : Type 0 where
   pub some : 1 ≤ q
   pub there : q ≤ length (rota .reserves)
 
--- the reserve of server q is the smallest allowed one with which its demand passes; a horizon decides for that demand, which is
--- none at length 0 and some tick at some length
+-- the reserve of server q is the smallest allowed one with which its demand passes. A horizon decides for that demand: without one,
+-- not to pass would name no window that falls short. It is none at length 0, and at least a tick at some length.
 pub record StandingServer (rota : Rota) (q : ℕ) : Type 0 where
   pub smallest : Smallest (rota .demandOf q) (rota .slot) (rota .lossOf q) (reserveOf (rota .reserves) q)
   pub horizon : ℕ
