@@ -15,7 +15,7 @@ use Rattle.frames.specs.declared.table.Row.{Row}
 use Rattle.frames.specs.declared.table.Frame.{Frame}
 use Rattle.frames.specs.declared.table.Frame.the-variants.{Header, Task, Plan, Server, Placed, Processor, Refused}
 use Rattle.digits.specs.Digit.{legal, allLegal}
-use Rattle.frames.specs.Table.{allFrames, kindOf, widthsOf, fieldsIn, mostFields, mostWidth, mostDigits, sum, widthOf, fieldStart, lengthOf, rowOf, indexOf}
+use Rattle.frames.specs.Table.{allFrames, kindOf, widthsOf, fieldsIn, mostFields, mostWidth, mostDigits, sum, widthOf, fieldStart, lengthOf, front, rowOf, indexOf}
 use Rattle.laws.specs.Same.{same}
 use Rattle.laws.proofs.Tests.{and-left, and-right}
 
@@ -119,6 +119,17 @@ getD-zeros (w ∷ ws) n (suc k) = getD-zeros ws n k
 pub row-width : (frame : Frame) (field : ℕ) → field < mostFields → getD (rowOf frame .widths) field 0 ≡ widthOf frame field
 unfolding rowOf
 row-width frame field h = getD-take mostFields (widthsOf frame ++ replicate mostFields 0) field 0 h ∙ getD-zeros (widthsOf frame) mostFields field
+
+front-at : (f : ℕ → ℕ) (n k : ℕ) → k < n → getD (front f n) k 0 ≡ f k
+unfolding front
+front-at f zero k h = absurd (omega arith)
+front-at f (suc n) zero h = refl
+front-at f (suc n) (suc k) h = front-at (λ (i : ℕ). f (suc i)) n k (omega arith)
+
+-- the row has each field's start
+pub row-start : (frame : Frame) (field : ℕ) → field ≤ mostFields → getD (rowOf frame .starts) field 0 ≡ fieldStart frame field
+unfolding rowOf
+row-start frame field h = front-at (fieldStart frame) (mostFields + 1) field (omega arith)
 
 -- the sum of a list's front, one entry more
 pub sum-take : (ws : List ℕ) (k : ℕ) → sum (take (suc k) ws) ≡ sum (take k ws) + getD ws k 0
