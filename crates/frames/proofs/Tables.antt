@@ -5,7 +5,6 @@ use mathlib.Core.Path.{_≡_, refl, sym, _∙_, ap}
 use mathlib.Core.Bool.{Bool, true, cond, _&&_}
 use mathlib.Core.Option.{Option, none, some}
 use mathlib.Core.List.{List, [], _∷_, _++_, map}
-use native.Mathlib.Numerals.{add-one}
 use native.Mathlib.Omega.{arith}
 use lib.Dec.{leb, ltb, eqb}
 use lib.ListN.{length, getD, take, replicate}
@@ -154,8 +153,3 @@ field-within frame field = omega (arith, sum-take (widthsOf frame) field, sum-fr
 -- past the last field the line ends
 pub field-last : (frame : Frame) → fieldStart frame mostFields ≡ lengthOf frame
 field-last frame = ap (λ (ws : List ℕ). 2 + sum ws) (take-all mostFields (widthsOf frame) (fields-most frame))
-
--- the next field starts where this one ends
-pub field-next : (frame : Frame) (field : ℕ) → fieldStart frame (field + 1) ≡ fieldStart frame field + widthOf frame field
-field-next frame field =
-    ap (λ (n : ℕ). fieldStart frame n) (add-one field) ∙ omega (arith, sum-take (widthsOf frame) field)
