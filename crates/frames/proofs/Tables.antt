@@ -5,7 +5,6 @@ use mathlib.Core.Path.{_≡_, refl, sym, _∙_, ap}
 use mathlib.Core.Bool.{Bool, true, cond, _&&_}
 use mathlib.Core.Option.{Option, none, some}
 use mathlib.Core.List.{List, [], _∷_, _++_, map}
-use native.Mathlib.Numerals.{add-one}
 use native.Mathlib.Omega.{arith}
 use lib.Dec.{leb, ltb, eqb}
 use lib.ListN.{length, getD, take, replicate}
@@ -15,7 +14,7 @@ use Rattle.frames.specs.declared.table.Row.{Row}
 use Rattle.frames.specs.declared.table.Frame.{Frame}
 use Rattle.frames.specs.declared.table.Frame.the-variants.{Header, Task, Plan, Server, Placed, Processor, Refused}
 use Rattle.digits.specs.Digit.{legal, allLegal}
-use Rattle.frames.specs.Table.{allFrames, kindOf, widthsOf, fieldsIn, mostFields, mostWidth, mostDigits, sum, widthOf, fieldStart, lengthOf, rowOf, indexOf}
+use Rattle.frames.specs.Table.{allFrames, kindOf, widthsOf, fieldsIn, mostFields, mostWidth, mostDigits, sum, widthOf, fieldStart, lengthOf, front, rowOf, indexOf}
 use Rattle.laws.specs.Same.{same}
 use Rattle.laws.proofs.Tests.{and-left, and-right}
 
@@ -120,6 +119,17 @@ pub row-width : (frame : Frame) (field : ℕ) → field < mostFields → getD (r
 unfolding rowOf
 row-width frame field h = getD-take mostFields (widthsOf frame ++ replicate mostFields 0) field 0 h ∙ getD-zeros (widthsOf frame) mostFields field
 
+front-at : (f : ℕ → ℕ) (n k : ℕ) → k < n → getD (front f n) k 0 ≡ f k
+unfolding front
+front-at f zero k h = absurd (omega arith)
+front-at f (suc n) zero h = refl
+front-at f (suc n) (suc k) h = front-at (λ (i : ℕ). f (suc i)) n k (omega arith)
+
+-- the row has each field's start
+pub row-start : (frame : Frame) (field : ℕ) → field ≤ mostFields → getD (rowOf frame .starts) field 0 ≡ fieldStart frame field
+unfolding rowOf
+row-start frame field h = front-at (fieldStart frame) (mostFields + 1) field (omega arith)
+
 -- the sum of a list's front, one entry more
 pub sum-take : (ws : List ℕ) (k : ℕ) → sum (take (suc k) ws) ≡ sum (take k ws) + getD ws k 0
 unfolding sum
@@ -143,8 +153,3 @@ field-within frame field = omega (arith, sum-take (widthsOf frame) field, sum-fr
 -- past the last field the line ends
 pub field-last : (frame : Frame) → fieldStart frame mostFields ≡ lengthOf frame
 field-last frame = ap (λ (ws : List ℕ). 2 + sum ws) (take-all mostFields (widthsOf frame) (fields-most frame))
-
--- the next field starts where this one ends
-pub field-next : (frame : Frame) (field : ℕ) → fieldStart frame (field + 1) ≡ fieldStart frame field + widthOf frame field
-field-next frame field =
-    ap (λ (n : ℕ). fieldStart frame n) (add-one field) ∙ omega (arith, sum-take (widthsOf frame) field)

@@ -1,6 +1,6 @@
 -- The table of frames: each kind with its field widths in digits, and the lengths that follow.
 -- Document 01, "Lines of hexadecimal".
-use Prim.Native.Nat.{ℕ, _+_}
+use Prim.Native.Nat.{ℕ, zero, suc, _+_}
 use mathlib.Core.List.{List, [], _∷_, _++_}
 use lib.ListN.{length, getD, take, replicate}
 use Rattle.frames.specs.declared.table.Row.{Row}
@@ -78,7 +78,18 @@ fieldStart frame field = 2 + sum (take field (widthsOf frame))
 abbrev pub lengthOf : Frame → ℕ
 lengthOf frame = 2 + sum (widthsOf frame)
 
--- the code's row of a frame: its kind, and its widths filled up to the most by fields of no digits
+-- f 0, f 1, .. f (n − 1)
+unfoldable pub front : (ℕ → ℕ) → ℕ → List ℕ
+front f zero = []
+front f (suc n) = f 0 ∷ front (λ (k : ℕ). f (suc k)) n
+
+-- the code's row of a frame: its kind, its widths filled up to the most by fields of no digits, and where each field starts, with the
+-- line's end behind the last
 unfoldable pub rowOf : Frame → Row
 rowOf frame =
-    record { kind = kindOf frame; fields = fieldsIn frame; widths = take mostFields (widthsOf frame ++ replicate mostFields 0) }
+    record {
+      kind = kindOf frame;
+      fields = fieldsIn frame;
+      widths = take mostFields (widthsOf frame ++ replicate mostFields 0);
+      starts = front (fieldStart frame) (mostFields + 1);
+    }

@@ -1,5 +1,6 @@
 // The one table of frame kinds and field widths. The reader and every writer go by it.
-// A frame with fewer than the most fields is filled up with fields of no digits.
+// A frame with fewer than the most fields is filled up with fields of no digits. Where each field starts follows from the widths; it
+// stands in the row so that nobody counts it again, and behind it where the line ends.
 ghost use mathlib.Core.Path.{_≡_};
 ghost use Rattle.frames.specs.Table.{rowOf, indexOf};
 
@@ -22,6 +23,7 @@ pub struct Row {
     pub kind: [u8; 2],
     pub fields: usize,
     pub widths: [u8; MOST_FIELDS],
+    pub starts: [u8; MOST_FIELDS + 1],
 }
 
 // The frames in the table's order.
@@ -40,36 +42,43 @@ pub const TABLE: [Row; KINDS] = [
         kind: *b"01",
         fields: 7,
         widths: [2, 6, 4, 4, 4, 4, 4],
+        starts: [2, 4, 10, 14, 18, 22, 26, 30],
     },
     Row {
         kind: *b"02",
         fields: 4,
         widths: [2, 6, 6, 6, 0, 0, 0],
+        starts: [2, 4, 10, 16, 22, 22, 22, 22],
     },
     Row {
         kind: *b"11",
         fields: 5,
         widths: [2, 2, 2, 6, 8, 0, 0],
+        starts: [2, 4, 6, 8, 14, 22, 22, 22],
     },
     Row {
         kind: *b"12",
         fields: 4,
         widths: [2, 6, 8, 2, 0, 0, 0],
+        starts: [2, 4, 10, 18, 20, 20, 20, 20],
     },
     Row {
         kind: *b"13",
         fields: 2,
         widths: [2, 2, 0, 0, 0, 0, 0],
+        starts: [2, 4, 6, 6, 6, 6, 6, 6],
     },
     Row {
         kind: *b"14",
         fields: 3,
         widths: [2, 2, 6, 0, 0, 0, 0],
+        starts: [2, 4, 6, 12, 12, 12, 12, 12],
     },
     Row {
         kind: *b"1F",
         fields: 2,
         widths: [2, 2, 0, 0, 0, 0, 0],
+        starts: [2, 4, 6, 6, 6, 6, 6, 6],
     },
 ];
 

@@ -27,18 +27,14 @@ pub fn width(frame: Frame, field: usize) -> usize
     widths[field] as usize
 }
 
-// Where a field starts in its line.
+// Where a field starts in its line; past the last field the line ends.
 pub fn field_start(frame: Frame, field: usize) -> usize
     requires { ⌜ field ≤ mostFields ⌝ }
     ensures { λ r. ⌜ r ≡ fieldStart frame field ⌝ }
 {
-    let mut at: usize = 2;
-    let mut i = 0;
-    while i < field {
-        at += width(frame, i);
-        i += 1;
-    }
-    at
+    let line = row_of(frame);
+    let starts = line.starts;
+    starts[field] as usize
 }
 
 // The digits of a line, its LF not counted.

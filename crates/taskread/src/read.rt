@@ -1,6 +1,7 @@
 // Reading a task file: the set, or the refusal and the all-zero set.
 // Lines are taken in order, then rows 5 and 6 of the figures.
 use frames::table::Frame;
+use frames::table::MOST_FIELDS;
 use frames::table::TABLE;
 use framesizes::length;
 use headerline::HeaderLine;
@@ -16,21 +17,10 @@ use tasks::set::TaskSet;
 ghost use mathlib.Core.Path.{_≡_};
 ghost use Rattle.taskread.specs.Read.{answer, readOf, furthest};
 
-// The bytes of an 01 and of an 02 line with its LF, by the table's widths.
-const HEADER_BYTES: usize = 3
-    + TABLE[0].widths[0] as usize
-    + TABLE[0].widths[1] as usize
-    + TABLE[0].widths[2] as usize
-    + TABLE[0].widths[3] as usize
-    + TABLE[0].widths[4] as usize
-    + TABLE[0].widths[5] as usize
-    + TABLE[0].widths[6] as usize;
+// The bytes of an 01 and of an 02 line with its LF, by the table.
+const HEADER_BYTES: usize = TABLE[0].starts[MOST_FIELDS] as usize + 1;
 
-const TASK_BYTES: usize = 3
-    + TABLE[1].widths[0] as usize
-    + TABLE[1].widths[1] as usize
-    + TABLE[1].widths[2] as usize
-    + TABLE[1].widths[3] as usize;
+const TASK_BYTES: usize = TABLE[1].starts[MOST_FIELDS] as usize + 1;
 
 // The bytes that reading looks at: a buffer of so many holds all that decides an answer.
 pub const FURTHEST: usize = HEADER_BYTES + TASK_BYTES * TaskSet::MOST_TASKS + HEADER_BYTES;

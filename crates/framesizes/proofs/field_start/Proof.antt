@@ -1,47 +1,26 @@
--- `framesizes::field_start` meets its contract: the widths passed so far sum up to its start.
+-- `framesizes::field_start` meets its contract: the row has each field's start.
 -- Assumes nothing.
-use Prim.Native.Nat.{_-_, _≤_}
-use mathlib.Core.Path.{_≡_, refl, _∙_, ap}
-use native.Mathlib.Omega.{arith}
-use Rattle.frames.specs.Table.{sum, fieldStart}
-use Rattle.frames.proofs.Tables.{field-next, field-within, length-most}
+use mathlib.Core.Path.{_∙_, ap}
+use lib.ListN.{getD}
+use borrow.Author.Needs.{needs}
+use Rattle.frames.specs.declared.table.Row.{Row}
+use Rattle.frames.proofs.Tables.{row-start}
 use Rattle.framesizes.proofs.field_start.Statement.{statement}
 use Rattle.framesizes.proofs.field_start.Tie as tie
 
-abbrev Inv-loop : tie.InvT-loop
-Inv-loop frame field at₀ i₀ at i = (i ≤ field) × (at ≡ fieldStart frame i)
+row-of-requires : tie.Need-row-of-requires
+row-of-requires c κs = search needs
 
-abbrev μ-loop : tie.MeasureT-loop
-μ-loop frame field at₀ i₀ at i = field - i
+array-read-result : tie.Need-array-read-result
+array-read-result c = search needs
 
-loop-holds : tie.Need-loop-holds Inv-loop μ-loop
-unfolding sum
-loop-holds c = (omega arith, refl)
+cast-result : tie.Need-cast-result
+cast-result c = search needs
 
-width-requires : tie.Need-width-requires Inv-loop μ-loop
-width-requires c κs = omega arith
-
-add-at : tie.Need-add-at Inv-loop μ-loop
-add-at c =
-    let frame = c .before .before .before .args .frame in
-    omega (arith, field-within frame (c .before .before .loop .i), length-most frame)
-
-add-i : tie.Need-add-i Inv-loop μ-loop
-add-i c = omega arith
-
-loop-less : tie.Need-loop-less Inv-loop μ-loop
-loop-less c = omega arith
-
-loop-again : tie.Need-loop-again Inv-loop μ-loop
-loop-again c = (omega arith, omega (arith, field-next (c .before .before .before .args .frame) (c .before .before .loop .i)))
-
-returns : tie.Need-returns Inv-loop μ-loop
+returns : tie.Need-returns
 returns c =
     let a = c .before .before .args in
-    let last : c .before .loop .i ≡ a .field = omega arith in
-    c .before .loop .inv .1 ∙ ap (fieldStart (a .frame)) last
+    ap (λ (r : Row). getD (r .starts) (a .field) 0) (c .before .row-of .ensures) ∙ row-start (a .frame) (a .field) (c .before .before .pre)
 
 pub field-start-spec : {M : Type 1} → statement M
-field-start-spec =
-    tie.close
-    (tie.spec Inv-loop μ-loop loop-holds width-requires add-at add-i loop-less loop-again returns)
+field-start-spec = tie.close (tie.spec row-of-requires array-read-result cast-result returns)
