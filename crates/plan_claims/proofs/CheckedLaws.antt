@@ -1,19 +1,18 @@
 -- What a checked plan is, and what the two questions answer about it, from the theorems of placement, sizing, verdict and ring.
 -- Assumes nothing.
-use Prim.Native.Nat.{ℕ, zero, suc, _+_, _-_, _≤_, _<_}
-use mathlib.Core.Path.{_≡_, refl, sym, ap, subst, _∙_}
+use Prim.Native.Nat.{ℕ, _+_, _≤_}
+use mathlib.Core.Path.{_≡_, refl, ap, subst, _∙_}
 use mathlib.Core.Bool.{true}
-use mathlib.Core.List.{List, [], _∷_, _++_}
+use mathlib.Core.List.{List}
 use native.Mathlib.Omega.{arith}
 use borrow.Author.Tests.{leb-true, ltb-false}
 use lib.Dec.{leb}
-use lib.ListN.{length, take}
+use lib.ListN.{length}
 use Rattle.tasks.specs.Set.{mostTasks}
 use Rattle.laws.proofs.Tests.{and-left, and-right}
 use Rattle.demand.specs.Load.{Load}
 use Rattle.demand.specs.Lawful.{Lawful}
 use Rattle.verdict.proofs.Claims.{verdict-means}
-use Rattle.places.specs.Places.{chosen}
 use Rattle.members.specs.Charge.{serverLoss, Member}
 use Rattle.members.specs.Server.{serverDemand, serverHorizon, verdictFor}
 use Rattle.members.proofs.ServerLaws.{server-lawful}
@@ -34,8 +33,9 @@ use Rattle.plancheck.specs.Agrees.{makes}
 use Rattle.plancheck.proofs.Checked.{OfSet, of-set, same-made, makes-done}
 use Rattle.whoruns.specs.WhoRuns.{isProcessor, whoAnswer, whoRuns}
 use Rattle.doespass.specs.declared.PassAnswer.{PassAnswer}
-use Rattle.doespass.specs.DoesPass.{allowed, isServer, passAnswer, doesPass}
+use Rattle.doespass.specs.DoesPass.{allowed, isServer, serverMembers, passAnswer, doesPass}
 use Rattle.plan_claims.specs.Claims.{membersIn, FittingPlan, CheckedPlan, WhoTells, PassTells}
+use Rattle.plan_claims.proofs.MemberLaws.{members-made}
 use Rattle.plan_claims.proofs.FittingLaws.{Holds, fitting-plan}
 
 module _ (set : TaskSet) (plan : Plan) (full : length (set .tasks) ≡ mostTasks) (e : makes set plan ≡ true) where
@@ -115,28 +115,29 @@ module _ (set : TaskSet) (plan : Plan) (full : length (set .tasks) ≡ mostTasks
   -- ---- does it pass
 
   module _ (q R : ℕ) (s : isServer plan q ≡ true) (a : allowed (set .header .slot) (serverLoss (set .header) (membersIn set plan q)) R ≡ true) where
-    own : List Load
-    own = chosen (setFigures set) (setPlacement set) q
+    abbrev own : List Load
+    own = serverMembers set q
+
+    named : membersIn set plan q ≡ own
+    named = members-made set plan e q
 
     allowed-own : allowed (set .header .slot) (serverLoss (set .header) own) R ≡ true
-    unfolding own
-    allowed-own = subst (λ (p : List ℕ). allowed (set .header .slot) (serverLoss (set .header) (chosen (setFigures set) p q)) R ≡ true) (known .placement) a
+    allowed-own = subst (λ (ms : List Load). allowed (set .header .slot) (serverLoss (set .header) ms) R ≡ true) named a
 
     pass-is : doesPass set plan q R ≡ passAnswer (verdictFor (set .header) own R)
-    unfolding doesPass own
+    unfolding doesPass
     pass-is = rw (e, s, allowed-own)
 
     lawful : Lawful (serverDemand (set .header) own) (serverHorizon (set .header) own)
-    unfolding own
     lawful = server-lawful (set .header) own (every-chosen (Member (set .header)) (setFigures set) (setPlacement set) q (members set full (known .clear))) slot
 
     -- what it answers
     pub pass-tells : PassTells set plan q R
-    unfolding verdictFor own
+    unfolding verdictFor
     pass-tells =
         let v = verdict-means (serverDemand (set .header) own) (serverHorizon (set .header) own) (set .header .slot) (serverLoss (set .header) own) R lawful slot in
         record {
           done = ap (λ (x : PassAnswer). x .outcome) pass-is;
-          yes-means = rw (known .placement, pass-is) (v .0);
-          no-means = rw (known .placement, pass-is) (v .1);
+          yes-means = rw (named, pass-is) (v .0);
+          no-means = rw (named, pass-is) (v .1);
         }

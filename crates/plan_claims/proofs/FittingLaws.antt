@@ -27,7 +27,7 @@ use Rattle.plan.specs.Plan.{noServer, serverAt, reservesIn, laidOut, reservesWi
 use Rattle.plan.proofs.LaidLaws.{laid-reserves}
 use Rattle.planner.specs.Planner.{Clear}
 use Rattle.planner.proofs.Made.{fits, members, slot-some}
-use Rattle.plan_claims.specs.Claims.{serverOfTask, membersIn, PlacedOnce, Reserved, Needs, FittingPlan, PlanFitting}
+use Rattle.plan_claims.specs.Claims.{membersIn, PlacedOnce, Reserved, Needs, FittingPlan, PlanFitting}
 
 -- a plan holds a placement: its servers, the tasks' servers, the reserves and the processors
 pub record Holds (set : TaskSet) (named : List ℕ) (plan : Plan) : Type 0 where
