@@ -1,7 +1,7 @@
 -- What a checked plan is, and what the two questions answer about it, from the theorems of placement, sizing, verdict and ring.
 -- Assumes nothing.
 use Prim.Native.Nat.{ℕ, _+_, _≤_}
-use mathlib.Core.Path.{_≡_, refl, ap, subst, _∙_}
+use mathlib.Core.Path.{_≡_, ap, subst, _∙_}
 use mathlib.Core.Bool.{true}
 use mathlib.Core.List.{List}
 use native.Mathlib.Omega.{arith}
@@ -21,12 +21,12 @@ use Rattle.servers.proofs.Claims.{planner-fits}
 use Rattle.servers.proofs.FittingLaws.{every-chosen}
 use Rattle.ring.specs.declared.clock.Tick.{Tick}
 use Rattle.ring.specs.Who.{whoOf}
-use Rattle.reserves.specs.Reserves.{ringProcessors, wholes, processorsOf}
+use Rattle.reserves.specs.Reserves.{processorsOf}
 use Rattle.ring_claims.proofs.Claims.{who-serves, who-stays}
 use Rattle.tasks.specs.declared.set.TaskSet.{TaskSet}
 use Rattle.rows.specs.Figures.{setFigures}
 use Rattle.plan.specs.declared.plan.Plan.{Plan}
-use Rattle.plan.specs.Plan.{laidOut, planWith, setPlacement, setReserves, planMade}
+use Rattle.plan.specs.Plan.{setPlacement, setReserves, planMade}
 use Rattle.planner.specs.Planner.{needed, fullRow}
 use Rattle.planner.proofs.Made.{members, alone, slot-some, outcome-clear}
 use Rattle.plancheck.specs.Agrees.{makes}
@@ -36,7 +36,7 @@ use Rattle.doespass.specs.declared.PassAnswer.{PassAnswer}
 use Rattle.doespass.specs.DoesPass.{allowed, isServer, serverMembers, passAnswer, doesPass}
 use Rattle.plan_claims.specs.Claims.{membersIn, FittingPlan, CheckedPlan, WhoTells, PassTells}
 use Rattle.plan_claims.proofs.MemberLaws.{members-made}
-use Rattle.plan_claims.proofs.FittingLaws.{Holds, fitting-plan}
+use Rattle.plan_claims.proofs.FittingLaws.{Holds, holds-same, fitting-plan, with-holds}
 
 module _ (set : TaskSet) (plan : Plan) (full : length (set .tasks) ≡ mostTasks) (e : makes set plan ≡ true) where
   known : OfSet set plan
@@ -50,24 +50,10 @@ module _ (set : TaskSet) (plan : Plan) (full : length (set .tasks) ≡ mostTasks
   unfolding setPlacement
   planner-placed = planner-fits (set .header) (setFigures set) slot (members set full (known .clear)) (alone set full (known .clear))
 
-  made-ring : planMade set .ring ≡ ringProcessors (set .header .slot) (setReserves set)
-  unfolding planMade planWith laidOut setReserves
-  made-ring = refl
-
-  made-whole : planMade set .whole ≡ wholes (set .header .slot) (setReserves set)
-  unfolding planMade planWith laidOut setReserves
-  made-whole = refl
-
-  -- a checked plan holds it
-  checked-holds : Holds set (setPlacement set) plan
-  unfolding setReserves
-  checked-holds = record {
-    servers = known .servers;
-    placement = known .placement;
-    reserves = known .reserves;
-    ring = same-made set full plan e .ring ∙ made-ring;
-    whole = same-made set full plan e .whole ∙ made-whole;
-  }
+  -- a checked plan holds it, as the set's own plan does
+  pub checked-holds : Holds set (setPlacement set) plan
+  unfolding planMade
+  checked-holds = holds-same plan (planMade set) (same-made set full plan e) (with-holds set full (known .clear) (setPlacement set) planner-placed)
 
   checked-fits : FittingPlan set plan
   checked-fits = fitting-plan set full (known .clear) (setPlacement set) planner-placed plan checked-holds
@@ -81,6 +67,7 @@ module _ (set : TaskSet) (plan : Plan) (full : length (set .tasks) ≡ mostTasks
   checked-plan = record {
     placed = checked-fits .placed;
     reserved = checked-fits .reserved;
+    recorded = checked-fits .recorded;
     on-board = record { needs = checked-fits .needs; within = omega (arith, known .processors, on-board) };
   }
 

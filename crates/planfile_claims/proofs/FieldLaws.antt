@@ -9,7 +9,7 @@ use native.Mathlib.Numerals.{add-one}
 use native.Mathlib.Decide.{decLt}
 use native.Mathlib.Omega.{arith}
 use lib.Dec.{ltb}
-use lib.ListN.{length, take, getD, List·getD-map}
+use lib.ListN.{length, take, getD}
 use lib.Seq.{getD-take}
 use borrow.Author.Tests.{le-ltb}
 use Rattle.frames.specs.Table.{widthsOf}
@@ -30,13 +30,14 @@ use Rattle.ring_claims.proofs.Claims.{first-reserve}
 use Rattle.ring_claims.proofs.OwnLaws.{whole-at}
 use Rattle.plan.specs.declared.plan.Plan.{Plan}
 use Rattle.plan.specs.declared.server.Server.{Server}
-use Rattle.plan.specs.Plan.{noServer, zeroStand, serverAt, ringStart, serverOf, laidOut, planWith, setPlacement, setReserves, planMade}
-use Rattle.plan.proofs.LaidLaws.{laid-server, laid-first}
+use Rattle.plan.specs.Plan.{zeroStand, serverAt, ringStart, serverOf, laidOut, planWith, setPlacement, setReserves, planMade}
+use Rattle.plan.proofs.LaidLaws.{laid-first}
 use Rattle.planner.proofs.Made.{set-count, slot-some, count-most}
 use Rattle.plancheck.specs.Agrees.{used, makes, SamePlan}
 use Rattle.plancheck.proofs.AgreeLaws.{agree-same}
 use Rattle.plancheck.proofs.Checked.{OfSet, of-set, makes-agrees, placement-count}
 use Rattle.plan_claims.specs.Claims.{membersIn}
+use Rattle.plan_claims.proofs.CheckedLaws.{checked-holds}
 use Rattle.plan_claims.proofs.Claims.{plan-checked}
 use Rattle.plantext.specs.Fit.{CountsFit}
 use Rattle.planfile.proofs.AcceptLaws.{makes-counted}
@@ -109,15 +110,10 @@ module _ (set : TaskSet) (plan : Plan) (full : length (set .tasks) ≡ mostTasks
   module _ (i : ℕ) (h : i < plan .servers) where
     -- the server there is the one of the planner's placement, in what is used
     server-is : used (serverIn plan i) ≡ used (serverOf S (set .header .cpmdo) placement rs (i + 1))
-    unfolding planMade planWith setReserves S rs placement
+    unfolding setReserves S rs placement
     server-is =
-        ap used (sym (getD-take (plan .servers) (plan .server) i noServer h))
-        ∙ sym (List·getD-map used (take (plan .servers) (plan .server)) i noServer)
-        ∙ ap (λ (l : List Server). getD l i (used noServer)) (same .server)
-        ∙ List·getD-map used (take (planMade set .servers) (planMade set .server)) i noServer
-        ∙ ap used
-        (getD-take (planMade set .servers) (planMade set .server) i noServer (omega (arith, same .servers))
-        ∙ laid-server S (set .header .cpmdo) placement rs noServer i (omega (arith, reserves-many)))
+        ap (λ (k : ℕ). used (serverIn plan k)) (sym (ap pred (add-one i)))
+        ∙ checked-holds set plan full m .server (i + 1) (omega arith) (omega arith)
 
     reserve-at : serverIn plan i .reserve ≡ reserveOf rs (i + 1)
     reserve-at = ap (λ (s : Server). s .reserve) server-is
