@@ -37,7 +37,7 @@ use Rattle.planner.specs.Planner.{Clear}
 use Rattle.planner.proofs.Made.{count-most, fits, set-few, filed}
 use Rattle.plancheck.specs.Agrees.{used, usedServers, makes}
 use Rattle.plancheck.proofs.Checked.{of-set, same-made, placement-count}
-use Rattle.doespass.specs.DoesPass.{isServer, allowed, serverMembers}
+use Rattle.doespass.specs.DoesPass.{isServer, allowed, allowedTo, serverMembers}
 
 -- the test of a reserve says that it is allowed
 module _ (S L R : ℕ) where
@@ -158,7 +158,7 @@ module _ (set : TaskSet) (full : length (set .tasks) ≡ mostTasks) (plan : Plan
         below i l = omega (arith, places-below (setPlacement set) q i l, placement-count set full plan clear)
 
     -- with an allowed reserve
-    pub own-allowed : {R : ℕ} → allowed (set .header .slot) (serverLoss (set .header) (serverMembers set q)) R ≡ true →
+    pub own-allowed : {R : ℕ} → allowedTo set q R ≡ true →
         Allowed (set .header .slot) (serverLoss (set .header) found) R
     own-allowed {R} a = rw own-members (allowed-is (set .header .slot) (serverLoss (set .header) (serverMembers set q)) R a)
 

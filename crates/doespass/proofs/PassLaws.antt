@@ -6,13 +6,11 @@ use mathlib.Core.Bool.{true, false}
 use Rattle.refusals.specs.declared.Refusal.the-variants.{Ask}
 use Rattle.refusals.specs.declared.Outcome.the-variants.{Done}
 use Rattle.verdict.specs.declared.answer.Verdict.{Verdict}
-use Rattle.members.specs.Charge.{serverLoss}
 use Rattle.members.specs.Server.{verdictFor}
 use Rattle.tasks.specs.declared.set.TaskSet.{TaskSet}
 use Rattle.plan.specs.declared.plan.Plan.{Plan}
 use Rattle.plancheck.specs.Agrees.{makes}
-use Rattle.doespass.specs.declared.PassAnswer.{PassAnswer}
-use Rattle.doespass.specs.DoesPass.{refusedPass, doesPass, isServer, allowed, serverMembers}
+use Rattle.doespass.specs.DoesPass.{refusedPass, doesPass, isServer, allowedTo, serverMembers}
 
 -- a plan that the planner makes of its set
 module _ (set : TaskSet) (plan : Plan) (m : makes set plan ≡ true) where
@@ -20,11 +18,11 @@ module _ (set : TaskSet) (plan : Plan) (m : makes set plan ≡ true) where
   unfolding doesPass
   pass-absent q R e = rw (m, e)
 
-  pub pass-barred : (q R : ℕ) → isServer plan q ≡ true → allowed (set .header .slot) (serverLoss (set .header) (serverMembers set q)) R ≡ false → refusedPass Ask ≡ doesPass set plan q R
+  pub pass-barred : (q R : ℕ) → isServer plan q ≡ true → allowedTo set q R ≡ false → refusedPass Ask ≡ doesPass set plan q R
   unfolding doesPass
   pass-barred q R e f = rw (m, e, f)
 
-  pub pass-there : (q R : ℕ) (v : Verdict) → isServer plan q ≡ true → allowed (set .header .slot) (serverLoss (set .header) (serverMembers set q)) R ≡ true
+  pub pass-there : (q R : ℕ) (v : Verdict) → isServer plan q ≡ true → allowedTo set q R ≡ true
       → v ≡ verdictFor (set .header) (serverMembers set q) R
       → record { outcome = Done; verdict = v } ≡ doesPass set plan q R
   unfolding doesPass

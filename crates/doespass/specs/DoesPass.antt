@@ -32,6 +32,10 @@ isServer plan q = leb 1 q && leb q (plan .servers)
 abbrev pub serverMembers : TaskSet → (q : ℕ) → List Load
 serverMembers set q = chosen (setFigures set) (setPlacement set) q
 
+-- a reserve is allowed by the entry loss of server q
+abbrev pub allowedTo : TaskSet → (q R : ℕ) → Bool
+allowedTo set q R = allowed (set .header .slot) (serverLoss (set .header) (serverMembers set q)) R
+
 -- a refused question has zeros
 abbrev pub refusedPass : Refusal → PassAnswer
 refusedPass r = record { outcome = Refused r; verdict = Yes (record { length = 0; demand = 0; supply = 0 }) }
@@ -43,6 +47,6 @@ passAnswer verdict = record { outcome = Done; verdict = verdict }
 unfoldable pub doesPass : TaskSet → Plan → (q R : ℕ) → PassAnswer
 doesPass set plan q R =
     cond
-    (makes set plan && (isServer plan q && allowed (set .header .slot) (serverLoss (set .header) (serverMembers set q)) R))
+    (makes set plan && (isServer plan q && allowedTo set q R))
     (passAnswer (verdictFor (set .header) (serverMembers set q) R))
     (refusedPass Ask)

@@ -13,10 +13,9 @@ use verdict::answer::Reading;
 use verdict::answer::Verdict;
 ghost use mathlib.Core.Path.{_≡_};
 ghost use mathlib.Core.Bool.{true};
-ghost use Rattle.members.specs.Charge.{serverLoss};
 ghost use Rattle.members.specs.Server.{verdictFor};
 ghost use Rattle.plancheck.specs.Agrees.{makes};
-ghost use Rattle.doespass.specs.DoesPass.{isServer, allowed, serverMembers, refusedPass, doesPass};
+ghost use Rattle.doespass.specs.DoesPass.{isServer, allowed, allowedTo, serverMembers, refusedPass, doesPass};
 
 // A refused question holds a yes of zeros, which says nothing.
 pub struct PassAnswer {
@@ -46,10 +45,22 @@ pub fn is_server(plan: Plan, server: u64) -> bool
     server <= plan.servers
 }
 
+// The reserve is allowed by the entry loss of a server of a plan that is checked already.
+fn is_allowed_to(set: TaskSet, plan: Plan, server: u64, reserve: u64) -> bool
+    requires { ⌜ (makes set plan ≡ true) × (isServer plan server ≡ true) ⌝ }
+    ensures { λ r. ⌜ r ≡ allowedTo set server reserve ⌝ }
+{
+    let header = set.header;
+    let at = server as usize - 1;
+    let cache = plan.server[at].cache;
+    let lost = loss(header, cache);
+    is_allowed(header.slot as u64, lost, reserve)
+}
+
 // Does a server of a plan that is checked already pass with an allowed reserve: its members are at the places of its record.
 pub fn pass_judged(set: TaskSet, plan: Plan, server: u64, reserve: u64) -> Verdict
     requires { ⌜ (makes set plan ≡ true) × (isServer plan server ≡ true) ⌝ }
-    requires { ⌜ allowed (set .header .slot) (serverLoss (set .header) (serverMembers set server)) reserve ≡ true ⌝ }
+    requires { ⌜ allowedTo set server reserve ≡ true ⌝ }
     ensures { λ r. ⌜ r ≡ verdictFor (set .header) (serverMembers set server) reserve ⌝ }
 {
     let common = horizon(set);
@@ -83,11 +94,7 @@ pub fn pass_made(set: TaskSet, plan: Plan, server: u64, reserve: u64) -> PassAns
     if !is_server(plan, server) {
         return refused_pass(Refusal::Ask);
     }
-    let header = set.header;
-    let at = server as usize - 1;
-    let own = plan.server[at];
-    let lost = loss(header, own.cache);
-    if !is_allowed(header.slot as u64, lost, reserve) {
+    if !is_allowed_to(set, plan, server, reserve) {
         return refused_pass(Refusal::Ask);
     }
     PassAnswer {

@@ -1,19 +1,18 @@
 -- What a checked plan is, and what the two questions answer about it, from the theorems of placement, sizing, verdict and ring.
 -- Assumes nothing.
-use Prim.Native.Nat.{ℕ, zero, suc, _+_, _-_, _≤_, _<_}
-use mathlib.Core.Path.{_≡_, refl, sym, ap, subst, _∙_}
+use Prim.Native.Nat.{ℕ, _+_, _≤_}
+use mathlib.Core.Path.{_≡_, ap, subst, _∙_}
 use mathlib.Core.Bool.{true}
-use mathlib.Core.List.{List, [], _∷_, _++_}
+use mathlib.Core.List.{List}
 use native.Mathlib.Omega.{arith}
 use borrow.Author.Tests.{leb-true, ltb-false}
 use lib.Dec.{leb}
-use lib.ListN.{length, take}
+use lib.ListN.{length}
 use Rattle.tasks.specs.Set.{mostTasks}
 use Rattle.laws.proofs.Tests.{and-left, and-right}
 use Rattle.demand.specs.Load.{Load}
 use Rattle.demand.specs.Lawful.{Lawful}
 use Rattle.verdict.proofs.Claims.{verdict-means}
-use Rattle.places.specs.Places.{chosen}
 use Rattle.members.specs.Charge.{serverLoss, Member}
 use Rattle.members.specs.Server.{serverDemand, serverHorizon, verdictFor}
 use Rattle.members.proofs.ServerLaws.{server-lawful}
@@ -22,21 +21,22 @@ use Rattle.servers.proofs.Claims.{planner-fits}
 use Rattle.servers.proofs.FittingLaws.{every-chosen}
 use Rattle.ring.specs.declared.clock.Tick.{Tick}
 use Rattle.ring.specs.Who.{whoOf}
-use Rattle.reserves.specs.Reserves.{ringProcessors, wholes, processorsOf}
+use Rattle.reserves.specs.Reserves.{processorsOf}
 use Rattle.ring_claims.proofs.Claims.{who-serves, who-stays}
 use Rattle.tasks.specs.declared.set.TaskSet.{TaskSet}
 use Rattle.rows.specs.Figures.{setFigures}
 use Rattle.plan.specs.declared.plan.Plan.{Plan}
-use Rattle.plan.specs.Plan.{laidOut, planWith, setPlacement, setReserves, planMade}
+use Rattle.plan.specs.Plan.{setPlacement, setReserves, planMade}
 use Rattle.planner.specs.Planner.{needed, fullRow}
 use Rattle.planner.proofs.Made.{members, alone, slot-some, outcome-clear}
 use Rattle.plancheck.specs.Agrees.{makes}
 use Rattle.plancheck.proofs.Checked.{OfSet, of-set, same-made, makes-done}
 use Rattle.whoruns.specs.WhoRuns.{isProcessor, whoAnswer, whoRuns}
 use Rattle.doespass.specs.declared.PassAnswer.{PassAnswer}
-use Rattle.doespass.specs.DoesPass.{allowed, isServer, passAnswer, doesPass}
+use Rattle.doespass.specs.DoesPass.{allowed, isServer, serverMembers, passAnswer, doesPass}
 use Rattle.plan_claims.specs.Claims.{membersIn, FittingPlan, CheckedPlan, WhoTells, PassTells}
-use Rattle.plan_claims.proofs.FittingLaws.{Holds, fitting-plan}
+use Rattle.plan_claims.proofs.MemberLaws.{members-made}
+use Rattle.plan_claims.proofs.FittingLaws.{Holds, holds-same, fitting-plan, with-holds}
 
 module _ (set : TaskSet) (plan : Plan) (full : length (set .tasks) ≡ mostTasks) (e : makes set plan ≡ true) where
   known : OfSet set plan
@@ -50,24 +50,10 @@ module _ (set : TaskSet) (plan : Plan) (full : length (set .tasks) ≡ mostTasks
   unfolding setPlacement
   planner-placed = planner-fits (set .header) (setFigures set) slot (members set full (known .clear)) (alone set full (known .clear))
 
-  made-ring : planMade set .ring ≡ ringProcessors (set .header .slot) (setReserves set)
-  unfolding planMade planWith laidOut setReserves
-  made-ring = refl
-
-  made-whole : planMade set .whole ≡ wholes (set .header .slot) (setReserves set)
-  unfolding planMade planWith laidOut setReserves
-  made-whole = refl
-
-  -- a checked plan holds it
-  checked-holds : Holds set (setPlacement set) plan
-  unfolding setReserves
-  checked-holds = record {
-    servers = known .servers;
-    placement = known .placement;
-    reserves = known .reserves;
-    ring = same-made set full plan e .ring ∙ made-ring;
-    whole = same-made set full plan e .whole ∙ made-whole;
-  }
+  -- a checked plan holds it, as the set's own plan does
+  pub checked-holds : Holds set (setPlacement set) plan
+  unfolding planMade
+  checked-holds = holds-same plan (planMade set) (same-made set full plan e) (with-holds set full (known .clear) (setPlacement set) planner-placed)
 
   checked-fits : FittingPlan set plan
   checked-fits = fitting-plan set full (known .clear) (setPlacement set) planner-placed plan checked-holds
@@ -81,6 +67,7 @@ module _ (set : TaskSet) (plan : Plan) (full : length (set .tasks) ≡ mostTasks
   checked-plan = record {
     placed = checked-fits .placed;
     reserved = checked-fits .reserved;
+    recorded = checked-fits .recorded;
     on-board = record { needs = checked-fits .needs; within = omega (arith, known .processors, on-board) };
   }
 
@@ -115,28 +102,29 @@ module _ (set : TaskSet) (plan : Plan) (full : length (set .tasks) ≡ mostTasks
   -- ---- does it pass
 
   module _ (q R : ℕ) (s : isServer plan q ≡ true) (a : allowed (set .header .slot) (serverLoss (set .header) (membersIn set plan q)) R ≡ true) where
-    own : List Load
-    own = chosen (setFigures set) (setPlacement set) q
+    abbrev own : List Load
+    own = serverMembers set q
+
+    named : membersIn set plan q ≡ own
+    named = members-made set plan e q
 
     allowed-own : allowed (set .header .slot) (serverLoss (set .header) own) R ≡ true
-    unfolding own
-    allowed-own = subst (λ (p : List ℕ). allowed (set .header .slot) (serverLoss (set .header) (chosen (setFigures set) p q)) R ≡ true) (known .placement) a
+    allowed-own = subst (λ (ms : List Load). allowed (set .header .slot) (serverLoss (set .header) ms) R ≡ true) named a
 
     pass-is : doesPass set plan q R ≡ passAnswer (verdictFor (set .header) own R)
-    unfolding doesPass own
+    unfolding doesPass
     pass-is = rw (e, s, allowed-own)
 
     lawful : Lawful (serverDemand (set .header) own) (serverHorizon (set .header) own)
-    unfolding own
     lawful = server-lawful (set .header) own (every-chosen (Member (set .header)) (setFigures set) (setPlacement set) q (members set full (known .clear))) slot
 
     -- what it answers
     pub pass-tells : PassTells set plan q R
-    unfolding verdictFor own
+    unfolding verdictFor
     pass-tells =
         let v = verdict-means (serverDemand (set .header) own) (serverHorizon (set .header) own) (set .header .slot) (serverLoss (set .header) own) R lawful slot in
         record {
           done = ap (λ (x : PassAnswer). x .outcome) pass-is;
-          yes-means = rw (known .placement, pass-is) (v .0);
-          no-means = rw (known .placement, pass-is) (v .1);
+          yes-means = rw (named, pass-is) (v .0);
+          no-means = rw (named, pass-is) (v .1);
         }

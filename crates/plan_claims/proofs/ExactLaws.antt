@@ -1,8 +1,8 @@
 -- The planner refuses exactly by the first of its rows that holds: each row's own outcome, and the first of them in order.
 -- Assumes nothing.
-use Prim.Native.Nat.{ℕ, zero, suc, _+_, _-_, _≤_, _<_}
-use mathlib.Core.Path.{_≡_, refl, sym, ap, subst, _∙_}
-use mathlib.Core.Bool.{Bool, true, false}
+use Prim.Native.Nat.{ℕ, zero, suc, _+_, _-_, _<_}
+use mathlib.Core.Path.{_≡_, refl, ap, subst, _∙_}
+use mathlib.Core.Bool.{Bool, false}
 use mathlib.Core.List.{List}
 use native.Mathlib.Omega.{arith}
 use lib.ListN.{getD}
@@ -17,7 +17,7 @@ use Rattle.refusals.specs.First.{firstOf, when, till}
 use Rattle.tasks.specs.Search.{firstTask, atTask}
 use Rattle.taskrows.specs.Rows.{boardRow, rangeRow, figuresOutcome}
 use Rattle.taskask.specs.Ask.{askRow}
-use Rattle.refusals.proofs.FirstLaws.{done-refused, refused-same, first-assoc, when-done, when-refused, till-done, done-till, stays, Found, found}
+use Rattle.refusals.proofs.FirstLaws.{done-refused, refused-same, first-assoc, when-done, when-refused}
 use Rattle.tasks.proofs.Firsts.{at-none, at-some}
 use Rattle.tasks.proofs.FirstLaws.{Stops, first-stops, stops-first, first-none, none-first}
 use Rattle.rows.specs.Rows.{slotRow, tightRow, horizonRow, chargedOutcome}

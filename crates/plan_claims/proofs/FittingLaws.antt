@@ -1,19 +1,19 @@
 -- A plan that has the servers, the placement and the reserves of a fitting placement is what the claims say of it, in its own
 -- figures. The plan of a set with any fitting placement is one.
 -- Assumes nothing.
-use Prim.Native.Nat.{ℕ, _+_, _-_, _≤_, _<_}
+use Prim.Native.Nat.{ℕ, zero, suc, pred, _+_, _-_, _≤_, _<_}
 use mathlib.Core.Path.{_≡_, refl, sym, ap, subst, _∙_}
 use mathlib.Core.List.{List}
-use native.Mathlib.Numerals.{sub-one}
+use native.Mathlib.Numerals.{add-one, sub-one}
 use native.Mathlib.Omega.{arith}
 use lib.ListN.{length, getD, take, List·getD-map}
 use lib.Seq.{getD-take}
 use Rattle.tasks.specs.Set.{mostTasks}
 use Rattle.tasks.specs.declared.set.TaskSet.{TaskSet}
 use Rattle.verdict.specs.Reserve.{Smallest}
-use Rattle.places.specs.Places.{chosen}
+use Rattle.places.specs.Places.{placesIn, chosen}
 use Rattle.places.proofs.PaddedLaws.{padded-take}
-use Rattle.members.specs.Charge.{serverLoss}
+use Rattle.members.specs.Charge.{cacheOf, serverLoss}
 use Rattle.members.specs.Server.{serverDemand}
 use Rattle.servers.specs.Placement.{serversIn}
 use Rattle.servers.specs.Fitting.{Fitting}
@@ -23,11 +23,13 @@ use Rattle.rows.specs.Figures.{setFigures}
 use Rattle.rows.proofs.FigureLaws.{figures-length}
 use Rattle.plan.specs.declared.plan.Plan.{Plan}
 use Rattle.plan.specs.declared.server.Server.{Server}
-use Rattle.plan.specs.Plan.{noServer, serverAt, reservesIn, laidOut, reservesWith, planWith}
-use Rattle.plan.proofs.LaidLaws.{laid-reserves}
+use Rattle.plan.specs.Plan.{noServer, serverAt, ringStart, serverOf, reservesIn, laidOut, reservesWith, planWith}
+use Rattle.plan.proofs.LaidLaws.{laid-reserves, laid-server}
 use Rattle.planner.specs.Planner.{Clear}
 use Rattle.planner.proofs.Made.{fits, members, slot-some}
-use Rattle.plan_claims.specs.Claims.{serverOfTask, membersIn, PlacedOnce, Reserved, Needs, FittingPlan, PlanFitting}
+use Rattle.plancheck.specs.Agrees.{used, SamePlan}
+use Rattle.plancheck.proofs.Checked.{reserves-same}
+use Rattle.plan_claims.specs.Claims.{membersIn, PlacedOnce, Reserved, Recorded, Needs, FittingPlan, PlanFitting}
 
 -- a plan holds a placement: its servers, the tasks' servers, the reserves and the processors
 pub record Holds (set : TaskSet) (named : List ℕ) (plan : Plan) : Type 0 where
@@ -36,6 +38,27 @@ pub record Holds (set : TaskSet) (named : List ℕ) (plan : Plan) : Type 0 where
   pub reserves : reservesIn plan ≡ reservesWith set named
   pub ring : plan .ring ≡ ringProcessors (set .header .slot) (reservesWith set named)
   pub whole : plan .whole ≡ wholes (set .header .slot) (reservesWith set named)
+  pub server : (q : ℕ) → 1 ≤ q → q ≤ plan .servers → used (serverAt plan q) ≡ used (serverOf (set .header .slot) (set .header .cpmdo) named (reservesWith set named) q)
+
+-- plans that are the same in what is used have the same servers there
+used-same : {n : ℕ} (a b : Plan) → SamePlan n a b → (i : ℕ) → i < a .servers → used (getD (a .server) i noServer) ≡ used (getD (b .server) i noServer)
+used-same a b s i h =
+    ap used (sym (getD-take (a .servers) (a .server) i noServer h))
+    ∙ sym (List·getD-map used (take (a .servers) (a .server)) i noServer)
+    ∙ ap (λ (l : List Server). getD l i (used noServer)) (s .server)
+    ∙ List·getD-map used (take (b .servers) (b .server)) i noServer
+    ∙ ap used (getD-take (b .servers) (b .server) i noServer (omega (arith, s .servers)))
+
+-- and hold the same placement
+pub holds-same : {set : TaskSet} {named : List ℕ} (a b : Plan) → SamePlan (set .count) a b → Holds set named b → Holds set named a
+holds-same a b s own = record {
+  servers = s .servers ∙ own .servers;
+  placement = s .placement ∙ own .placement;
+  reserves = reserves-same s ∙ own .reserves;
+  ring = s .ring ∙ own .ring;
+  whole = s .whole ∙ own .whole;
+  server = λ q h l. used-same a b s (pred q) (omega (arith, sub-one q)) ∙ own .server q h (omega (arith, s .servers));
+}
 
 module _ (set : TaskSet) (full : length (set .tasks) ≡ mostTasks) (clear : Clear set) (named : List ℕ) (w : Fitting (set .header) (setFigures set) named) where
   counted : length named ≡ set .count
@@ -80,6 +103,18 @@ module _ (set : TaskSet) (full : length (set .tasks) ≡ mostTasks) (clear : Cle
           (reserve-at q h l) (rw (own .placement) (smallest-each q h (omega (arith, own .servers))));
     }
 
+    recorded : Recorded set plan
+    unfolding cacheOf
+    recorded = record {
+      places = λ q h l.
+          ap (λ (s : Server). s .places) (own .server q h l)
+          ∙ padded-take (placesIn named q) (length (placesIn named q)) refl
+          ∙ ap (λ (p : List ℕ). placesIn p q) (sym (own .placement));
+      start = λ q h l.
+          ap (λ (s : Server). s .start .0) (own .server q h l) ∙ ap (λ (rs : List ℕ). ringStart (set .header .slot) rs q) (sym (own .reserves));
+      cache = λ q h l. ap (λ (s : Server). s .cache) (own .server q h l);
+    }
+
     needs : Needs set plan
     needs = record {
       ring = own .ring ∙ ap (ringProcessors (set .header .slot)) (sym (own .reserves));
@@ -88,10 +123,19 @@ module _ (set : TaskSet) (full : length (set .tasks) ≡ mostTasks) (clear : Cle
 
     -- all of it
     pub fitting-plan : FittingPlan set plan
-    fitting-plan = record { placed = placed; reserved = reserved; needs = needs }
+    fitting-plan = record { placed = placed; reserved = reserved; recorded = recorded; needs = needs }
+
+  with-server : (q : ℕ) → 1 ≤ q → q ≤ planWith set named .servers →
+      used (serverAt (planWith set named) q) ≡ used (serverOf (set .header .slot) (set .header .cpmdo) named (reservesWith set named) q)
+  unfolding planWith laidOut
+  with-server zero h l = absurd (omega arith)
+  with-server (suc i) h l =
+      ap used
+      (laid-server (set .header .slot) (set .header .cpmdo) named (reservesWith set named) noServer i l
+      ∙ ap (serverOf (set .header .slot) (set .header .cpmdo) named (reservesWith set named)) (add-one i))
 
   -- the plan of the placement holds it
-  with-holds : Holds set named (planWith set named)
+  pub with-holds : Holds set named (planWith set named)
   unfolding planWith laidOut reservesWith
   with-holds = record {
     servers = reserves-count (set .header) (setFigures set) named;
@@ -99,6 +143,7 @@ module _ (set : TaskSet) (full : length (set .tasks) ≡ mostTasks) (clear : Cle
     reserves = laid-reserves (set .header .slot) (set .header .cpmdo) named (reservesWith set named);
     ring = refl;
     whole = refl;
+    server = with-server;
   }
 
 -- so it is all of this

@@ -1,7 +1,7 @@
 -- The members that a checked plan's own figures name are those of the planner's placement, whatever room the set has.
 -- Assumes nothing.
 use Prim.Native.Nat.{ℕ, zero, suc, _≤_}
-use mathlib.Core.Path.{_≡_, refl, sym, ap, _∙_}
+use mathlib.Core.Path.{_≡_, refl, ap, _∙_}
 use mathlib.Core.Bool.{true}
 use mathlib.Core.List.{List, [], _∷_, _++_}
 use native.Mathlib.Nat.{min-le-left}
@@ -20,6 +20,7 @@ use Rattle.plan.specs.Plan.{laidOut, planWith, setPlacement, planMade}
 use Rattle.plancheck.specs.Agrees.{makes}
 use Rattle.plancheck.proofs.AgreeLaws.{agree-same}
 use Rattle.plancheck.proofs.Checked.{makes-agrees}
+use Rattle.doespass.specs.DoesPass.{serverMembers}
 use Rattle.plan_claims.specs.Claims.{membersIn}
 
 -- what stands past the last element has no part in it
@@ -53,7 +54,7 @@ module _ (set : TaskSet) where
   placement-count = placement-length (set .header) (setFigures set)
 
   -- the members of a server of a checked plan
-  pub members-made : (plan : Plan) → makes set plan ≡ true → (q : ℕ) → membersIn set plan q ≡ chosen (setFigures set) (setPlacement set) q
+  pub members-made : (plan : Plan) → makes set plan ≡ true → (q : ℕ) → membersIn set plan q ≡ serverMembers set q
   members-made plan e q =
       ap (λ (p : List ℕ). chosen (setFigures set) p q)
       (agree-same plan (planMade set) (set .count) (makes-agrees set plan e) .placement ∙ ap (take (set .count)) made-placement)

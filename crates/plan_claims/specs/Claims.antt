@@ -14,8 +14,8 @@ use Rattle.verdict.specs.declared.answer.Verdict.the-variants.{Yes, No}
 use Rattle.verdict.specs.Reserve.{Smallest}
 use Rattle.verdict.specs.Claims.{FailsFirst}
 use Rattle.demand.specs.Load.{Load}
-use Rattle.places.specs.Places.{chosen}
-use Rattle.members.specs.Charge.{serverLoss}
+use Rattle.places.specs.Places.{placesIn, chosen}
+use Rattle.members.specs.Charge.{cacheOf, serverLoss}
 use Rattle.members.specs.Server.{serverDemand}
 use Rattle.servers.specs.Fitting.{PassesWhole, Fitting}
 use Rattle.ring.specs.declared.clock.Tick.{Tick}
@@ -33,7 +33,7 @@ use Rattle.whoruns.specs.declared.WhoAnswer.{WhoAnswer}
 use Rattle.doespass.specs.declared.PassAnswer.{PassAnswer}
 use Rattle.rows.specs.Figures.{setFigures}
 use Rattle.rows.specs.Rows.{slotRow, tightRow, horizonRow}
-use Rattle.plan.specs.Plan.{zeroPlan, serverAt, reservesIn, planWith, planMade}
+use Rattle.plan.specs.Plan.{zeroPlan, serverAt, ringStart, reservesIn, planWith, planMade}
 use Rattle.planner.specs.Planner.{Clear, needed, fullRow, planOf}
 use Rattle.plancheck.specs.Agrees.{SamePlan, makes}
 use Rattle.whoruns.specs.WhoRuns.{isProcessor, whoRuns}
@@ -178,6 +178,14 @@ pub record Reserved (set : TaskSet) (plan : Plan) : Type 0 where
   pub smallest : (q : ℕ) → 1 ≤ q → q ≤ plan .servers →
       Smallest (serverDemand (set .header) (membersIn set plan q)) (set .header .slot) (serverLoss (set .header) (membersIn set plan q)) (serverAt plan q .reserve)
 
+-- each server's record says what the plan's figures do: the places of its tasks, where it stands on the ring, and the cache cost
+-- that it is charged with
+pub record Recorded (set : TaskSet) (plan : Plan) : Type 0 where
+  pub places : (q : ℕ) → 1 ≤ q → q ≤ plan .servers →
+      take (serverAt plan q .count) (serverAt plan q .places) ≡ placesIn (take (set .count) (plan .placement)) q
+  pub start : (q : ℕ) → 1 ≤ q → q ≤ plan .servers → serverAt plan q .start .0 ≡ ringStart (set .header .slot) (reservesIn plan) q
+  pub cache : (q : ℕ) → 1 ≤ q → q ≤ plan .servers → serverAt plan q .cache ≡ cacheOf (set .header) (membersIn set plan q)
+
 -- the processors are those that the reserves need
 pub record Needs (set : TaskSet) (plan : Plan) : Type 0 where
   pub ring : plan .ring ≡ ringProcessors (set .header .slot) (reservesIn plan)
@@ -187,6 +195,7 @@ pub record Needs (set : TaskSet) (plan : Plan) : Type 0 where
 pub record FittingPlan (set : TaskSet) (plan : Plan) : Type 0 where
   pub placed : PlacedOnce set plan
   pub reserved : Reserved set plan
+  pub recorded : Recorded set plan
   pub needs : Needs set plan
 
 -- Whoever placed the tasks: the plan of any fitting placement is all of this, where row 11 and rows 5 to 9 are clear. A set has
@@ -204,6 +213,7 @@ pub record OnBoard (set : TaskSet) (plan : Plan) : Type 0 where
 pub record CheckedPlan (set : TaskSet) (plan : Plan) : Type 0 where
   pub placed : PlacedOnce set plan
   pub reserved : Reserved set plan
+  pub recorded : Recorded set plan
   pub on-board : OnBoard set plan
 
 -- A plan that the planner gives, or that is handed in and checked, is all of this, and has room on the board.

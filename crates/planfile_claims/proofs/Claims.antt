@@ -1,13 +1,14 @@
 -- The claims of specs/Claims.antt, proved.
 -- Assumes nothing.
-use Prim.Native.Nat.{ℕ, _+_, _≤_}
+use Prim.Native.Nat.{ℕ, _+_, _≤_, _<_}
 use mathlib.Core.Path.{_≡_, refl, sym, _∙_, ap}
 use mathlib.Core.List.{List, _++_}
 use mathlib.Core.Bool.{Bool, true, false, cond}
 use native.Mathlib.Nat.{zero-add}
 use native.Mathlib.Omega.{arith}
 use lib.Dec.{ltb}
-use lib.ListN.{length, take, drop}
+use lib.ListN.{length, take, drop, getD}
+use lib.Seq.{ext-getD, getD-take}
 use borrow.Author.Tests.{ltb-true}
 use Rattle.laws.proofs.Tests.{clash}
 use Rattle.digits.specs.Stored.{stored}
@@ -17,23 +18,23 @@ use Rattle.refusals.specs.declared.Outcome.{Outcome}
 use Rattle.refusals.specs.declared.Outcome.the-variants.{Done, Refused as RefusedBy}
 use Rattle.refusals.specs.declared.Written.{Written}
 use Rattle.refusals.specs.declared.Written.the-variants.{Bytes, Refused}
-use Rattle.ring.specs.declared.clock.Tick.{Tick}
 use Rattle.tasks.specs.declared.set.TaskSet.{TaskSet}
 use Rattle.taskread.specs.declared.read.ReadAnswer.{ReadAnswer}
 use Rattle.refusals.specs.Leaves.{leaves}
+use Rattle.places.specs.Places.{placesIn}
 use Rattle.tasks_claims.proofs.Prefix.{read-looks-at}
 use Rattle.plan.specs.declared.plan.Plan.{Plan}
 use Rattle.plancheck.specs.Agrees.{makes}
 use Rattle.plantext.specs.Text.{planText, longestText}
 use Rattle.frames.specs.Table.{widthsOf, sum}
 use Rattle.taskread.specs.Read.{furthest}
-use Rattle.plantext.specs.Fit.{fitted, Fits, CountsFit}
+use Rattle.plantext.specs.Fit.{fitted}
 use Rattle.planfile.specs.File.{unless, refusedFile, plannedSet, filedOf}
 use Rattle.planfile.specs.Tool.{printed, answered}
 use Rattle.planfile.specs.OfFile.{whoOfFile, passOfFile, whoIn, passIn}
-use Rattle.planfile_claims.specs.Claims.{Determined, TextExact, RefusedStoresNothing, PrefixEnough, AnsweredShort, TextTells, TextTellsPlan}
+use Rattle.planfile_claims.specs.Claims.{Determined, TextExact, RefusedStoresNothing, PrefixEnough, AnsweredShort, SamePrinted, TextTells, TextTellsPlan}
 use Rattle.planfile_claims.proofs.TellLaws.{same-count, told}
-use Rattle.planfile_claims.proofs.FieldLaws.{fit-fields}
+use Rattle.planfile_claims.proofs.FieldLaws.{front-long, places-at, cache-at, fit-fields}
 use Rattle.plantext.proofs.LineLaws.{refusal-bytes}
 use Rattle.plantext.proofs.TextLaws.{text-short}
 use Rattle.plantext.proofs.FitLaws.{fitted-room, fitted-bytes}
@@ -96,6 +97,29 @@ answered-short text = printed-short (filedOf text .outcome) (filedOf text .set) 
 pub text-tells : TextTells
 text-tells set₁ set₂ plan₁ plan₂ fit₁ fit₂ e = (same-count set₁ set₂ plan₁ plan₂ fit₁ fit₂ e, told set₁ set₂ plan₁ plan₂ fit₁ fit₂ e)
 
+-- as many tasks in the same servers are the same placement
+fronts-same : (set₁ set₂ : TaskSet) (plan₁ plan₂ : Plan) → length (take (set₁ .count) (plan₁ .placement)) ≡ set₁ .count → length (take (set₂ .count) (plan₂ .placement)) ≡ set₂ .count → set₁ .count ≡ set₂ .count →
+    ((i : ℕ) → i < set₂ .count → getD (plan₁ .placement) i 0 ≡ getD (plan₂ .placement) i 0) → take (set₁ .count) (plan₁ .placement) ≡ take (set₂ .count) (plan₂ .placement)
+fronts-same set₁ set₂ plan₁ plan₂ long₁ long₂ e f =
+    ext-getD 0 (take (set₁ .count) (plan₁ .placement)) (take (set₂ .count) (plan₂ .placement)) (omega (arith, long₁, long₂, e))
+    (λ i h.
+    let here : i < set₁ .count = omega (arith, long₁) in
+    let there : i < set₂ .count = omega (arith, here, e) in
+    getD-take (set₁ .count) (plan₁ .placement) i 0 here ∙ f i there ∙ sym (getD-take (set₂ .count) (plan₂ .placement) i 0 there))
+
 pub text-tells-plan : TextTellsPlan
-text-tells-plan set₁ set₂ plan₁ plan₂ full₁ full₂ m₁ m₂ e =
-    text-tells set₁ set₂ plan₁ plan₂ (fit-fields set₁ plan₁ full₁ m₁) (fit-fields set₂ plan₂ full₂ m₂) e
+text-tells-plan set₁ set₂ plan₁ plan₂ full₁ full₂ m₁ m₂ e = record {
+  count = same .0;
+  printed = same .1;
+  places = λ i h.
+      places-at set₁ plan₁ full₁ m₁ i (there i h)
+      ∙ ap (λ (p : List ℕ). placesIn p (i + 1)) (fronts-same set₁ set₂ plan₁ plan₂ (front-long set₁ plan₁ full₁ m₁) (front-long set₂ plan₂ full₂ m₂) (same .0) (same .1 .server))
+      ∙ sym (places-at set₂ plan₂ full₂ m₂ i h);
+  cache = λ c i h. cache-at set₁ plan₁ full₁ m₁ i (there i h) ∙ c ∙ sym (cache-at set₂ plan₂ full₂ m₂ i h);
+}
+  where
+    same : (set₁ .count ≡ set₂ .count) × SamePrinted (set₂ .count) plan₁ plan₂
+    same = text-tells set₁ set₂ plan₁ plan₂ (fit-fields set₁ plan₁ full₁ m₁) (fit-fields set₂ plan₂ full₂ m₂) e
+
+    there : (i : ℕ) → i < plan₂ .servers → i < plan₁ .servers
+    there i h = omega (arith, same .1 .servers)

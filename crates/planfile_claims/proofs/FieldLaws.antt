@@ -1,55 +1,47 @@
 -- The figures of a plan that the planner makes fit their fields, so that its text tells it.
 -- Assumes nothing.
-use Prim.Native.Nat.{ℕ, zero, suc, pred, _+_, _*_, _-_, _^_, _≤_, _<_}
+use Prim.Native.Nat.{ℕ, pred, _+_, _*_, _-_, _^_, _≤_, _<_}
 use mathlib.Core.Path.{_≡_, refl, sym, _∙_, ap, subst}
-use mathlib.Core.List.{List, [], _∷_, _++_}
+use mathlib.Core.List.{List}
 use mathlib.Core.Bool.{Bool, true, false, cond}
-use mathlib.Core.Logic.{⊎-elim}
 use native.Mathlib.Nat.{add-sub-cancel, mul-le-mul}
-use native.Mathlib.Numerals.{add-one, sub-one}
+use native.Mathlib.Numerals.{add-one}
 use native.Mathlib.Decide.{decLt}
 use native.Mathlib.Omega.{arith}
-use lib.Dec.{leb, ltb}
-use lib.ListN.{length, take, getD, List·getD-append}
+use lib.Dec.{ltb}
+use lib.ListN.{length, take, getD}
 use lib.Seq.{getD-take}
-use borrow.Author.Tests.{leb-false, le-ltb}
-use Rattle.laws.proofs.Tests.{or-left, or-right}
+use borrow.Author.Tests.{le-ltb}
 use Rattle.frames.specs.Table.{widthsOf}
-use Rattle.tasks.specs.declared.set.Header.{Header}
 use Rattle.tasks.specs.declared.set.TaskSet.{TaskSet}
 use Rattle.tasks.specs.Set.{mostTasks}
 use Rattle.taskask.proofs.Carried.{ask-header, header-fits}
-use Rattle.places.specs.Padded.{padded, upTo}
-use Rattle.members.specs.Loads.{loadsIn}
-use Rattle.places.proofs.PlacesLaws.{in-few}
+use Rattle.places.specs.Places.{placesIn}
+use Rattle.places.proofs.PaddedLaws.{padded-take}
+use Rattle.places.proofs.PlacesLaws.{places-few}
+use Rattle.members.specs.Charge.{serverLoss}
+use Rattle.sizing.proofs.Claims.{allowed-range}
 use Rattle.reserves.specs.Reserves.{reserveOf, wholes, startOf, ringProcessors, ringLength, processorsOf}
+use Rattle.reserves.proofs.Starts.{ring-part, ring-holds}
 use Rattle.ring.specs.Who.{firstReserve}
 use Rattle.ring.specs.declared.cover.Stand.{Stand}
-use Rattle.reserves.proofs.Starts.{ring-part, ring-holds}
-use Rattle.ring_claims.proofs.Claims.{first-reserve}
 use Rattle.ring.proofs.WhoLaws.{first-whole}
+use Rattle.ring_claims.proofs.Claims.{first-reserve}
 use Rattle.ring_claims.proofs.OwnLaws.{whole-at}
 use Rattle.plan.specs.declared.plan.Plan.{Plan}
-use Rattle.rows.specs.Charge.{loadsOfSet}
-use Rattle.plan.specs.Plan.{planMade, laidOut, setPlacement, setReserves, ringStart}
-use Rattle.planner.specs.Planner.{Clear}
-use Rattle.plancheck.specs.Agrees.{makes, SamePlan}
+use Rattle.plan.specs.declared.server.Server.{Server}
+use Rattle.plan.specs.Plan.{zeroStand, serverAt, ringStart, serverOf, laidOut, planWith, setPlacement, setReserves, planMade}
+use Rattle.plan.proofs.LaidLaws.{laid-first}
+use Rattle.planner.proofs.Made.{set-count, slot-some, count-most}
+use Rattle.plancheck.specs.Agrees.{used, makes, SamePlan}
 use Rattle.plancheck.proofs.AgreeLaws.{agree-same}
-use Rattle.plancheck.proofs.Checked.{OfSet, of-set, makes-agrees}
-use Rattle.planner.proofs.Made.{set-count, slot-some, few-loads}
+use Rattle.plancheck.proofs.Checked.{OfSet, of-set, makes-agrees, placement-count}
+use Rattle.plan_claims.specs.Claims.{membersIn}
+use Rattle.plan_claims.proofs.CheckedLaws.{checked-holds}
 use Rattle.plan_claims.proofs.Claims.{plan-checked}
-use Rattle.places.proofs.PaddedLaws.{up-length, up-at}
 use Rattle.plantext.specs.Fit.{CountsFit}
-use Rattle.planfile_claims.specs.Claims.{FitFields}
 use Rattle.planfile.proofs.AcceptLaws.{makes-counted}
-
--- what stands at a used place of a row of such numbers
-row-up : (f : ℕ → ℕ) (n i : ℕ) → i < n → getD (padded (upTo f n)) i 0 ≡ f (i + 1)
-row-up f n i h = List·getD-append (upTo f n) _ 0 i (omega (arith, up-length f n)) ∙ up-at f n i h
-
--- fronts that are equal have the same figure at each place
-front-at : (m n : ℕ) (a b : List ℕ) → take m a ≡ take n b → (i : ℕ) → i < m → i < n → getD a i 0 ≡ getD b i 0
-front-at m n a b e i p q = sym (getD-take m a i 0 p) ∙ ap (λ (l : List ℕ). getD l i 0) e ∙ getD-take n b i 0 q
+use Rattle.planfile_claims.specs.Claims.{serverIn, firstIn, placesOf, FitFields}
 
 pick-most : (t : Bool) (x b : ℕ) → x ≤ b → cond t x 0 ≤ b
 pick-most true x b h = h
@@ -91,11 +83,11 @@ module _ (set : TaskSet) (plan : Plan) (full : length (set .tasks) ≡ mostTasks
   reserves-many = set-count set full (of .clear) ∙ sym (of .servers)
 
   made-ring : planMade set .ring ≡ ringProcessors S rs
-  unfolding planMade laidOut S rs
+  unfolding planMade planWith laidOut setReserves S rs
   made-ring = refl
 
   made-whole : planMade set .whole ≡ wholes S rs
-  unfolding planMade laidOut S rs
+  unfolding planMade planWith laidOut setReserves S rs
   made-whole = refl
 
   ring-few : ringProcessors S rs ≤ 64
@@ -105,49 +97,70 @@ module _ (set : TaskSet) (plan : Plan) (full : length (set .tasks) ≡ mostTasks
   ring-long = many-slots (ringProcessors S rs) S ring-few slot-six
 
   idle-fits : plan .idle < 16 ^ 8
-  unfolding planMade laidOut S rs
+  unfolding planMade planWith laidOut setReserves S rs
   idle-fits = omega (arith, same .idle, ring-long)
 
+  placement : List ℕ
+  placement = setPlacement set
+
+  -- there is a server for each task
+  pub front-long : length (take (set .count) (plan .placement)) ≡ set .count
+  front-long = ap length (of .placement) ∙ placement-count set full plan (of .clear)
+
   module _ (i : ℕ) (h : i < plan .servers) where
-    h′ : i < planMade set .servers
-    h′ = omega (arith, same .servers)
+    -- the server there is the one of the planner's placement, in what is used
+    server-is : used (serverIn plan i) ≡ used (serverOf S (set .header .cpmdo) placement rs (i + 1))
+    unfolding setReserves S rs placement
+    server-is =
+        ap (λ (k : ℕ). used (serverIn plan k)) (sym (ap pred (add-one i)))
+        ∙ checked-holds set plan full m .server (i + 1) (omega arith) (omega arith)
 
-    reserve-at : getD (plan .reserve) i 0 ≡ getD rs i 0
-    unfolding rs
-    reserve-at = sym (getD-take (plan .servers) (plan .reserve) i 0 h) ∙ ap (λ (l : List ℕ). getD l i 0) (of .reserves)
+    reserve-at : serverIn plan i .reserve ≡ reserveOf rs (i + 1)
+    reserve-at = ap (λ (s : Server). s .reserve) server-is
 
-    reserve-most : getD (plan .reserve) i 0 ≤ S
+    reserve-most : serverIn plan i .reserve ≤ S
     unfolding S
     reserve-most =
-        subst (λ (k : ℕ). getD (plan .reserve) k 0 ≤ set .header .slot) (add-sub-cancel i 1)
-        (⊎-elim (λ w. omega arith) (λ w. omega arith) (plan-checked set plan full m .reserved .smallest (i + 1) (omega arith) (omega arith) .allowed))
+        subst (λ (k : ℕ). serverIn plan k .reserve ≤ set .header .slot) (ap pred (add-one i))
+        (allowed-range (set .header .slot) (serverLoss (set .header) (membersIn set plan (i + 1))) (serverAt plan (i + 1) .reserve) (slot-some set full (of .clear))
+        (plan-checked set plan full m .reserved .smallest (i + 1) (omega arith) (omega arith) .allowed) .1)
 
-    start-at : getD (plan .start) i 0 ≡ ringStart S rs (i + 1)
-    unfolding planMade laidOut S rs
-    start-at = front-at (plan .servers) (planMade set .servers) (plan .start) (planMade set .start) (same .start) i h h′ ∙ row-up (ringStart S rs) (length rs) i (omega (arith, reserves-many))
+    start-at : serverIn plan i .start .0 ≡ ringStart S rs (i + 1)
+    start-at = ap (λ (s : Server). s .start .0) server-is
 
-    start-most : getD (plan .start) i 0 ≤ ringLength S rs
+    start-most : serverIn plan i .start .0 ≤ ringLength S rs
     start-most =
         subst (λ (n : ℕ). n ≤ ringLength S rs) (sym start-at)
         (pick-most (ltb (reserveOf rs (i + 1)) S) (startOf S rs (i + 1)) (ringLength S rs) (omega (arith, ring-part S rs (pred (i + 1)), ring-holds S rs some-slot)))
 
-    no-start : plan .slot ≤ getD (plan .reserve) i 0 → getD (plan .start) i 0 ≡ 0
+    no-start : plan .slot ≤ serverIn plan i .reserve → serverIn plan i .start .0 ≡ 0
     unfolding S
-    no-start w = start-at ∙ ap (λ (t : Bool). cond t (startOf S rs (i + 1)) 0) (le-ltb (reserveOf rs (i + 1)) S whole)
-      where
-        whole : S ≤ reserveOf rs (i + 1)
-        whole = subst (λ (k : ℕ). S ≤ getD rs k 0) (sym (add-sub-cancel i 1) ∙ sub-one (i + 1)) (omega (arith, reserve-at, of .slot, w))
+    no-start w =
+        start-at
+        ∙ ap (λ (t : Bool). cond t (startOf S rs (i + 1)) 0) (le-ltb (reserveOf rs (i + 1)) S (let whole : S ≤ reserveOf rs (i + 1) = omega (arith, reserve-at, of .slot, w) in whole))
 
-    tasks-most : getD (plan .tasks) i 0 ≤ 64
-    unfolding planMade laidOut
-    tasks-most =
-        subst (λ (n : ℕ). n ≤ 64)
-        (sym (front-at (plan .servers) (planMade set .servers) (plan .tasks) (planMade set .tasks) (same .tasks) i h h′ ∙ row-up (λ (q : ℕ). length (loadsIn (loadsOfSet set) (setPlacement set) q)) (length (setReserves set)) i (omega (arith, h′))))
-        (omega (arith, in-few (loadsOfSet set) (setPlacement set) (i + 1), few-loads set full (of .clear)))
+    count-at : serverIn plan i .count ≡ length (placesIn placement (i + 1))
+    count-at = ap (λ (s : Server). s .count) server-is
 
-  server-most : (i : ℕ) → i < set .count → getD (plan .server) i 0 ≤ 64
+    tasks-most : serverIn plan i .count ≤ 64
+    unfolding placement
+    tasks-most = omega (arith, count-at, places-few placement (i + 1), placement-count set full plan (of .clear), count-most set full (of .clear))
+
+    -- its places are those of its tasks
+    pub places-at : placesOf plan i ≡ placesIn (take (set .count) (plan .placement)) (i + 1)
+    unfolding placement
+    places-at =
+        ap (λ (s : Server). s .places) server-is
+        ∙ padded-take (placesIn placement (i + 1)) (length (placesIn placement (i + 1))) refl
+        ∙ ap (λ (p : List ℕ). placesIn p (i + 1)) (sym (of .placement))
+
+    -- and its cache cost is the header's
+    pub cache-at : serverIn plan i .cache ≡ set .header .cpmdo
+    cache-at = ap (λ (s : Server). s .cache) server-is
+
+  server-most : (i : ℕ) → i < set .count → getD (plan .placement) i 0 ≤ 64
   server-most i h =
-      subst (λ (k : ℕ). getD (plan .server) k 0 ≤ 64) (add-sub-cancel i 1)
+      subst (λ (k : ℕ). getD (plan .placement) k 0 ≤ 64) (add-sub-cancel i 1)
       (omega (arith, plan-checked set plan full m .placed .there (i + 1) (omega arith) (omega arith) .1, counted .servers))
 
   -- a first reserve names a server that is there, for at most a slot
@@ -175,17 +188,19 @@ module _ (set : TaskSet) (plan : Plan) (full : length (set .tasks) ≡ mostTasks
     bounds : (firstReserve S rs (i + 1) .server ≤ length rs) × (firstReserve S rs (i + 1) .left ≤ S)
     bounds = first-most (i + 1) (omega arith) (omega (arith, k))
 
-    first-at : getD (plan .first) i 0 ≡ firstReserve S rs (i + 1) .server
-    unfolding planMade laidOut S rs
+    first-at : firstIn plan i ≡ firstReserve S rs (i + 1)
+    unfolding planMade planWith setReserves S rs
     first-at =
-        front-at (plan .ring + plan .whole) (planMade set .ring + planMade set .whole) (plan .first) (planMade set .first) (same .first) i h g
-        ∙ row-up (λ (p : ℕ). firstReserve S rs p .server) (processorsOf S rs) i k
+        sym (getD-take (plan .ring + plan .whole) (plan .first) i zeroStand h)
+        ∙ ap (λ (l : List Stand). getD l i zeroStand) (same .first)
+        ∙ getD-take (planMade set .ring + planMade set .whole) (planMade set .first) i zeroStand g
+        ∙ laid-first S (set .header .cpmdo) (setPlacement set) rs zeroStand i k
 
-    duration-at : getD (plan .duration) i 0 ≡ firstReserve S rs (i + 1) .left
-    unfolding planMade laidOut S rs
-    duration-at =
-        front-at (plan .ring + plan .whole) (planMade set .ring + planMade set .whole) (plan .duration) (planMade set .duration) (same .duration) i h g
-        ∙ row-up (λ (p : ℕ). firstReserve S rs p .left) (processorsOf S rs) i k
+    first-server : firstIn plan i .server ≡ firstReserve S rs (i + 1) .server
+    first-server = ap (λ (s : Stand). s .server) first-at
+
+    first-left : firstIn plan i .left ≡ firstReserve S rs (i + 1) .left
+    first-left = ap (λ (s : Stand). s .left) first-at
 
   pub fit-fields : FitFields set plan
   unfolding S widthsOf
@@ -201,6 +216,6 @@ module _ (set : TaskSet) (plan : Plan) (full : length (set .tasks) ≡ mostTasks
         no-start = no-start;
         tasks = λ (i : ℕ) (h : i < plan .servers). omega (arith, tasks-most i h);
         server = λ (i : ℕ) (h : i < set .count). omega (arith, server-most i h);
-        first = λ (i : ℕ) (h : i < plan .ring + plan .whole). omega (arith, first-at i h, bounds i h, reserves-many, counted .servers);
-        duration = λ (i : ℕ) (h : i < plan .ring + plan .whole). omega (arith, duration-at i h, bounds i h, slot-six);
+        first = λ (i : ℕ) (h : i < plan .ring + plan .whole). omega (arith, first-server i h, bounds i h, reserves-many, counted .servers);
+        duration = λ (i : ℕ) (h : i < plan .ring + plan .whole). omega (arith, first-left i h, bounds i h, slot-six);
       }

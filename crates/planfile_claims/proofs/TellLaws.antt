@@ -17,13 +17,12 @@ use Rattle.frameread.specs.Line.{fieldOf}
 use Rattle.framelines.specs.Lines.{joined}
 use Rattle.frames.specs.declared.table.Frame.{Frame}
 use Rattle.frames_claims.proofs.LineLaws.{field-line}
-use Rattle.tasks.specs.declared.set.Task.{Task}
 use Rattle.tasks.specs.declared.set.TaskSet.{TaskSet}
 use Rattle.tasks.specs.Set.{zeroTask}
 use Rattle.plan.specs.declared.plan.Plan.{Plan}
 use Rattle.planfigures.specs.Figures.{mark, serverFigures, placedFigures, processorFigures}
 use Rattle.plantext.specs.Text.{planLine, serverLine, placedLine, processorLine, planText}
-use Rattle.planfile_claims.specs.Claims.{FitFields, SameUsed}
+use Rattle.planfile_claims.specs.Claims.{serverIn, firstIn, FitFields, SamePrinted}
 use Rattle.plantext.proofs.LineLaws.{plan-bytes, server-size, placed-size, processor-size, server-bytes, placed-bytes, processor-bytes}
 use Rattle.framelines.proofs.LinesLaws.{joined-length}
 
@@ -63,20 +62,20 @@ lines-tell f g k p q (suc n) e i h = go (lines-tell f g k p q n (cut-front (join
         ]
 
 -- the figures of each line, by the place from 0
-server-figures : (plan : Plan) (i : ℕ) → serverLine plan (i + 1) ≡ lineOf Frame.Server ((i + 1) ∷ getD (plan .reserve) i 0 ∷ cond (ltb (getD (plan .reserve) i 0) (plan .slot)) (getD (plan .start) i 0) mark ∷ getD (plan .tasks) i 0 ∷ [])
+server-figures : (plan : Plan) (i : ℕ) → serverLine plan (i + 1) ≡ lineOf Frame.Server ((i + 1) ∷ serverIn plan i .reserve ∷ cond (ltb (serverIn plan i .reserve) (plan .slot)) (serverIn plan i .start .0) mark ∷ serverIn plan i .count ∷ [])
 unfolding serverLine serverFigures
 server-figures plan i =
-    ap (λ (k : ℕ). lineOf Frame.Server ((i + 1) ∷ getD (plan .reserve) k 0 ∷ cond (ltb (getD (plan .reserve) k 0) (plan .slot)) (getD (plan .start) k 0) mark ∷ getD (plan .tasks) k 0 ∷ [])) (add-sub-cancel i 1)
+    ap (λ (k : ℕ). lineOf Frame.Server ((i + 1) ∷ serverIn plan k .reserve ∷ cond (ltb (serverIn plan k .reserve) (plan .slot)) (serverIn plan k .start .0) mark ∷ serverIn plan k .count ∷ [])) (add-sub-cancel i 1)
 
-placed-figures : (set : TaskSet) (plan : Plan) (i : ℕ) → placedLine set plan (i + 1) ≡ lineOf Frame.Placed (getD (set .tasks) i zeroTask .id ∷ getD (plan .server) i 0 ∷ [])
+placed-figures : (set : TaskSet) (plan : Plan) (i : ℕ) → placedLine set plan (i + 1) ≡ lineOf Frame.Placed (getD (set .tasks) i zeroTask .id ∷ getD (plan .placement) i 0 ∷ [])
 unfolding placedLine placedFigures
 placed-figures set plan i =
-    ap (λ (k : ℕ). lineOf Frame.Placed (getD (set .tasks) k zeroTask .id ∷ getD (plan .server) k 0 ∷ [])) (add-sub-cancel i 1)
+    ap (λ (k : ℕ). lineOf Frame.Placed (getD (set .tasks) k zeroTask .id ∷ getD (plan .placement) k 0 ∷ [])) (add-sub-cancel i 1)
 
-processor-figures : (plan : Plan) (i : ℕ) → processorLine plan (i + 1) ≡ lineOf Frame.Processor ((i + 1) ∷ getD (plan .first) i 0 ∷ getD (plan .duration) i 0 ∷ [])
+processor-figures : (plan : Plan) (i : ℕ) → processorLine plan (i + 1) ≡ lineOf Frame.Processor ((i + 1) ∷ firstIn plan i .server ∷ firstIn plan i .left ∷ [])
 unfolding processorLine processorFigures
 processor-figures plan i =
-    ap (λ (k : ℕ). lineOf Frame.Processor ((i + 1) ∷ getD (plan .first) k 0 ∷ getD (plan .duration) k 0 ∷ [])) (add-sub-cancel i 1)
+    ap (λ (k : ℕ). lineOf Frame.Processor ((i + 1) ∷ firstIn plan k .server ∷ firstIn plan k .left ∷ [])) (add-sub-cancel i 1)
 
 -- a ring start or the mark fits its field
 pick-fits : (t : Bool) (x : ℕ) → x < 16 ^ widthOf Frame.Server 2 → cond t x mark < 16 ^ widthOf Frame.Server 2
@@ -186,27 +185,27 @@ module _ (set₁ set₂ : TaskSet) (plan₁ plan₂ : Plan) (fit₁ : FitFields 
           lines-tell (serverLine plan₁) (serverLine plan₂) (lengthOf Frame.Server + 1) (server-bytes plan₁) (server-bytes plan₂) (plan₂ .servers)
           (ap (joined (serverLine plan₁)) (sym same-servers) ∙ same-server-lines) i h
 
-      server-same : lineOf Frame.Server ((i + 1) ∷ getD (plan₁ .reserve) i 0 ∷ cond (ltb (getD (plan₁ .reserve) i 0) (plan₁ .slot)) (getD (plan₁ .start) i 0) mark ∷ getD (plan₁ .tasks) i 0 ∷ []) ≡ lineOf Frame.Server ((i + 1) ∷ getD (plan₂ .reserve) i 0 ∷ cond (ltb (getD (plan₂ .reserve) i 0) (plan₂ .slot)) (getD (plan₂ .start) i 0) mark ∷ getD (plan₂ .tasks) i 0 ∷ [])
+      server-same : lineOf Frame.Server ((i + 1) ∷ serverIn plan₁ i .reserve ∷ cond (ltb (serverIn plan₁ i .reserve) (plan₁ .slot)) (serverIn plan₁ i .start .0) mark ∷ serverIn plan₁ i .count ∷ []) ≡ lineOf Frame.Server ((i + 1) ∷ serverIn plan₂ i .reserve ∷ cond (ltb (serverIn plan₂ i .reserve) (plan₂ .slot)) (serverIn plan₂ i .start .0) mark ∷ serverIn plan₂ i .count ∷ [])
       server-same = sym (server-figures plan₁ i) ∙ server-line ∙ server-figures plan₂ i
 
-      same-reserve : getD (plan₁ .reserve) i 0 ≡ getD (plan₂ .reserve) i 0
+      same-reserve : serverIn plan₁ i .reserve ≡ serverIn plan₂ i .reserve
       same-reserve = line-tells Frame.Server _ _ server-same 1 (fit₁ .reserve i there) (fit₂ .reserve i h)
 
-      same-tasks : getD (plan₁ .tasks) i 0 ≡ getD (plan₂ .tasks) i 0
+      same-tasks : serverIn plan₁ i .count ≡ serverIn plan₂ i .count
       same-tasks = line-tells Frame.Server _ _ server-same 3 (fit₁ .tasks i there) (fit₂ .tasks i h)
 
-      test : ltb (getD (plan₁ .reserve) i 0) (plan₁ .slot) ≡ ltb (getD (plan₂ .reserve) i 0) (plan₂ .slot)
+      test : ltb (serverIn plan₁ i .reserve) (plan₁ .slot) ≡ ltb (serverIn plan₂ i .reserve) (plan₂ .slot)
       test = rw (same-reserve, same-slot)
 
-      picked : cond (ltb (getD (plan₁ .reserve) i 0) (plan₁ .slot)) (getD (plan₁ .start) i 0) mark ≡ cond (ltb (getD (plan₂ .reserve) i 0) (plan₂ .slot)) (getD (plan₂ .start) i 0) mark
-      picked = line-tells Frame.Server _ _ server-same 2 (pick-fits (ltb (getD (plan₁ .reserve) i 0) (plan₁ .slot)) _ (fit₁ .start i there)) (pick-fits (ltb (getD (plan₂ .reserve) i 0) (plan₂ .slot)) _ (fit₂ .start i h))
+      picked : cond (ltb (serverIn plan₁ i .reserve) (plan₁ .slot)) (serverIn plan₁ i .start .0) mark ≡ cond (ltb (serverIn plan₂ i .reserve) (plan₂ .slot)) (serverIn plan₂ i .start .0) mark
+      picked = line-tells Frame.Server _ _ server-same 2 (pick-fits (ltb (serverIn plan₁ i .reserve) (plan₁ .slot)) _ (fit₁ .start i there)) (pick-fits (ltb (serverIn plan₂ i .reserve) (plan₂ .slot)) _ (fit₂ .start i h))
 
-      same-start : getD (plan₁ .start) i 0 ≡ getD (plan₂ .start) i 0
+      same-start : serverIn plan₁ i .start .0 ≡ serverIn plan₂ i .start .0
       same-start =
-          start-tells (ltb (getD (plan₁ .reserve) i 0) (plan₁ .slot)) (getD (plan₁ .start) i 0) (getD (plan₂ .start) i 0)
-          (picked ∙ ap (λ (t : Bool). cond t (getD (plan₂ .start) i 0) mark) (sym test))
-          (λ (w : ltb (getD (plan₁ .reserve) i 0) (plan₁ .slot) ≡ false). fit₁ .no-start i there (ltb-false (getD (plan₁ .reserve) i 0) (plan₁ .slot) w))
-          (λ (w : ltb (getD (plan₁ .reserve) i 0) (plan₁ .slot) ≡ false). fit₂ .no-start i h (ltb-false (getD (plan₂ .reserve) i 0) (plan₂ .slot) (sym test ∙ w)))
+          start-tells (ltb (serverIn plan₁ i .reserve) (plan₁ .slot)) (serverIn plan₁ i .start .0) (serverIn plan₂ i .start .0)
+          (picked ∙ ap (λ (t : Bool). cond t (serverIn plan₂ i .start .0) mark) (sym test))
+          (λ (w : ltb (serverIn plan₁ i .reserve) (plan₁ .slot) ≡ false). fit₁ .no-start i there (ltb-false (serverIn plan₁ i .reserve) (plan₁ .slot) w))
+          (λ (w : ltb (serverIn plan₁ i .reserve) (plan₁ .slot) ≡ false). fit₂ .no-start i h (ltb-false (serverIn plan₂ i .reserve) (plan₂ .slot) (sym test ∙ w)))
 
     module _ (h : i < set₂ .count) where
       placed-line : placedLine set₁ plan₁ (i + 1) ≡ placedLine set₂ plan₂ (i + 1)
@@ -215,9 +214,9 @@ module _ (set₁ set₂ : TaskSet) (plan₁ plan₂ : Plan) (fit₁ : FitFields 
           lines-tell (placedLine set₁ plan₁) (placedLine set₂ plan₂) (lengthOf Frame.Placed + 1) (placed-bytes set₁ plan₁) (placed-bytes set₂ plan₂) (set₂ .count)
           (ap (joined (placedLine set₁ plan₁)) (sym same-count) ∙ same-task-lines) i h
 
-      same-server : getD (plan₁ .server) i 0 ≡ getD (plan₂ .server) i 0
+      same-server : getD (plan₁ .placement) i 0 ≡ getD (plan₂ .placement) i 0
       same-server =
-          line-tells Frame.Placed (getD (set₁ .tasks) i zeroTask .id ∷ getD (plan₁ .server) i 0 ∷ []) (getD (set₂ .tasks) i zeroTask .id ∷ getD (plan₂ .server) i 0 ∷ [])
+          line-tells Frame.Placed (getD (set₁ .tasks) i zeroTask .id ∷ getD (plan₁ .placement) i 0 ∷ []) (getD (set₂ .tasks) i zeroTask .id ∷ getD (plan₂ .placement) i 0 ∷ [])
           (sym (placed-figures set₁ plan₁ i) ∙ placed-line ∙ placed-figures set₂ plan₂ i) 1 (fit₁ .server i (omega (arith, same-count))) (fit₂ .server i h)
 
     module _ (h : i < plan₂ .ring + plan₂ .whole) where
@@ -230,16 +229,16 @@ module _ (set₁ set₂ : TaskSet) (plan₁ plan₂ : Plan) (fit₁ : FitFields 
           lines-tell (processorLine plan₁) (processorLine plan₂) (lengthOf Frame.Processor + 1) (processor-bytes plan₁) (processor-bytes plan₂) (plan₂ .ring + plan₂ .whole)
           (ap (joined (processorLine plan₁)) (omega (arith, same-ring, same-whole)) ∙ same-processor-lines) i h
 
-      processor-same : lineOf Frame.Processor ((i + 1) ∷ getD (plan₁ .first) i 0 ∷ getD (plan₁ .duration) i 0 ∷ []) ≡ lineOf Frame.Processor ((i + 1) ∷ getD (plan₂ .first) i 0 ∷ getD (plan₂ .duration) i 0 ∷ [])
+      processor-same : lineOf Frame.Processor ((i + 1) ∷ firstIn plan₁ i .server ∷ firstIn plan₁ i .left ∷ []) ≡ lineOf Frame.Processor ((i + 1) ∷ firstIn plan₂ i .server ∷ firstIn plan₂ i .left ∷ [])
       processor-same = sym (processor-figures plan₁ i) ∙ processor-line ∙ processor-figures plan₂ i
 
-      same-first-server : getD (plan₁ .first) i 0 ≡ getD (plan₂ .first) i 0
+      same-first-server : firstIn plan₁ i .server ≡ firstIn plan₂ i .server
       same-first-server = line-tells Frame.Processor _ _ processor-same 1 (fit₁ .first i here) (fit₂ .first i h)
 
-      same-duration : getD (plan₁ .duration) i 0 ≡ getD (plan₂ .duration) i 0
+      same-duration : firstIn plan₁ i .left ≡ firstIn plan₂ i .left
       same-duration = line-tells Frame.Processor _ _ processor-same 2 (fit₁ .duration i here) (fit₂ .duration i h)
 
-  pub told : SameUsed (set₂ .count) plan₁ plan₂
+  pub told : SamePrinted (set₂ .count) plan₁ plan₂
   told =
       record {
         whole = same-whole;

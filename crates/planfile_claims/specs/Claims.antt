@@ -15,7 +15,10 @@ use Rattle.tasks.specs.Set.{mostTasks}
 use Rattle.frames.specs.Table.{widthOf}
 use Rattle.frames.specs.declared.table.Frame.{Frame}
 use Rattle.refusals.specs.Leaves.{leaves}
+use Rattle.ring.specs.declared.cover.Stand.{Stand}
 use Rattle.plan.specs.declared.plan.Plan.{Plan}
+use Rattle.plan.specs.declared.server.Server.{Server}
+use Rattle.plan.specs.Plan.{noServer, zeroStand}
 use Rattle.whoruns.specs.declared.WhoAnswer.{WhoAnswer}
 use Rattle.doespass.specs.declared.PassAnswer.{PassAnswer}
 use Rattle.plancheck.specs.Agrees.{makes}
@@ -62,6 +65,18 @@ pub record PrefixEnough : Type 0 where
 abbrev pub AnsweredShort : Type 0
 AnsweredShort = (text : List ℕ) → length (answered text) ≤ longestText
 
+-- the server at place i, from 0
+abbrev pub serverIn : Plan → (i : ℕ) → Server
+serverIn plan i = getD (plan .server) i noServer
+
+-- the first reserve of the processor at place i, from 0
+abbrev pub firstIn : Plan → (i : ℕ) → Stand
+firstIn plan i = getD (plan .first) i zeroStand
+
+-- the places of the tasks of the server at place i
+abbrev pub placesOf : Plan → (i : ℕ) → List ℕ
+placesOf plan i = take (serverIn plan i .count) (serverIn plan i .places)
+
 -- the figures of a plan fit their fields, and a server on a whole processor has no ring start
 pub record FitFields (set : TaskSet) (plan : Plan) : Type 0 where
   pub whole : plan .whole < 16 ^ widthOf Frame.Plan 0
@@ -69,37 +84,45 @@ pub record FitFields (set : TaskSet) (plan : Plan) : Type 0 where
   pub servers : plan .servers < 16 ^ widthOf Frame.Plan 2
   pub slot : plan .slot < 16 ^ widthOf Frame.Plan 3
   pub idle : plan .idle < 16 ^ widthOf Frame.Plan 4
-  pub reserve : (i : ℕ) → i < plan .servers → getD (plan .reserve) i 0 < 16 ^ widthOf Frame.Server 1
-  pub start : (i : ℕ) → i < plan .servers → getD (plan .start) i 0 < 16 ^ widthOf Frame.Server 2
-  pub no-start : (i : ℕ) → i < plan .servers → plan .slot ≤ getD (plan .reserve) i 0 → getD (plan .start) i 0 ≡ 0
-  pub tasks : (i : ℕ) → i < plan .servers → getD (plan .tasks) i 0 < 16 ^ widthOf Frame.Server 3
-  pub server : (i : ℕ) → i < set .count → getD (plan .server) i 0 < 16 ^ widthOf Frame.Placed 1
-  pub first : (i : ℕ) → i < plan .ring + plan .whole → getD (plan .first) i 0 < 16 ^ widthOf Frame.Processor 1
-  pub duration : (i : ℕ) → i < plan .ring + plan .whole → getD (plan .duration) i 0 < 16 ^ widthOf Frame.Processor 2
+  pub reserve : (i : ℕ) → i < plan .servers → serverIn plan i .reserve < 16 ^ widthOf Frame.Server 1
+  pub start : (i : ℕ) → i < plan .servers → serverIn plan i .start .0 < 16 ^ widthOf Frame.Server 2
+  pub no-start : (i : ℕ) → i < plan .servers → plan .slot ≤ serverIn plan i .reserve → serverIn plan i .start .0 ≡ 0
+  pub tasks : (i : ℕ) → i < plan .servers → serverIn plan i .count < 16 ^ widthOf Frame.Server 3
+  pub server : (i : ℕ) → i < set .count → getD (plan .placement) i 0 < 16 ^ widthOf Frame.Placed 1
+  pub first : (i : ℕ) → i < plan .ring + plan .whole → firstIn plan i .server < 16 ^ widthOf Frame.Processor 1
+  pub duration : (i : ℕ) → i < plan .ring + plan .whole → firstIn plan i .left < 16 ^ widthOf Frame.Processor 2
 
--- two plans of so many tasks have the same figures, wherever they are used
-pub record SameUsed (count : ℕ) (a b : Plan) : Type 0 where
+-- two plans of so many tasks have the same figures, wherever they are printed
+pub record SamePrinted (count : ℕ) (a b : Plan) : Type 0 where
   pub whole : a .whole ≡ b .whole
   pub ring : a .ring ≡ b .ring
   pub servers : a .servers ≡ b .servers
   pub slot : a .slot ≡ b .slot
   pub idle : a .idle ≡ b .idle
-  pub reserve : (i : ℕ) → i < b .servers → getD (a .reserve) i 0 ≡ getD (b .reserve) i 0
-  pub start : (i : ℕ) → i < b .servers → getD (a .start) i 0 ≡ getD (b .start) i 0
-  pub tasks : (i : ℕ) → i < b .servers → getD (a .tasks) i 0 ≡ getD (b .tasks) i 0
-  pub server : (i : ℕ) → i < count → getD (a .server) i 0 ≡ getD (b .server) i 0
-  pub first : (i : ℕ) → i < b .ring + b .whole → getD (a .first) i 0 ≡ getD (b .first) i 0
-  pub duration : (i : ℕ) → i < b .ring + b .whole → getD (a .duration) i 0 ≡ getD (b .duration) i 0
+  pub reserve : (i : ℕ) → i < b .servers → serverIn a i .reserve ≡ serverIn b i .reserve
+  pub start : (i : ℕ) → i < b .servers → serverIn a i .start .0 ≡ serverIn b i .start .0
+  pub tasks : (i : ℕ) → i < b .servers → serverIn a i .count ≡ serverIn b i .count
+  pub server : (i : ℕ) → i < count → getD (a .placement) i 0 ≡ getD (b .placement) i 0
+  pub first : (i : ℕ) → i < b .ring + b .whole → firstIn a i .server ≡ firstIn b i .server
+  pub duration : (i : ℕ) → i < b .ring + b .whole → firstIn a i .left ≡ firstIn b i .left
 
--- Two plans whose figures fit their fields have the same text only where they are the same plan, of as many tasks.
+-- Two plans whose figures fit their fields have the same text only where they have the same figures, of as many tasks.
 abbrev pub TextTells : Type 0
 TextTells =
     (set₁ set₂ : TaskSet) (plan₁ plan₂ : Plan) → FitFields set₁ plan₁ → FitFields set₂ plan₂
-    → planText set₁ plan₁ ≡ planText set₂ plan₂ → (set₁ .count ≡ set₂ .count) × SameUsed (set₂ .count) plan₁ plan₂
+    → planText set₁ plan₁ ≡ planText set₂ plan₂ → (set₁ .count ≡ set₂ .count) × SamePrinted (set₂ .count) plan₁ plan₂
+
+-- the plans of two sets are the same: in what is printed, in each server's places, and in its cache cost, which no line prints,
+-- where the sets' headers have the same
+pub record ToldSame (set₁ set₂ : TaskSet) (plan₁ plan₂ : Plan) : Type 0 where
+  pub count : set₁ .count ≡ set₂ .count
+  pub printed : SamePrinted (set₂ .count) plan₁ plan₂
+  pub places : (i : ℕ) → i < plan₂ .servers → placesOf plan₁ i ≡ placesOf plan₂ i
+  pub cache : set₁ .header .cpmdo ≡ set₂ .header .cpmdo → (i : ℕ) → i < plan₂ .servers → serverIn plan₁ i .cache ≡ serverIn plan₂ i .cache
 
 -- Two accepted plans with the same text are the same plan. A set has room for the most tasks, by its type.
 abbrev pub TextTellsPlan : Type 0
 TextTellsPlan =
     (set₁ set₂ : TaskSet) (plan₁ plan₂ : Plan) → length (set₁ .tasks) ≡ mostTasks → length (set₂ .tasks) ≡ mostTasks
     → makes set₁ plan₁ ≡ true → makes set₂ plan₂ ≡ true
-    → planText set₁ plan₁ ≡ planText set₂ plan₂ → (set₁ .count ≡ set₂ .count) × SameUsed (set₂ .count) plan₁ plan₂
+    → planText set₁ plan₁ ≡ planText set₂ plan₂ → ToldSame set₁ set₂ plan₁ plan₂
