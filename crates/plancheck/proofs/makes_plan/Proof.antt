@@ -43,7 +43,7 @@ agree-requires : tie.Need-agree-requires
 agree-requires c κs =
     let s = c .before .before .before in
     let clear = outcome-clear (s .args .set) (done c) .0 in
-    (count-most (s .args .set) (full s) clear, rw (made c) (made-room (s .args .set) (full s) (s .args .plan) clear))
+    (omega (arith, count-most (s .args .set) (full s) clear), rw (made c) (made-room (s .args .set) (full s) (s .args .plan) clear))
 
 returns-2 : tie.Need-returns-2
 returns-2 c = makes-by (c .before .before .before .before .args .set) (c .before .before .before .before .args .plan) (done (c .before)) (made (c .before)) (c .agree .ensures)
