@@ -25,15 +25,6 @@ loop-holds c = (omega arith, omega arith, sym (decimal-of _ (omega arith)))
 shared-slice-read-append : tie.Need-shared-slice-read-append Inv-loop μ-loop
 shared-slice-read-append c = omega arith
 
-append-requires : tie.Need-append-requires Inv-loop μ-loop
-append-requires c κs = search needs
-
-enum-known-next : tie.Need-enum-known-next Inv-loop μ-loop
-enum-known-next c = search needs
-
-enum-told : tie.Need-enum-told Inv-loop μ-loop
-enum-told c = search needs
-
 returns-2 : tie.Need-returns-2 Inv-loop μ-loop
 returns-2 c =
     let l = c .before .before .before .before .before .loop in
@@ -69,9 +60,9 @@ decimal-spec =
     returns
     loop-holds
     shared-slice-read-append
-    append-requires
-    enum-known-next
-    enum-told
+    (λ c κs. search needs)
+    (λ c. search needs)
+    (λ c. search needs)
     returns-2
     add-i
     loop-less

@@ -47,27 +47,6 @@ mul-at c = omega (arith, c .before .before .pre .0 .few)
 add-d : tie.Need-add-d Inv-loop μ-loop
 add-d c = omega (arith, c .before .before .pre .0 .few)
 
-mul-d : tie.Need-mul-d Inv-loop μ-loop
-mul-d c = search needs
-
-shared-slice-read-d : tie.Need-shared-slice-read-d Inv-loop μ-loop
-shared-slice-read-d c = search needs
-
-mul-sum : tie.Need-mul-sum Inv-loop μ-loop
-mul-sum c = search needs
-
-shared-slice-read-sum : tie.Need-shared-slice-read-sum Inv-loop μ-loop
-shared-slice-read-sum c = search needs
-
-add-sum : tie.Need-add-sum Inv-loop μ-loop
-add-sum c = search needs
-
-mul-sum-2 : tie.Need-mul-sum-2 Inv-loop μ-loop
-mul-sum-2 c = search needs
-
-shared-slice-read-sum-2 : tie.Need-shared-slice-read-sum-2 Inv-loop μ-loop
-shared-slice-read-sum-2 c = search needs
-
 div-sum : tie.Need-div-sum Inv-loop μ-loop
 div-sum c = omega (arith, here c)
 
@@ -82,12 +61,6 @@ mul-sum-3 c = omega (arith, room c)
 
 add-sum-3 : tie.Need-add-sum-3 Inv-loop μ-loop
 add-sum-3 c = omega (arith, room c)
-
-add-i : tie.Need-add-i Inv-loop μ-loop
-add-i c = search needs
-
-loop-less : tie.Need-loop-less Inv-loop μ-loop
-loop-less c = search needs
 
 loop-again : tie.Need-loop-again Inv-loop μ-loop
 loop-again c =
@@ -119,18 +92,18 @@ demand-at-spec =
     loop-holds
     mul-at
     add-d
-    mul-d
-    shared-slice-read-d
-    mul-sum
-    shared-slice-read-sum
-    add-sum
-    mul-sum-2
-    shared-slice-read-sum-2
+    (λ c. search needs)
+    (λ c. search needs)
+    (λ c. search needs)
+    (λ c. search needs)
+    (λ c. search needs)
+    (λ c. search needs)
+    (λ c. search needs)
     div-sum
     add-sum-2
     mul-sum-3
     add-sum-3
-    add-i
-    loop-less
+    (λ c. search needs)
+    (λ c. search needs)
     loop-again
     returns)

@@ -13,11 +13,8 @@ returns c = sym (gap-whole _ _ _ (c .if1 .taken))
 sub-result : tie.Need-sub-result
 sub-result c = let r = ring-of _ _ _ (c .if1 .left) (c .before .pre .0) in omega arith
 
-add-result : tie.Need-add-result
-add-result c = search needs
-
 returns-2 : tie.Need-returns-2
 returns-2 c = sym (gap-part _ _ _ (c .if1 .left))
 
 pub gap-of-spec : {M : Type 1} → statement M
-gap-of-spec = tie.close (tie.spec returns sub-result add-result returns-2)
+gap-of-spec = tie.close (tie.spec returns sub-result (λ c. search needs) returns-2)

@@ -8,24 +8,12 @@ use borrow.Author.Needs.{needs}
 use Rattle.demand.proofs.supply_at.Statement.{statement}
 use Rattle.demand.proofs.supply_at.Tie as tie
 
-rem-rest : tie.Need-rem-rest
-rem-rest c = search needs
-
-div-whole : tie.Need-div-whole
-div-whole c = search needs
-
-sub-whole : tie.Need-sub-whole
-sub-whole c = search needs
-
 mul-whole : tie.Need-mul-whole
 mul-whole c = omega (arith, slots-within (c .args .slot) (c .args .gap) (c .args .t))
 
 returns : tie.Need-returns
 unfolding supplyPast
 returns c = omega arith
-
-sub-result : tie.Need-sub-result
-sub-result c = search needs
 
 add-result : tie.Need-add-result
 unfolding supplyPast
@@ -36,4 +24,4 @@ unfolding supplyPast
 returns-2 c = refl
 
 pub supply-at-spec : {M : Type 1} → statement M
-supply-at-spec = tie.close (tie.spec rem-rest div-whole sub-whole mul-whole returns sub-result add-result returns-2)
+supply-at-spec = tie.close (tie.spec (λ c. search needs) (λ c. search needs) (λ c. search needs) mul-whole returns (λ c. search needs) add-result returns-2)

@@ -29,9 +29,6 @@ add-j c = omega arith
 shared-slice-read-is-legal : tie.Need-shared-slice-read-is-legal Inv-loop μ-loop
 shared-slice-read-is-legal c = omega arith
 
-is-legal-requires : tie.Need-is-legal-requires Inv-loop μ-loop
-is-legal-requires c κs = search needs
-
 returns : tie.Need-returns Inv-loop μ-loop
 returns c =
     let a = c .before .before .before .before .before .before .args in
@@ -67,7 +64,7 @@ all-legal-spec =
     loop-holds
     add-j
     shared-slice-read-is-legal
-    is-legal-requires
+    (λ c κs. search needs)
     returns
     add-i
     loop-less

@@ -22,9 +22,6 @@ abbrev μ-loop : tie.MeasureT-loop
 loop-holds : tie.Need-loop-holds Inv-loop μ-loop
 loop-holds c = (omega arith, refl, refl)
 
-sub-left : tie.Need-sub-left Inv-loop μ-loop
-sub-left c = search needs
-
 add-j : tie.Need-add-j Inv-loop μ-loop
 add-j c = omega arith
 
@@ -72,7 +69,7 @@ put-number-spec =
     Inv-loop
     μ-loop
     loop-holds
-    sub-left
+    (λ c. search needs)
     add-j
     digit-requires
     slice-write-out

@@ -10,15 +10,6 @@ use Rattle.digits.proofs.value.Tie as tie
 sub-result : tie.Need-sub-result
 sub-result c = omega (arith, legal-low (c .before .args .b) (c .before .pre))
 
-cast-result : tie.Need-cast-result
-cast-result c = search needs
-
-sub-result-2 : tie.Need-sub-result-2
-sub-result-2 c = search needs
-
-cast-result-2 : tie.Need-cast-result-2
-cast-result-2 c = search needs
-
 returns : tie.Need-returns
 returns c = sym (value-figure _ (c .if1 .taken))
 
@@ -27,4 +18,4 @@ returns-2 c = sym (value-letter _ (c .if1 .left))
 
 pub value-spec : {M : Type 1} → statement M
 value-spec =
-    tie.close (tie.spec sub-result cast-result sub-result-2 cast-result-2 returns returns-2)
+    tie.close (tie.spec sub-result (λ c. search needs) (λ c. search needs) (λ c. search needs) returns returns-2)

@@ -38,12 +38,6 @@ loss-requires c κs =
     let s = c .before in
     cache-small (s .args .set) (full s) (s .args .t2) (s .pre .0) (s .args .server) (s .pre .1)
 
-cast-is-allowed : tie.Need-cast-is-allowed
-cast-is-allowed c = search needs
-
-is-allowed-requires : tie.Need-is-allowed-requires
-is-allowed-requires c κs = search needs
-
 returns : tie.Need-returns
 returns c =
     let s = c .before .before .before .before in
@@ -59,6 +53,6 @@ is-allowed-to-spec =
     mul-cache
     element-copy-out-cache
     loss-requires
-    cast-is-allowed
-    is-allowed-requires
+    (λ c. search needs)
+    (λ c κs. search needs)
     returns)

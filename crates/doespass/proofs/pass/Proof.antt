@@ -6,14 +6,8 @@ use Rattle.doespass.proofs.PassLaws.{pass-unmade}
 use Rattle.doespass.proofs.pass.Statement.{statement}
 use Rattle.doespass.proofs.pass.Tie as tie
 
-makes-plan-requires : tie.Need-makes-plan-requires
-makes-plan-requires c κs = search needs
-
 pass-made-requires : tie.Need-pass-made-requires
 pass-made-requires c κs = sym (c .before .makes-plan .ensures) ∙ c .if1 .taken
-
-refused-pass-requires : tie.Need-refused-pass-requires
-refused-pass-requires c κs = search needs
 
 returns : tie.Need-returns
 returns c = c .pass-made .ensures
@@ -25,4 +19,4 @@ returns-2 c =
 
 pub pass-spec : {M : Type 1} → statement M
 pass-spec =
-    tie.close (tie.spec makes-plan-requires pass-made-requires refused-pass-requires returns returns-2)
+    tie.close (tie.spec (λ c κs. search needs) pass-made-requires (λ c κs. search needs) returns returns-2)

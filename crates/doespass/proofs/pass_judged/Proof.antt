@@ -45,9 +45,6 @@ mul-own c = omega (arith, some (c .before .before), below (c .before .before))
 element-copy-out-own : tie.Need-element-copy-out-own
 element-copy-out-own c = omega (arith, some (c .before .before), below (c .before .before))
 
-slice-aggregate-judged : tie.Need-slice-aggregate-judged
-slice-aggregate-judged c = search needs
-
 judged-requires : tie.Need-judged-requires
 judged-requires c κs =
     let at = c .before .before .before .before .before .before in
@@ -71,6 +68,6 @@ pass-judged-spec =
     sub-at
     mul-own
     element-copy-out-own
-    slice-aggregate-judged
+    (λ c. search needs)
     judged-requires
     returns)

@@ -25,12 +25,6 @@ module _ (c : tie.After-is-allowed-to) where
   admitted : not (c .is-allowed-to .result) ≡ false → allowedTo (start .args .set) (start .args .server) (start .args .reserve) ≡ true
   admitted e = sym (c .is-allowed-to .ensures) ∙ not-false _ e
 
-is-server-requires : tie.Need-is-server-requires
-is-server-requires c κs = search needs
-
-refused-pass-requires : tie.Need-refused-pass-requires
-refused-pass-requires c κs = search needs
-
 returns : tie.Need-returns
 returns c =
     let s = c .before .before .before in
@@ -39,9 +33,6 @@ returns c =
 
 is-allowed-to-requires : tie.Need-is-allowed-to-requires
 is-allowed-to-requires c κs = (c .before .before .pre, sym (c .before .is-server .ensures) ∙ not-false _ (c .if1 .left))
-
-refused-pass-requires-2 : tie.Need-refused-pass-requires-2
-refused-pass-requires-2 c κs = search needs
 
 returns-2 : tie.Need-returns-2
 returns-2 c =
@@ -64,11 +55,11 @@ pub pass-made-spec : {M : Type 1} → statement M
 pass-made-spec =
     tie.close
     (tie.spec
-    is-server-requires
-    refused-pass-requires
+    (λ c κs. search needs)
+    (λ c κs. search needs)
     returns
     is-allowed-to-requires
-    refused-pass-requires-2
+    (λ c κs. search needs)
     returns-2
     pass-judged-requires
     returns-3)

@@ -11,9 +11,6 @@ use Rattle.frames.proofs.Tables.{length-most}
 use Rattle.framelines.proofs.lines_length.Statement.{statement}
 use Rattle.framelines.proofs.lines_length.Tie as tie
 
-length-requires : tie.Need-length-requires
-length-requires c κs = search needs
-
 add-line : tie.Need-add-line
 add-line c = omega (arith, c .length .ensures, length-most (c .before .args .frame))
 
@@ -26,4 +23,4 @@ returns : tie.Need-returns
 returns c = ap (λ (k : ℕ). c .before .args .n * (k + 1)) (c .length .ensures)
 
 pub lines-length-spec : {M : Type 1} → statement M
-lines-length-spec = tie.close (tie.spec length-requires add-line mul-result returns)
+lines-length-spec = tie.close (tie.spec (λ c κs. search needs) add-line mul-result returns)

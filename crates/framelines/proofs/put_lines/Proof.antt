@@ -21,14 +21,8 @@ Inv-loop out₀ at frame values n each fields next₀ from₀ done₀ out next f
 abbrev μ-loop : tie.MeasureT-loop
 μ-loop out₀ at frame values n each fields next₀ from₀ done₀ out next from done = n - done
 
-length-requires : tie.Need-length-requires Inv-loop μ-loop
-length-requires c κs = search needs
-
 add-each : tie.Need-add-each Inv-loop μ-loop
 add-each c = omega (arith, c .length .ensures, length-most (c .before .before .before .args .frame))
-
-fields-in-requires : tie.Need-fields-in-requires Inv-loop μ-loop
-fields-in-requires c κs = search needs
 
 loop-holds : tie.Need-loop-holds Inv-loop μ-loop
 loop-holds c = put-none _ _ _ _ _
@@ -52,9 +46,6 @@ sub-put-line c = omega (arith, values-there (c .before))
 
 part-put-line-start : tie.Need-part-put-line-start Inv-loop μ-loop
 part-put-line-start c = omega (arith, values-there (c .before))
-
-part-put-line-end : tie.Need-part-put-line-end Inv-loop μ-loop
-part-put-line-end c = search needs
 
 put-line-requires : tie.Need-put-line-requires Inv-loop μ-loop
 put-line-requires c κs =
@@ -96,14 +87,14 @@ put-lines-spec =
     (tie.spec
     Inv-loop
     μ-loop
-    length-requires
+    (λ c κs. search needs)
     add-each
-    fields-in-requires
+    (λ c κs. search needs)
     loop-holds
     mul-put-line
     sub-put-line
     part-put-line-start
-    part-put-line-end
+    (λ c. search needs)
     put-line-requires
     add-next
     add-from

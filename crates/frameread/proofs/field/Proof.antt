@@ -9,16 +9,10 @@ use borrow.Author.Needs.{needs}
 use Rattle.frameread.proofs.field.Statement.{statement}
 use Rattle.frameread.proofs.field.Tie as tie
 
-field-start-requires : tie.Need-field-start-requires
-field-start-requires c κs = search needs
-
 add-start : tie.Need-add-start
 add-start c =
     let a = c .before .before .args in
     omega (arith, field-at-within (a .frame) (a .text .now) (a .at) (a .field) (c .field-start .result) (widthOf (a .frame) (a .field)) (c .field-start .ensures) refl (c .before .before .pre .1 .0) (c .before .before .pre .0))
-
-width-requires : tie.Need-width-requires
-width-requires c κs = search needs
 
 number-at-requires : tie.Need-number-at-requires
 number-at-requires c κs =
@@ -39,4 +33,4 @@ returns c =
 
 pub field-spec : {M : Type 1} → statement M
 field-spec =
-    tie.close (tie.spec field-start-requires add-start width-requires number-at-requires returns)
+    tie.close (tie.spec (λ c κs. search needs) add-start (λ c κs. search needs) number-at-requires returns)

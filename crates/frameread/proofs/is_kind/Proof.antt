@@ -11,32 +11,11 @@ use borrow.Author.Needs.{needs}
 use Rattle.frameread.proofs.is_kind.Statement.{statement}
 use Rattle.frameread.proofs.is_kind.Tie as tie
 
-sub-if1 : tie.Need-sub-if1
-sub-if1 c = search needs
-
 returns : tie.Need-returns
 returns c =
     let a = c .before .before .args in
     let short : length (a .text .now) - a .at < 2 = omega (arith, c .if1 .taken) in
     sym (kind-short (a .text .now) (a .at) (a .frame) short)
-
-row-of-requires : tie.Need-row-of-requires
-row-of-requires c κs = search needs
-
-add-next : tie.Need-add-next
-add-next c = search needs
-
-shared-slice-read-if2 : tie.Need-shared-slice-read-if2
-shared-slice-read-if2 c = search needs
-
-array-read-if2 : tie.Need-array-read-if2
-array-read-if2 c = search needs
-
-shared-slice-read-result : tie.Need-shared-slice-read-result
-shared-slice-read-result c = search needs
-
-array-read-result : tie.Need-array-read-result
-array-read-result c = search needs
 
 returns-2 : tie.Need-returns-2
 unfolding rowOf
@@ -56,13 +35,13 @@ pub is-kind-spec : {M : Type 1} → statement M
 is-kind-spec =
     tie.close
     (tie.spec
-    sub-if1
+    (λ c. search needs)
     returns
-    row-of-requires
-    add-next
-    shared-slice-read-if2
-    array-read-if2
-    shared-slice-read-result
-    array-read-result
+    (λ c κs. search needs)
+    (λ c. search needs)
+    (λ c. search needs)
+    (λ c. search needs)
+    (λ c. search needs)
+    (λ c. search needs)
     returns-2
     returns-3)

@@ -10,19 +10,10 @@ use borrow.Author.Needs.{needs}
 use Rattle.frameread.proofs.is_line.Statement.{statement}
 use Rattle.frameread.proofs.is_line.Tie as tie
 
-is-kind-requires : tie.Need-is-kind-requires
-is-kind-requires c κs = search needs
-
 returns : tie.Need-returns
 returns c =
     let a = c .before .before .before .args in
     sym (not-kind (a .frame) (a .text .now) (a .at) _ refl (sym (c .before .is-kind .ensures) ∙ not-true _ (c .if1 .taken)))
-
-length-requires : tie.Need-length-requires
-length-requires c κs = search needs
-
-sub-if2 : tie.Need-sub-if2
-sub-if2 c = search needs
 
 returns-2 : tie.Need-returns-2
 returns-2 c =
@@ -30,19 +21,10 @@ returns-2 c =
     let short : length (a .text .now) - a .at ≤ c .before .length .result = omega (arith, c .if2 .taken) in
     sym (not-long (a .frame) (a .text .now) (a .at) _ (c .before .length .ensures) short)
 
-add-end : tie.Need-add-end
-add-end c = search needs
-
-shared-slice-read-if3 : tie.Need-shared-slice-read-if3
-shared-slice-read-if3 c = search needs
-
 returns-3 : tie.Need-returns-3
 returns-3 c =
     let a = c .before .before .before .before .before .before .before .args in
     sym (not-ended (a .frame) (a .text .now) (a .at) _ (c .before .before .before .length .ensures) (c .if3 .taken))
-
-all-legal-requires : tie.Need-all-legal-requires
-all-legal-requires c κs = search needs
 
 returns-4 : tie.Need-returns-4
 returns-4 c =
@@ -60,13 +42,13 @@ pub is-line-spec : {M : Type 1} → statement M
 is-line-spec =
     tie.close
     (tie.spec
-    is-kind-requires
+    (λ c κs. search needs)
     returns
-    length-requires
-    sub-if2
+    (λ c κs. search needs)
+    (λ c. search needs)
     returns-2
-    add-end
-    shared-slice-read-if3
+    (λ c. search needs)
+    (λ c. search needs)
     returns-3
-    all-legal-requires
+    (λ c κs. search needs)
     returns-4)

@@ -25,9 +25,6 @@ loop-holds c = (omega arith, refl)
 array-copy-out-frame : tie.Need-array-copy-out-frame Inv-loop μ-loop
 array-copy-out-frame c = omega arith
 
-is-line-requires : tie.Need-is-line-requires Inv-loop μ-loop
-is-line-requires c κs = search needs
-
 returns : tie.Need-returns Inv-loop μ-loop
 returns c =
     let a = c .before .before .before .before .before .before .args in
@@ -60,7 +57,7 @@ kind-at-spec =
     μ-loop
     loop-holds
     array-copy-out-frame
-    is-line-requires
+    (λ c κs. search needs)
     returns
     add-i
     loop-less

@@ -7,12 +7,9 @@ use Rattle.frames.specs.Table.{rowOf}
 use Rattle.framesizes.proofs.fields_in.Statement.{statement}
 use Rattle.framesizes.proofs.fields_in.Tie as tie
 
-row-of-requires : tie.Need-row-of-requires
-row-of-requires c κs = search needs
-
 returns : tie.Need-returns
 unfolding rowOf
 returns c = ap (λ (r : Row). r .fields) (c .row-of .ensures)
 
 pub fields-in-spec : {M : Type 1} → statement M
-fields-in-spec = tie.close (tie.spec row-of-requires returns)
+fields-in-spec = tie.close (tie.spec (λ c κs. search needs) returns)

@@ -6,11 +6,8 @@ use Rattle.frames.proofs.Tables.{field-last}
 use Rattle.framesizes.proofs.length.Statement.{statement}
 use Rattle.framesizes.proofs.length.Tie as tie
 
-field-start-requires : tie.Need-field-start-requires
-field-start-requires c κs = search needs
-
 returns : tie.Need-returns
 returns c = c .field-start .ensures ∙ field-last (c .before .args .frame)
 
 pub length-spec : {M : Type 1} → statement M
-length-spec = tie.close (tie.spec field-start-requires returns)
+length-spec = tie.close (tie.spec (λ c κs. search needs) returns)

@@ -19,9 +19,6 @@ Inv-loop frame values n field₀ field = (field ≤ n) × (someTooLarge (drop fi
 abbrev μ-loop : tie.MeasureT-loop
 μ-loop frame values n field₀ field = n - field
 
-fields-in-requires : tie.Need-fields-in-requires Inv-loop μ-loop
-fields-in-requires c κs = search needs
-
 loop-holds : tie.Need-loop-holds Inv-loop μ-loop
 unfolding lineOverflows
 loop-holds c = (omega arith, refl)
@@ -34,9 +31,6 @@ mul-too-large c = omega (arith, fields-most (c .before .before .before .before .
 
 shared-slice-read-too-large : tie.Need-shared-slice-read-too-large Inv-loop μ-loop
 shared-slice-read-too-large c = omega arith
-
-too-large-requires : tie.Need-too-large-requires Inv-loop μ-loop
-too-large-requires c κs = search needs
 
 -- the test made of a value is that of its field's width
 tested : (c : tie.After-too-large Inv-loop μ-loop) →
@@ -78,12 +72,12 @@ overflows-spec =
     (tie.spec
     Inv-loop
     μ-loop
-    fields-in-requires
+    (λ c κs. search needs)
     loop-holds
     width-requires
     mul-too-large
     shared-slice-read-too-large
-    too-large-requires
+    (λ c κs. search needs)
     returns
     add-field
     loop-less

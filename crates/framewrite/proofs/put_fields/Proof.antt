@@ -24,9 +24,6 @@ Inv-loop out₀ at frame values n start₀ i₀ out start i =
 abbrev μ-loop : tie.MeasureT-loop
 μ-loop out₀ at frame values n start₀ i₀ out start i = n - i
 
-fields-in-requires : tie.Need-fields-in-requires Inv-loop μ-loop
-fields-in-requires c κs = search needs
-
 loop-holds : tie.Need-loop-holds Inv-loop μ-loop
 unfolding sum fields
 loop-holds c = (omega arith, omega arith, refl, sym (stored-nil _ _))
@@ -92,7 +89,7 @@ put-fields-spec =
     (tie.spec
     Inv-loop
     μ-loop
-    fields-in-requires
+    (λ c κs. search needs)
     loop-holds
     width-requires
     mul-put-value

@@ -11,12 +11,6 @@ use borrow.Author.Needs.{needs}
 use Rattle.framewrite.proofs.put_line.Statement.{statement}
 use Rattle.framewrite.proofs.put_line.Tie as tie
 
-row-of-requires : tie.Need-row-of-requires
-row-of-requires c κs = search needs
-
-slice-aggregate-put-bytes : tie.Need-slice-aggregate-put-bytes
-slice-aggregate-put-bytes c = search needs
-
 put-bytes-requires : tie.Need-put-bytes-requires
 unfolding rowOf
 put-bytes-requires c κs =
@@ -25,21 +19,6 @@ put-bytes-requires c κs =
       ap (λ (r : Row). length (r .kind)) (c .before .before .before .row-of .ensures),
       kind-length (c .before .before .before .before .before .before .args .frame),
     )
-
-add-put-fields : tie.Need-add-put-fields
-add-put-fields c = search needs
-
-put-fields-requires : tie.Need-put-fields-requires
-put-fields-requires c κs = search needs
-
-length-requires : tie.Need-length-requires
-length-requires c κs = search needs
-
-add-end : tie.Need-add-end
-add-end c = search needs
-
-slice-write-out : tie.Need-slice-write-out
-slice-write-out c = search needs
 
 same-length : tie.Need-same-length
 same-length c = simp length-set (c .before .before .before .put-fields .kept .0 ∙ c .before .before .before .before .before .before .before .put-bytes .kept .0)
@@ -59,13 +38,13 @@ pub put-line-spec : {M : Type 1} → statement M
 put-line-spec =
     tie.close
     (tie.spec
-    row-of-requires
-    slice-aggregate-put-bytes
+    (λ c κs. search needs)
+    (λ c. search needs)
     put-bytes-requires
-    add-put-fields
-    put-fields-requires
-    length-requires
-    add-end
-    slice-write-out
+    (λ c. search needs)
+    (λ c κs. search needs)
+    (λ c κs. search needs)
+    (λ c. search needs)
+    (λ c. search needs)
     same-length
     returns)

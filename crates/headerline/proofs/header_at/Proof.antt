@@ -9,17 +9,11 @@ use borrow.Author.Needs.{needs}
 use Rattle.headerline.proofs.header_at.Statement.{statement}
 use Rattle.headerline.proofs.header_at.Tie as tie
 
-field-requires : tie.Need-field-requires
-field-requires c κs = search needs
-
 cast-t4 : tie.Need-cast-t4
 unfolding widthsOf
 cast-t4 c =
     let s = c .before .before in
     omega (arith, field-within Frame.Header 0 (c .field .result) (now (s .args .text)) (s .pre) (c .field .ensures))
-
-field-requires-2 : tie.Need-field-requires-2
-field-requires-2 c κs = search needs
 
 cast-t7 : tie.Need-cast-t7
 unfolding widthsOf
@@ -27,17 +21,11 @@ cast-t7 c =
     let s = c .before .before .before in
     omega (arith, field-within Frame.Header 1 (c .field2 .result) (now (s .args .text)) (s .pre) (c .field2 .ensures))
 
-field-requires-3 : tie.Need-field-requires-3
-field-requires-3 c κs = search needs
-
 cast-t10 : tie.Need-cast-t10
 unfolding widthsOf
 cast-t10 c =
     let s = c .before .before .before .before in
     omega (arith, field-within Frame.Header 2 (c .field3 .result) (now (s .args .text)) (s .pre) (c .field3 .ensures))
-
-field-requires-4 : tie.Need-field-requires-4
-field-requires-4 c κs = search needs
 
 cast-t13 : tie.Need-cast-t13
 unfolding widthsOf
@@ -45,26 +33,17 @@ cast-t13 c =
     let s = c .before .before .before .before .before in
     omega (arith, field-within Frame.Header 3 (c .field4 .result) (now (s .args .text)) (s .pre) (c .field4 .ensures))
 
-field-requires-5 : tie.Need-field-requires-5
-field-requires-5 c κs = search needs
-
 cast-t16 : tie.Need-cast-t16
 unfolding widthsOf
 cast-t16 c =
     let s = c .before .before .before .before .before .before in
     omega (arith, field-within Frame.Header 4 (c .field5 .result) (now (s .args .text)) (s .pre) (c .field5 .ensures))
 
-field-requires-6 : tie.Need-field-requires-6
-field-requires-6 c κs = search needs
-
 cast-t19 : tie.Need-cast-t19
 unfolding widthsOf
 cast-t19 c =
     let s = c .before .before .before .before .before .before .before in
     omega (arith, field-within Frame.Header 5 (c .field6 .result) (now (s .args .text)) (s .pre) (c .field6 .ensures))
-
-field-requires-7 : tie.Need-field-requires-7
-field-requires-7 c κs = search needs
 
 cast-t22 : tie.Need-cast-t22
 unfolding widthsOf
@@ -80,18 +59,18 @@ pub header-at-spec : {M : Type 1} → statement M
 header-at-spec =
     tie.close
     (tie.spec
-    field-requires
+    (λ c κs. search needs)
     cast-t4
-    field-requires-2
+    (λ c κs. search needs)
     cast-t7
-    field-requires-3
+    (λ c κs. search needs)
     cast-t10
-    field-requires-4
+    (λ c κs. search needs)
     cast-t13
-    field-requires-5
+    (λ c κs. search needs)
     cast-t16
-    field-requires-6
+    (λ c κs. search needs)
     cast-t19
-    field-requires-7
+    (λ c κs. search needs)
     cast-t22
     returns)

@@ -30,15 +30,6 @@ returns c =
     let text : List ℕ = now (c .before .before .args .text) in
     sym (ap (given text) (ap (λ (l : List ℕ). lineOutcome l 1) (nothing-left text (omega (arith, c .if1 .taken))) ∙ first-missing))
 
-kind-at-requires : tie.Need-kind-at-requires
-kind-at-requires c κs = search needs
-
-enum-known-found : tie.Need-enum-known-found
-enum-known-found c = search needs
-
-enum-told : tie.Need-enum-told
-enum-told c = search needs
-
 -- the first byte is there
 there : (c : tie.Else1) → empty (now (c .before .before .args .text)) ≡ false
 there c = byte-there 0 (now (c .before .before .args .text)) (omega (arith, c .if1 .left))
@@ -49,9 +40,6 @@ returns-2 c =
     let nothing : kindAt text ≡ Found.Nothing = sym (c .before .before .kind-at .ensures) ∙ c .enum-told .given .1 in
     sym (ap (given text) (first-other text (there (c .before .before .before)) (admits-none text (kind-none text nothing))))
 
-enum-told-2 : tie.Need-enum-told-2
-enum-told-2 c = search needs
-
 -- the frame that was found is formed
 is-formed : (c : tie.After-known-told) → formed (c .before .found .given .0 .0) (now (c .before .before .before .before .before .before .args .text)) ≡ true
 is-formed c =
@@ -59,9 +47,6 @@ is-formed c =
 
 header-at-requires : tie.Need-header-at-requires
 header-at-requires c κs = ap (λ (f : Frame). formed f (now (c .before .before .before .before .before .before .before .before .args .text))) (sym (c .enum-told2 .given .1)) ∙ is-formed (c .before .before)
-
-enum-told-3 : tie.Need-enum-told-3
-enum-told-3 c = search needs
 
 returns-3 : tie.Need-returns-3
 returns-3 c =
@@ -86,13 +71,13 @@ header-line-spec =
     tie.close
     (tie.spec
     returns
-    kind-at-requires
-    enum-known-found
-    enum-told
+    (λ c κs. search needs)
+    (λ c. search needs)
+    (λ c. search needs)
     returns-2
-    enum-told-2
+    (λ c. search needs)
     header-at-requires
-    enum-told-3
+    (λ c. search needs)
     returns-3
     returns-4
     returns-5)

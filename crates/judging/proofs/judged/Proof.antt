@@ -33,30 +33,15 @@ module _ (c : tie.After-charge) where
       r ≡ Within own → own ≡ serverHorizon (start .args .header) (membersAt (start .args .figures .now) (take (start .args .k) (start .args .places .now)))
   own-horizon e f = horizon-found (start .pre .0) (overheads start) _ refl (c .charge .ensures) e f
 
-slice-aggregate-charge : tie.Need-slice-aggregate-charge
-slice-aggregate-charge c = search needs
-
 charge-requires : tie.Need-charge-requires
 charge-requires c κs =
     let s = c .before .before .before in
     may-charge (s .pre .0) (overheads s) _ refl
 
-cast-slot : tie.Need-cast-slot
-cast-slot c = search needs
-
-slice-aggregate-horizon-of : tie.Need-slice-aggregate-horizon-of
-slice-aggregate-horizon-of c = search needs
-
 horizon-of-requires : tie.Need-horizon-of-requires
 horizon-of-requires c κs =
     let at = c .before .before .before in
     charged-timed (start at .pre .0) (overheads (start at)) _ refl (at .charge .ensures)
-
-enum-known-own : tie.Need-enum-known-own
-enum-known-own c = search needs
-
-enum-told : tie.Need-enum-told
-enum-told c = search needs
 
 -- the horizon is within the file's
 returns : tie.Need-returns
@@ -68,9 +53,6 @@ loss-requires : tie.Need-loss-requires
 loss-requires c κs =
     let at = c .before .before .before .before .before .before .before in
     omega (arith, small-cache (start at .pre .0) (overheads (start at)))
-
-slice-aggregate-verdict : tie.Need-slice-aggregate-verdict
-slice-aggregate-verdict c = search needs
 
 verdict-requires : tie.Need-verdict-requires
 verdict-requires c κs =
@@ -94,15 +76,15 @@ pub judged-spec : {M : Type 1} → statement M
 judged-spec =
     tie.close
     (tie.spec
-    slice-aggregate-charge
+    (λ c. search needs)
     charge-requires
-    cast-slot
-    slice-aggregate-horizon-of
+    (λ c. search needs)
+    (λ c. search needs)
     horizon-of-requires
-    enum-known-own
-    enum-told
+    (λ c. search needs)
+    (λ c. search needs)
     returns
     loss-requires
-    slice-aggregate-verdict
+    (λ c. search needs)
     verdict-requires
     returns-2)

@@ -56,12 +56,6 @@ mul-charged-cost c = omega (arith, there c)
 shared-slice-read-charged-cost : tie.Need-shared-slice-read-charged-cost Inv-loop μ-loop
 shared-slice-read-charged-cost c = omega (arith, there (c .before))
 
-cast-charged-cost : tie.Need-cast-charged-cost Inv-loop μ-loop
-cast-charged-cost c = search needs
-
-cast-charged-cost-2 : tie.Need-cast-charged-cost-2 Inv-loop μ-loop
-cast-charged-cost-2 c = search needs
-
 charged-cost-requires : tie.Need-charged-cost-requires Inv-loop μ-loop
 charged-cost-requires c κs =
     let k = c .before .before .before in
@@ -88,9 +82,6 @@ mul-charged-deadline c = omega (arith, there (c .before .before .before .before)
 
 shared-slice-read-charged-deadline : tie.Need-shared-slice-read-charged-deadline Inv-loop μ-loop
 shared-slice-read-charged-deadline c = omega (arith, there (c .before .before .before .before .before))
-
-cast-charged-deadline : tie.Need-cast-charged-deadline Inv-loop μ-loop
-cast-charged-deadline c = search needs
 
 charged-deadline-requires : tie.Need-charged-deadline-requires Inv-loop μ-loop
 charged-deadline-requires c κs = omega (arith, member (c .before .before .before .before .before .before) .early)
@@ -166,15 +157,15 @@ charge-spec =
     mul-to
     mul-charged-cost
     shared-slice-read-charged-cost
-    cast-charged-cost
-    cast-charged-cost-2
+    (λ c. search needs)
+    (λ c. search needs)
     charged-cost-requires
     mul-loads
     slice-write-loads
     add-charged-deadline
     mul-charged-deadline
     shared-slice-read-charged-deadline
-    cast-charged-deadline
+    (λ c. search needs)
     charged-deadline-requires
     add-loads
     mul-loads-2

@@ -40,26 +40,11 @@ mul-least-multiple c = omega (arith, c .before .before .before .before .pre .the
 shared-slice-read-least-multiple : tie.Need-shared-slice-read-least-multiple Inv-loop μ-loop
 shared-slice-read-least-multiple c = omega (arith, c .before .before .before .before .before .pre .there)
 
-least-multiple-requires : tie.Need-least-multiple-requires Inv-loop μ-loop
-least-multiple-requires c κs = search needs
-
-enum-known-next : tie.Need-enum-known-next Inv-loop μ-loop
-enum-known-next c = search needs
-
-enum-told : tie.Need-enum-told Inv-loop μ-loop
-enum-told c = search needs
-
 returns-2 : tie.Need-returns-2 Inv-loop μ-loop
 returns-2 c =
     let at = c .before .before .before .before .before in
     stops (at .before .before .before .pre) _ (at .loop .inv .1) (c .before .before .before .before .loop-test .taken)
     (sym (c .before .before .least-multiple .ensures) ∙ c .enum-told .given .1)
-
-add-i : tie.Need-add-i Inv-loop μ-loop
-add-i c = search needs
-
-loop-less : tie.Need-loop-less Inv-loop μ-loop
-loop-less c = search needs
 
 loop-again : tie.Need-loop-again Inv-loop μ-loop
 loop-again c =
@@ -87,11 +72,11 @@ horizon-of-spec =
     add-at
     mul-least-multiple
     shared-slice-read-least-multiple
-    least-multiple-requires
-    enum-known-next
-    enum-told
+    (λ c κs. search needs)
+    (λ c. search needs)
+    (λ c. search needs)
     returns-2
-    add-i
-    loop-less
+    (λ c. search needs)
+    (λ c. search needs)
     loop-again
     returns-3)

@@ -9,9 +9,6 @@ use Rattle.plancheck.proofs.AgreeLaws.{Figures, figures-same}
 use Rattle.plancheck.proofs.agree.Statement.{statement}
 use Rattle.plancheck.proofs.agree.Tie as tie
 
-same-figures-requires : tie.Need-same-figures-requires
-same-figures-requires c κs = search needs
-
 returns : tie.Need-returns
 unfolding agrees
 returns c = rw (sym (c .before .same-figures .ensures) ∙ not-true _ (c .if1 .taken))
@@ -26,9 +23,6 @@ same-servers-requires c κs = (c .before .before .pre .1, figures c .servers)
 returns-2 : tie.Need-returns-2
 unfolding agrees
 returns-2 c = rw (sym (c .before .before .before .same-figures .ensures) ∙ not-false _ (c .before .before .if1 .left), sym (c .before .same-servers .ensures) ∙ not-true _ (c .if2 .taken))
-
-same-front-requires : tie.Need-same-front-requires
-same-front-requires c κs = search needs
 
 returns-3 : tie.Need-returns-3
 unfolding agrees
@@ -47,11 +41,11 @@ pub agree-spec : {M : Type 1} → statement M
 agree-spec =
     tie.close
     (tie.spec
-    same-figures-requires
+    (λ c κs. search needs)
     returns
     same-servers-requires
     returns-2
-    same-front-requires
+    (λ c κs. search needs)
     returns-3
     same-processors-requires
     returns-4)

@@ -27,15 +27,6 @@ done c =
 made : (c : tie.After-enum-told) → c .before .before .make .result .plan ≡ planMade (c .before .before .before .args .set)
 made c = ap (λ (a : PlanAnswer). a .plan) (c .before .before .make .ensures) ∙ plan-is (c .before .before .before .args .set) (done c)
 
-make-requires : tie.Need-make-requires
-make-requires c κs = search needs
-
-enum-told : tie.Need-enum-told
-enum-told c = search needs
-
-enum-told-2 : tie.Need-enum-told-2
-enum-told-2 c = search needs
-
 returns : tie.Need-returns
 returns c = makes-refused _ _ (sym (ap (λ (a : PlanAnswer). a .outcome) (c .before .before .make .ensures)) ∙ c .enum-told2 .given .1)
 
@@ -50,4 +41,4 @@ returns-2 c = makes-by (c .before .before .before .before .args .set) (c .before
 
 pub makes-plan-spec : {M : Type 1} → statement M
 makes-plan-spec =
-    tie.close (tie.spec make-requires enum-told enum-told-2 returns agree-requires returns-2)
+    tie.close (tie.spec (λ c κs. search needs) (λ c. search needs) (λ c. search needs) returns agree-requires returns-2)

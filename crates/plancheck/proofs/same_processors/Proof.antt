@@ -61,9 +61,6 @@ mul-there c = omega (arith, c .before .before .before .pre .0, c .before .loop-t
 element-copy-out-there : tie.Need-element-copy-out-there Inv-loop μ-loop
 element-copy-out-there c = omega (arith, c .before .before .before .pre .0, c .before .loop-test .taken)
 
-same-stand-requires : tie.Need-same-stand-requires Inv-loop μ-loop
-same-stand-requires c κs = search needs
-
 returns : tie.Need-returns Inv-loop μ-loop
 returns c =
     let at = c .before .before .before .before .before in
@@ -103,7 +100,7 @@ same-processors-spec =
     element-copy-out-here
     mul-there
     element-copy-out-there
-    same-stand-requires
+    (λ c κs. search needs)
     returns
     add-i
     loop-less

@@ -32,9 +32,6 @@ returns-4 : tie.Need-returns-4
 unfolding sameServer
 returns-4 c = rw (eq-eqb _ _ (c .before .before .before .if1 .left), eq-eqb _ _ (c .before .before .if2 .left), eq-eqb _ _ (c .before .if3 .left), ne-eqb _ _ (c .if4 .taken))
 
-same-places-requires : tie.Need-same-places-requires
-same-places-requires c κs = search needs
-
 returns-5 : tie.Need-returns-5
 returns-5 c =
     let last = c .before .before .before .before .before .before .before in
@@ -43,4 +40,4 @@ returns-5 c =
 
 pub same-server-spec : {M : Type 1} → statement M
 same-server-spec =
-    tie.close (tie.spec returns returns-2 returns-3 returns-4 same-places-requires returns-5)
+    tie.close (tie.spec returns returns-2 returns-3 returns-4 (λ c κs. search needs) returns-5)

@@ -21,29 +21,14 @@ abbrev μ-loop : tie.MeasureT-loop
 loop-holds : tie.Need-loop-holds Inv-loop μ-loop
 loop-holds c = filled-none _ _ _
 
-mul-task : tie.Need-mul-task Inv-loop μ-loop
-mul-task c = search needs
-
 element-copy-out-task : tie.Need-element-copy-out-task Inv-loop μ-loop
 element-copy-out-task c = omega arith
-
-cast-t14 : tie.Need-cast-t14 Inv-loop μ-loop
-cast-t14 c = search needs
-
-mul-t10 : tie.Need-mul-t10 Inv-loop μ-loop
-mul-t10 c = search needs
 
 shared-slice-read-t16 : tie.Need-shared-slice-read-t16 Inv-loop μ-loop
 shared-slice-read-t16 c = omega arith
 
-slice-aggregate-put-figures : tie.Need-slice-aggregate-put-figures Inv-loop μ-loop
-slice-aggregate-put-figures c = search needs
-
 mul-put-figures : tie.Need-mul-put-figures Inv-loop μ-loop
 mul-put-figures c = omega arith
-
-slice-aggregate-put-figures-2 : tie.Need-slice-aggregate-put-figures-2 Inv-loop μ-loop
-slice-aggregate-put-figures-2 c = search needs
 
 put-figures-requires : tie.Need-put-figures-requires Inv-loop μ-loop
 put-figures-requires c κs = omega (arith, c .before .before .before .before .before .before .loop .inv .same)
@@ -73,14 +58,14 @@ placed-values-spec =
     Inv-loop
     μ-loop
     loop-holds
-    mul-task
+    (λ c. search needs)
     element-copy-out-task
-    cast-t14
-    mul-t10
+    (λ c. search needs)
+    (λ c. search needs)
     shared-slice-read-t16
-    slice-aggregate-put-figures
+    (λ c. search needs)
     mul-put-figures
-    slice-aggregate-put-figures-2
+    (λ c. search needs)
     put-figures-requires
     add-i
     loop-less

@@ -21,23 +21,14 @@ abbrev μ-loop : tie.MeasureT-loop
 loop-holds : tie.Need-loop-holds Inv-loop μ-loop
 loop-holds c = filled-none _ _ _
 
-mul-first : tie.Need-mul-first Inv-loop μ-loop
-mul-first c = search needs
-
 element-copy-out-first : tie.Need-element-copy-out-first Inv-loop μ-loop
 element-copy-out-first c = omega arith
 
 add-t14 : tie.Need-add-t14 Inv-loop μ-loop
 add-t14 c = omega arith
 
-slice-aggregate-put-figures : tie.Need-slice-aggregate-put-figures Inv-loop μ-loop
-slice-aggregate-put-figures c = search needs
-
 mul-put-figures : tie.Need-mul-put-figures Inv-loop μ-loop
 mul-put-figures c = omega arith
-
-slice-aggregate-put-figures-2 : tie.Need-slice-aggregate-put-figures-2 Inv-loop μ-loop
-slice-aggregate-put-figures-2 c = search needs
 
 put-figures-requires : tie.Need-put-figures-requires Inv-loop μ-loop
 put-figures-requires c κs = omega (arith, c .before .before .before .before .loop .inv .same)
@@ -67,12 +58,12 @@ processor-values-spec =
     Inv-loop
     μ-loop
     loop-holds
-    mul-first
+    (λ c. search needs)
     element-copy-out-first
     add-t14
-    slice-aggregate-put-figures
+    (λ c. search needs)
     mul-put-figures
-    slice-aggregate-put-figures-2
+    (λ c. search needs)
     put-figures-requires
     add-i
     loop-less

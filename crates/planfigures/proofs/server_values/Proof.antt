@@ -21,26 +21,14 @@ abbrev μ-loop : tie.MeasureT-loop
 loop-holds : tie.Need-loop-holds Inv-loop μ-loop
 loop-holds c = filled-none _ _ _
 
-mul-server : tie.Need-mul-server Inv-loop μ-loop
-mul-server c = search needs
-
 element-copy-out-server : tie.Need-element-copy-out-server Inv-loop μ-loop
 element-copy-out-server c = omega arith
-
-start-or-mark-requires : tie.Need-start-or-mark-requires Inv-loop μ-loop
-start-or-mark-requires c κs = search needs
 
 add-t17 : tie.Need-add-t17 Inv-loop μ-loop
 add-t17 c = omega arith
 
-slice-aggregate-put-figures : tie.Need-slice-aggregate-put-figures Inv-loop μ-loop
-slice-aggregate-put-figures c = search needs
-
 mul-put-figures : tie.Need-mul-put-figures Inv-loop μ-loop
 mul-put-figures c = omega arith
-
-slice-aggregate-put-figures-2 : tie.Need-slice-aggregate-put-figures-2 Inv-loop μ-loop
-slice-aggregate-put-figures-2 c = search needs
 
 put-figures-requires : tie.Need-put-figures-requires Inv-loop μ-loop
 put-figures-requires c κs = omega (arith, c .before .before .before .before .before .loop .inv .same)
@@ -70,13 +58,13 @@ server-values-spec =
     Inv-loop
     μ-loop
     loop-holds
-    mul-server
+    (λ c. search needs)
     element-copy-out-server
-    start-or-mark-requires
+    (λ c κs. search needs)
     add-t17
-    slice-aggregate-put-figures
+    (λ c. search needs)
     mul-put-figures
-    slice-aggregate-put-figures-2
+    (λ c. search needs)
     put-figures-requires
     add-i
     loop-less

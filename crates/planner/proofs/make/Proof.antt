@@ -8,26 +8,11 @@ use Rattle.planner.proofs.Made.{plan-ask, plan-charged}
 use Rattle.planner.proofs.make.Statement.{statement}
 use Rattle.planner.proofs.make.Tie as tie
 
-asks-requires : tie.Need-asks-requires
-asks-requires c κs = search needs
-
-refused-requires : tie.Need-refused-requires
-refused-requires c κs = search needs
-
 returns : tie.Need-returns
 returns c = c .refused .ensures ∙ plan-ask _ (sym (c .before .before .asks .ensures) ∙ c .before .if1 .taken)
 
 charged-requires : tie.Need-charged-requires
 charged-requires c κs = count-within _ (ask-count _ (sym (c .before .asks .ensures) ∙ c .if1 .left)) .1
-
-enum-known-rows : tie.Need-enum-known-rows
-enum-known-rows c = search needs
-
-refused-requires-2 : tie.Need-refused-requires-2
-refused-requires-2 c κs = search needs
-
-enum-known-rows-2 : tie.Need-enum-known-rows-2
-enum-known-rows-2 c = search needs
 
 planned-requires : tie.Need-planned-requires
 planned-requires c κs =
@@ -46,13 +31,13 @@ pub make-spec : {M : Type 1} → statement M
 make-spec =
     tie.close
     (tie.spec
-    asks-requires
-    refused-requires
+    (λ c κs. search needs)
+    (λ c κs. search needs)
     returns
     charged-requires
-    enum-known-rows
-    refused-requires-2
-    enum-known-rows-2
+    (λ c. search needs)
+    (λ c κs. search needs)
+    (λ c. search needs)
     planned-requires
     returns-2
     returns-3)

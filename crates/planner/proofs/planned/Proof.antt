@@ -22,20 +22,11 @@ sum c = made-sum (c .before .args .set) (c .lay .ensures)
 few : (c : tie.After-lay) → needed (c .before .args .set) ≤ mostTasks
 few c = needed-few (c .before .args .set) (full (c .before)) (c .before .pre .0)
 
-lay-requires : tie.Need-lay-requires
-lay-requires c κs = search needs
-
 add-processors : tie.Need-add-processors
 add-processors c = omega (arith, sum (c .before), few (c .before))
 
-cast-if1 : tie.Need-cast-if1
-cast-if1 c = search needs
-
 cast-t7 : tie.Need-cast-t7
 cast-t7 c = omega (arith, sum (c .before .before .before), few (c .before .before .before))
-
-refused-requires : tie.Need-refused-requires
-refused-requires c κs = search needs
 
 returns : tie.Need-returns
 returns c =
@@ -53,4 +44,4 @@ returns-2 c =
 
 pub planned-spec : {M : Type 1} → statement M
 planned-spec =
-    tie.close (tie.spec lay-requires add-processors cast-if1 cast-t7 refused-requires returns returns-2)
+    tie.close (tie.spec (λ c κs. search needs) add-processors (λ c. search needs) cast-t7 (λ c κs. search needs) returns returns-2)

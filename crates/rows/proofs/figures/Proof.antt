@@ -43,17 +43,11 @@ element-copy-out-task c = omega arith
 mul-at : tie.Need-mul-at Inv-loop μ-loop
 mul-at c = omega (arith, few c)
 
-cast-numbers : tie.Need-cast-numbers Inv-loop μ-loop
-cast-numbers c = search needs
-
 mul-numbers : tie.Need-mul-numbers Inv-loop μ-loop
 mul-numbers c = omega (arith, few (c .before))
 
 array-write-numbers : tie.Need-array-write-numbers Inv-loop μ-loop
 array-write-numbers c = omega (arith, few (c .before))
-
-cast-numbers-2 : tie.Need-cast-numbers-2 Inv-loop μ-loop
-cast-numbers-2 c = search needs
 
 add-numbers : tie.Need-add-numbers Inv-loop μ-loop
 add-numbers c = omega (arith, few (c .before .before))
@@ -63,9 +57,6 @@ mul-numbers-2 c = omega (arith, few (c .before .before))
 
 array-write-numbers-2 : tie.Need-array-write-numbers-2 Inv-loop μ-loop
 array-write-numbers-2 c = omega (arith, few (c .before .before))
-
-cast-numbers-3 : tie.Need-cast-numbers-3 Inv-loop μ-loop
-cast-numbers-3 c = search needs
 
 add-numbers-2 : tie.Need-add-numbers-2 Inv-loop μ-loop
 add-numbers-2 c = omega (arith, few (c .before .before .before))
@@ -105,14 +96,14 @@ figures-spec =
     mul-task
     element-copy-out-task
     mul-at
-    cast-numbers
+    (λ c. search needs)
     mul-numbers
     array-write-numbers
-    cast-numbers-2
+    (λ c. search needs)
     add-numbers
     mul-numbers-2
     array-write-numbers-2
-    cast-numbers-3
+    (λ c. search needs)
     add-numbers-2
     mul-numbers-3
     array-write-numbers-3

@@ -63,55 +63,22 @@ module _ (c : tie.After-charge) where
       own ≡ serverHorizon (from .args .header) (members from)
   own-horizon e f = horizon-found (from .pre .0) (standing at-places) _ refl (c .charge .ensures) e f
 
-cast-cache : tie.Need-cast-cache
-cast-cache c = search needs
-
-slice-aggregate-places-of : tie.Need-slice-aggregate-places-of
-slice-aggregate-places-of c = search needs
-
-places-of-requires : tie.Need-places-of-requires
-places-of-requires c κs = search needs
-
-slice-aggregate-charge : tie.Need-slice-aggregate-charge
-slice-aggregate-charge c = search needs
-
-slice-aggregate-charge-2 : tie.Need-slice-aggregate-charge-2
-slice-aggregate-charge-2 c = search needs
-
 charge-requires : tie.Need-charge-requires
 charge-requires c κs =
     let at = c .before .before .before in
     let o = overheads (start at) in
     may-charge (start at .pre .0) (standing at) (start at .args .header .cpmdo) _ (omega (arith, o .cache)) refl
 
-cast-slot : tie.Need-cast-slot
-cast-slot c = search needs
-
-slice-aggregate-horizon-of : tie.Need-slice-aggregate-horizon-of
-slice-aggregate-horizon-of c = search needs
-
 horizon-of-requires : tie.Need-horizon-of-requires
 horizon-of-requires c κs =
     let at = c .before .before .before in
     charged-timed (from at .pre .0) (standing (at-places at)) _ refl (at .charge .ensures)
-
-enum-known-own : tie.Need-enum-known-own
-enum-known-own c = search needs
-
-enum-told : tie.Need-enum-told
-enum-told c = search needs
 
 -- the horizon is within the file's
 returns : tie.Need-returns
 returns c =
     let at = c .before .before .before .before .before .before in
     horizon-not-past (from at .pre .0) (standing (at-places at)) _ refl (at .charge .ensures) (c .before .before .horizon-of .ensures) (c .enum-told .given .1)
-
-slice-aggregate-smallest-reserve : tie.Need-slice-aggregate-smallest-reserve
-slice-aggregate-smallest-reserve c = search needs
-
-loss-requires : tie.Need-loss-requires
-loss-requires c κs = search needs
 
 smallest-reserve-requires : tie.Need-smallest-reserve-requires
 unfolding entryLoss
@@ -145,19 +112,19 @@ pub reserve-of-spec : {M : Type 1} → statement M
 reserve-of-spec =
     tie.close
     (tie.spec
-    cast-cache
-    slice-aggregate-places-of
-    places-of-requires
-    slice-aggregate-charge
-    slice-aggregate-charge-2
+    (λ c. search needs)
+    (λ c. search needs)
+    (λ c κs. search needs)
+    (λ c. search needs)
+    (λ c. search needs)
     charge-requires
-    cast-slot
-    slice-aggregate-horizon-of
+    (λ c. search needs)
+    (λ c. search needs)
     horizon-of-requires
-    enum-known-own
-    enum-told
+    (λ c. search needs)
+    (λ c. search needs)
     returns
-    slice-aggregate-smallest-reserve
-    loss-requires
+    (λ c. search needs)
+    (λ c κs. search needs)
     smallest-reserve-requires
     returns-2)

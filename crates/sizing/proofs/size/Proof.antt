@@ -21,12 +21,6 @@ abbrev μ-loop : tie.MeasureT-loop
 loop-holds : tie.Need-loop-holds Inv-loop μ-loop
 loop-holds c = (omega arith, refl, filled-none _)
 
-add-q : tie.Need-add-q Inv-loop μ-loop
-add-q c = search needs
-
-reserve-of-requires : tie.Need-reserve-of-requires Inv-loop μ-loop
-reserve-of-requires c κs = search needs
-
 mul-reserve : tie.Need-mul-reserve Inv-loop μ-loop
 mul-reserve c = omega arith
 
@@ -35,9 +29,6 @@ array-write-reserve c = omega arith
 
 add-at : tie.Need-add-at Inv-loop μ-loop
 add-at c = omega arith
-
-loop-less : tie.Need-loop-less Inv-loop μ-loop
-loop-less c = search needs
 
 loop-again : tie.Need-loop-again Inv-loop μ-loop
 loop-again c =
@@ -54,11 +45,11 @@ size-spec =
     Inv-loop
     μ-loop
     loop-holds
-    add-q
-    reserve-of-requires
+    (λ c. search needs)
+    (λ c κs. search needs)
     mul-reserve
     array-write-reserve
     add-at
-    loop-less
+    (λ c. search needs)
     loop-again
     returns)

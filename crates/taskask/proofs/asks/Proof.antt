@@ -6,9 +6,6 @@ use Rattle.taskask.proofs.Carried.{ask-rows, count-within}
 use Rattle.taskask.proofs.asks.Statement.{statement}
 use Rattle.taskask.proofs.asks.Tie as tie
 
-breaks-count-requires : tie.Need-breaks-count-requires
-breaks-count-requires c κs = search needs
-
 returns : tie.Need-returns
 returns c = sym (ask-rows _ (sym (c .before .breaks-count .ensures) ∙ c .if1 .taken) refl refl refl)
 
@@ -19,9 +16,6 @@ returns-2 : tie.Need-returns-2
 returns-2 c =
     let d = c .before .before in
     sym (ask-rows _ (sym (d .before .breaks-count .ensures) ∙ d .if1 .left) (sym (c .before .breaks-twice .ensures) ∙ c .if2 .taken) refl refl)
-
-header-overflows-requires : tie.Need-header-overflows-requires
-header-overflows-requires c κs = search needs
 
 returns-3 : tie.Need-returns-3
 returns-3 c =
@@ -50,11 +44,11 @@ pub asks-spec : {M : Type 1} → statement M
 asks-spec =
     tie.close
     (tie.spec
-    breaks-count-requires
+    (λ c κs. search needs)
     returns
     breaks-twice-requires
     returns-2
-    header-overflows-requires
+    (λ c κs. search needs)
     returns-3
     tasks-overflow-requires
     returns-4)

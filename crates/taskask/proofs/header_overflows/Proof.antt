@@ -13,12 +13,6 @@ use Rattle.taskask.specs.Ask.{headerOverflows}
 use Rattle.taskask.proofs.header_overflows.Statement.{statement}
 use Rattle.taskask.proofs.header_overflows.Tie as tie
 
-header-values-requires : tie.Need-header-values-requires
-header-values-requires c κs = search needs
-
-slice-aggregate-overflows : tie.Need-slice-aggregate-overflows
-slice-aggregate-overflows c = search needs
-
 overflows-requires : tie.Need-overflows-requires
 unfolding widthsOf
 overflows-requires c κs = omega (arith, ap length (c .before .header-values .ensures))
@@ -30,4 +24,4 @@ returns c = c .overflows .ensures ∙ ap (lineOverflows Frame.Header) (c .before
 pub header-overflows-spec : {M : Type 1} → statement M
 header-overflows-spec =
     tie.close
-    (tie.spec header-values-requires slice-aggregate-overflows overflows-requires returns)
+    (tie.spec (λ c κs. search needs) (λ c. search needs) overflows-requires returns)

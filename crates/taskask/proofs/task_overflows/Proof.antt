@@ -13,12 +13,6 @@ use Rattle.taskask.specs.Ask.{taskOverflows}
 use Rattle.taskask.proofs.task_overflows.Statement.{statement}
 use Rattle.taskask.proofs.task_overflows.Tie as tie
 
-task-values-requires : tie.Need-task-values-requires
-task-values-requires c κs = search needs
-
-slice-aggregate-overflows : tie.Need-slice-aggregate-overflows
-slice-aggregate-overflows c = search needs
-
 overflows-requires : tie.Need-overflows-requires
 unfolding widthsOf
 overflows-requires c κs = omega (arith, ap length (c .before .task-values .ensures))
@@ -30,4 +24,4 @@ returns c = c .overflows .ensures ∙ ap (lineOverflows Frame.Task) (c .before .
 pub task-overflows-spec : {M : Type 1} → statement M
 task-overflows-spec =
     tie.close
-    (tie.spec task-values-requires slice-aggregate-overflows overflows-requires returns)
+    (tie.spec (λ c κs. search needs) (λ c. search needs) overflows-requires returns)

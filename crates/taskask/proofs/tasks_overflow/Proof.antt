@@ -29,9 +29,6 @@ mul-task c = omega arith
 element-copy-out-task : tie.Need-element-copy-out-task Inv-loop μ-loop
 element-copy-out-task c = omega arith
 
-task-overflows-requires : tie.Need-task-overflows-requires Inv-loop μ-loop
-task-overflows-requires c κs = search needs
-
 returns : tie.Need-returns Inv-loop μ-loop
 returns c = sym (found-some (c .before .before .before .before .loop .inv) (omega arith) (sym (c .before .task-overflows .ensures) ∙ c .if1 .taken))
 
@@ -56,7 +53,7 @@ tasks-overflow-spec =
     loop-holds
     mul-task
     element-copy-out-task
-    task-overflows-requires
+    (λ c κs. search needs)
     returns
     add-i
     loop-less

@@ -23,22 +23,10 @@ use Rattle.taskline.proofs.listed_line.Tie as tie
 abbrev given : tie.Start → Outcome → TaskLine
 given s o = taskOr o (taskAt (drop (s .args .at) (now (s .args .text))))
 
-add-place : tie.Need-add-place
-add-place c = search needs
-
-cast-place : tie.Need-cast-place
-cast-place c = search needs
-
 returns : tie.Need-returns
 returns c =
     let s = c .before .before .before in
     sym (ap (given s) (said-count (s .pre .0) (s .pre .1 .1) (now (s .args .ids)) (s .pre .1 .0) (c .if1 .taken)))
-
-task-at-requires : tie.Need-task-at-requires
-task-at-requires c κs = search needs
-
-holds-id-requires : tie.Need-holds-id-requires
-holds-id-requires c κs = search needs
 
 -- what the search for the id says of the line
 by-id : (c : tie.After-holds-id) (b : Bool) → c .holds-id .result ≡ b → lineOutcome (now (c .before .before .before .before .before .args .text)) (c .before .before .before .before .before .args .lines + 1) ≡ when b (Twice (c .before .before .before .before .before .args .lines + 1))
@@ -58,4 +46,4 @@ returns-3 c =
 pub listed-line-spec : {M : Type 1} → statement M
 listed-line-spec =
     tie.close
-    (tie.spec add-place cast-place returns task-at-requires holds-id-requires returns-2 returns-3)
+    (tie.spec (λ c. search needs) (λ c. search needs) returns (λ c κs. search needs) (λ c κs. search needs) returns-2 returns-3)

@@ -10,17 +10,11 @@ use borrow.Author.Needs.{needs}
 use Rattle.taskline.proofs.task_at.Statement.{statement}
 use Rattle.taskline.proofs.task_at.Tie as tie
 
-field-requires : tie.Need-field-requires
-field-requires c κs = search needs
-
 cast-t5 : tie.Need-cast-t5
 unfolding widthsOf
 cast-t5 c =
     let s = c .before .before in
     omega (arith, field-within Frame.Task 0 (c .field .result) (drop (s .args .at) (now (s .args .text))) (s .pre .1) (c .field .ensures))
-
-field-requires-2 : tie.Need-field-requires-2
-field-requires-2 c κs = search needs
 
 cast-t8 : tie.Need-cast-t8
 unfolding widthsOf
@@ -28,17 +22,11 @@ cast-t8 c =
     let s = c .before .before .before in
     omega (arith, field-within Frame.Task 1 (c .field2 .result) (drop (s .args .at) (now (s .args .text))) (s .pre .1) (c .field2 .ensures))
 
-field-requires-3 : tie.Need-field-requires-3
-field-requires-3 c κs = search needs
-
 cast-t11 : tie.Need-cast-t11
 unfolding widthsOf
 cast-t11 c =
     let s = c .before .before .before .before in
     omega (arith, field-within Frame.Task 2 (c .field3 .result) (drop (s .args .at) (now (s .args .text))) (s .pre .1) (c .field3 .ensures))
-
-field-requires-4 : tie.Need-field-requires-4
-field-requires-4 c κs = search needs
 
 cast-t14 : tie.Need-cast-t14
 unfolding widthsOf
@@ -54,12 +42,12 @@ pub task-at-spec : {M : Type 1} → statement M
 task-at-spec =
     tie.close
     (tie.spec
-    field-requires
+    (λ c κs. search needs)
     cast-t5
-    field-requires-2
+    (λ c κs. search needs)
     cast-t8
-    field-requires-3
+    (λ c κs. search needs)
     cast-t11
-    field-requires-4
+    (λ c κs. search needs)
     cast-t14
     returns)

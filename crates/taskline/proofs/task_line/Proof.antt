@@ -26,32 +26,11 @@ rest s = drop (s .args .at) (now (s .args .text))
 abbrev given : tie.Start → Outcome → TaskLine
 given s o = taskOr o (taskAt (rest s))
 
-add-line : tie.Need-add-line
-add-line c = search needs
-
-cast-line : tie.Need-cast-line
-cast-line c = search needs
-
-kind-at-requires : tie.Need-kind-at-requires
-kind-at-requires c κs = search needs
-
-enum-known-found : tie.Need-enum-known-found
-enum-known-found c = search needs
-
-enum-told : tie.Need-enum-told
-enum-told c = search needs
-
 returns : tie.Need-returns
 returns c =
     let s = c .before .before .before .before .before in
     let nothing : kindAt (rest s) ≡ Found.Nothing = sym (c .before .before .kind-at .ensures) ∙ c .enum-told .given .1 in
     sym (ap (given s) (said-line (s .pre .0) (s .pre .1 .0) (admits-none (rest s) (kind-none (rest s) nothing))))
-
-enum-told-2 : tie.Need-enum-told-2
-enum-told-2 c = search needs
-
-enum-told-3 : tie.Need-enum-told-3
-enum-told-3 c = search needs
 
 -- the frame that was found is formed
 is-formed : (c : tie.After-known-told) → formed (c .before .found .given .0 .0) (rest (c .before .before .before .before .before .before)) ≡ true
@@ -69,9 +48,6 @@ returns-2 c =
     let header : formed Frame.Header (rest s) ≡ true = ap (λ (f : Frame). formed f (rest s)) (sym (c .enum-told2 .given .1)) ∙ is-formed (c .before .before) in
     sym (ap (given s) (said-order (s .pre .0) header))
 
-returns-3 : tie.Need-returns-3
-returns-3 c = search needs
-
 returns-4 : tie.Need-returns-4
 returns-4 c =
     let s = c .before .before .before .before .before .before .before in
@@ -82,15 +58,15 @@ pub task-line-spec : {M : Type 1} → statement M
 task-line-spec =
     tie.close
     (tie.spec
-    add-line
-    cast-line
-    kind-at-requires
-    enum-known-found
-    enum-told
+    (λ c. search needs)
+    (λ c. search needs)
+    (λ c κs. search needs)
+    (λ c. search needs)
+    (λ c. search needs)
     returns
-    enum-told-2
-    enum-told-3
+    (λ c. search needs)
+    (λ c. search needs)
     listed-line-requires
     returns-2
-    returns-3
+    (λ c. search needs)
     returns-4)

@@ -13,17 +13,11 @@ use borrow.Author.Needs.{needs}
 use Rattle.taskrows.proofs.figures.Statement.{statement}
 use Rattle.taskrows.proofs.figures.Tie as tie
 
-breaks-board-requires : tie.Need-breaks-board-requires
-breaks-board-requires c κs = search needs
-
 returns : tie.Need-returns
 returns c =
     let set : TaskSet = c .before .before .before .args .set in
     let said : c .before .breaks-board .result ≡ boardRow (set .header) = c .before .breaks-board .ensures in
     sym (figures-board set (sym said ∙ c .if1 .taken))
-
-first-out-of-range-requires : tie.Need-first-out-of-range-requires
-first-out-of-range-requires c κs = search needs
 
 -- rows 5 and 6 are row 6 where row 5 does not hold
 tasks : (c : tie.After-first-out-of-range) → figuresOutcome (c .before .before .before .before .args .set) ≡ atTask Range (c .first-out-of-range .result)
@@ -47,9 +41,9 @@ pub figures-spec : {M : Type 1} → statement M
 figures-spec =
     tie.close
     (tie.spec
-    breaks-board-requires
+    (λ c κs. search needs)
     returns
-    first-out-of-range-requires
+    (λ c κs. search needs)
     returns-2
     cast-t7
     returns-3)

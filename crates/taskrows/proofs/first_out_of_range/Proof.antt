@@ -29,9 +29,6 @@ mul-task c = omega arith
 element-copy-out-task : tie.Need-element-copy-out-task Inv-loop μ-loop
 element-copy-out-task c = omega arith
 
-breaks-range-requires : tie.Need-breaks-range-requires Inv-loop μ-loop
-breaks-range-requires c κs = search needs
-
 add-result : tie.Need-add-result Inv-loop μ-loop
 add-result c = omega arith
 
@@ -59,7 +56,7 @@ first-out-of-range-spec =
     loop-holds
     mul-task
     element-copy-out-task
-    breaks-range-requires
+    (λ c κs. search needs)
     add-result
     returns
     add-i

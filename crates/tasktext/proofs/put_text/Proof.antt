@@ -20,12 +20,6 @@ full s = sym (length-map (s .args .set .tasks) _) ∙ s .good .1 .0 .1 .1 .1 .1 
 room : (s : tie.Start) → lengthOf Frame.Header + 1 + s .args .set .count * (lengthOf Frame.Task + 1) ≤ length (s .args .out .now)
 room s = omega (arith, s .pre, text-bytes (s .args .set) (omega (arith, full s, s .pre)))
 
-header-values-requires : tie.Need-header-values-requires
-header-values-requires c κs = search needs
-
-slice-aggregate-put-line : tie.Need-slice-aggregate-put-line
-slice-aggregate-put-line c = search needs
-
 put-line-requires : tie.Need-put-line-requires
 unfolding widthsOf
 put-line-requires c κs =
@@ -37,9 +31,6 @@ lines-length-requires c κs = omega arith
 
 task-figures-requires : tie.Need-task-figures-requires
 task-figures-requires c κs = c .before .before .before .before .before .before .before .before .pre .0
-
-slice-aggregate-put-lines : tie.Need-slice-aggregate-put-lines
-slice-aggregate-put-lines c = search needs
 
 -- the 02 lines start behind the 01 line
 start : (c : tie.After-lines-length) → c .lines-length .result ≡ lengthOf Frame.Header + 1
@@ -56,9 +47,6 @@ put-lines-requires c κs =
       omega (arith, room s, start (d .before), written .put-line .kept .0),
     )
 
-same-length : tie.Need-same-length
-same-length c = search needs
-
 returns : tie.Need-returns
 returns c =
     let lines = c .before .before in
@@ -73,12 +61,12 @@ pub put-text-spec : {M : Type 1} → statement M
 put-text-spec =
     tie.close
     (tie.spec
-    header-values-requires
-    slice-aggregate-put-line
+    (λ c κs. search needs)
+    (λ c. search needs)
     put-line-requires
     lines-length-requires
     task-figures-requires
-    slice-aggregate-put-lines
+    (λ c. search needs)
     put-lines-requires
-    same-length
+    (λ c. search needs)
     returns)

@@ -22,23 +22,11 @@ abbrev μ-loop : tie.MeasureT-loop
 loop-holds : tie.Need-loop-holds Inv-loop μ-loop
 loop-holds c = filled-none _ _ _
 
-mul-task : tie.Need-mul-task Inv-loop μ-loop
-mul-task c = search needs
-
 element-copy-out-task : tie.Need-element-copy-out-task Inv-loop μ-loop
 element-copy-out-task c = omega arith
 
-task-values-requires : tie.Need-task-values-requires Inv-loop μ-loop
-task-values-requires c κs = search needs
-
-slice-aggregate-put-figures : tie.Need-slice-aggregate-put-figures Inv-loop μ-loop
-slice-aggregate-put-figures c = search needs
-
 mul-put-figures : tie.Need-mul-put-figures Inv-loop μ-loop
 mul-put-figures c = omega arith
-
-slice-aggregate-put-figures-2 : tie.Need-slice-aggregate-put-figures-2 Inv-loop μ-loop
-slice-aggregate-put-figures-2 c = search needs
 
 put-figures-requires : tie.Need-put-figures-requires Inv-loop μ-loop
 put-figures-requires c κs = rw (c .before .before .task-values .ensures) (omega (arith, c .before .before .before .before .before .loop .inv .same))
@@ -72,12 +60,12 @@ task-figures-spec =
     Inv-loop
     μ-loop
     loop-holds
-    mul-task
+    (λ c. search needs)
     element-copy-out-task
-    task-values-requires
-    slice-aggregate-put-figures
+    (λ c κs. search needs)
+    (λ c. search needs)
     mul-put-figures
-    slice-aggregate-put-figures-2
+    (λ c. search needs)
     put-figures-requires
     add-i
     loop-less

@@ -6,15 +6,6 @@ use borrow.Author.Needs.{needs}
 use Rattle.told.proofs.code.Statement.{statement}
 use Rattle.told.proofs.code.Tie as tie
 
-number-requires : tie.Need-number-requires
-number-requires c κs = search needs
-
-place-requires : tie.Need-place-requires
-place-requires c κs = search needs
-
-cast-at : tie.Need-cast-at
-cast-at c = search needs
-
 -- a number of at most 12 and a place of one byte
 small : (c : tie.After-place) → (c .before .number .result ≤ 12) × (c .place .result < 256)
 small c = (omega (arith, number-row (c .before .before .args .refusal) .1, c .before .number .ensures), omega (arith, c .place .ok))
@@ -25,9 +16,6 @@ mul-result c = omega (arith, small c)
 add-result : tie.Need-add-result
 add-result c = omega (arith, small c)
 
-returns : tie.Need-returns
-returns c = search needs
-
 pub code-spec : {M : Type 1} → statement M
 code-spec =
-    tie.close (tie.spec number-requires place-requires cast-at mul-result add-result returns)
+    tie.close (tie.spec (λ c κs. search needs) (λ c κs. search needs) (λ c. search needs) mul-result add-result (λ c. search needs))

@@ -5,19 +5,10 @@ use Rattle.told.proofs.ToldLaws.{told-room, told-stored}
 use Rattle.told.proofs.put_numbers.Statement.{statement}
 use Rattle.told.proofs.put_numbers.Tie as tie
 
-code-requires : tie.Need-code-requires
-code-requires c κs = search needs
-
 returns : tie.Need-returns
 returns c =
     let a = c .before .before .before .before .args in
     told-room (a .numbers .now) (a .answer .now) (omega arith) (c .code .ensures)
-
-put-figures-requires : tie.Need-put-figures-requires
-put-figures-requires c κs = search needs
-
-same-length : tie.Need-same-length
-same-length c = search needs
 
 returns-2 : tie.Need-returns-2
 returns-2 c =
@@ -26,4 +17,4 @@ returns-2 c =
 
 pub put-numbers-spec : {M : Type 1} → statement M
 put-numbers-spec =
-    tie.close (tie.spec code-requires returns put-figures-requires same-length returns-2)
+    tie.close (tie.spec (λ c κs. search needs) returns (λ c κs. search needs) (λ c. search needs) returns-2)

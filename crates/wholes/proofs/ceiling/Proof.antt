@@ -8,12 +8,6 @@ use Rattle.wholes.proofs.CeilingLaws.{quotient-below}
 use Rattle.wholes.proofs.ceiling.Statement.{statement}
 use Rattle.wholes.proofs.ceiling.Tie as tie
 
-div-q : tie.Need-div-q
-div-q c = search needs
-
-rem-if1 : tie.Need-rem-if1
-rem-if1 c = search needs
-
 add-result : tie.Need-add-result
 add-result c = omega (arith, quotient-below (c .before .args .a) (c .before .args .b) (c .before .pre) (c .if1 .left))
 
@@ -26,4 +20,4 @@ unfolding ceilingOf
 returns-2 c = simp (ne-eqb _ _ (c .if1 .left))
 
 pub ceiling-spec : {M : Type 1} → statement M
-ceiling-spec = tie.close (tie.spec div-q rem-if1 add-result returns returns-2)
+ceiling-spec = tie.close (tie.spec (λ c. search needs) (λ c. search needs) add-result returns returns-2)

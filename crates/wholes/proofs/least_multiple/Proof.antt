@@ -29,15 +29,9 @@ past a b limit g z e h = omega (arith, div-lt-iff-lt-mul {k = b} {x = limit} {y 
 returns : tie.Need-returns
 returns c = answer _ _ 0 (multiple-zero (c .before .args .a) (c .before .args .b) (c .if1 .taken)) (omega arith)
 
-common-measure-requires : tie.Need-common-measure-requires
-common-measure-requires c κs = search needs
-
 div-q : tie.Need-div-q
 div-q c =
     omega (arith, c .common-measure .ensures, measure-pos (c .before .before .args .a) (c .before .before .args .b) (pos-of-ne-zero (c .before .if1 .left)))
-
-div-if2 : tie.Need-div-if2
-div-if2 c = search needs
 
 mul-t9 : tie.Need-mul-t9
 mul-t9 c =
@@ -61,4 +55,4 @@ returns-3 c =
 
 pub least-multiple-spec : {M : Type 1} → statement M
 least-multiple-spec =
-    tie.close (tie.spec returns common-measure-requires div-q div-if2 mul-t9 returns-2 returns-3)
+    tie.close (tie.spec returns (λ c κs. search needs) div-q (λ c. search needs) mul-t9 returns-2 returns-3)

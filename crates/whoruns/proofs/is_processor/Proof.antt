@@ -10,12 +10,9 @@ returns : tie.Need-returns
 unfolding isProcessor
 returns c = rw (lt-leb _ _ (c .if1 .taken))
 
-add-result : tie.Need-add-result
-add-result c = search needs
-
 returns-2 : tie.Need-returns-2
 unfolding isProcessor
 returns-2 c = rw (le-leb _ _ (c .before .if1 .left))
 
 pub is-processor-spec : {M : Type 1} → statement M
-is-processor-spec = tie.close (tie.spec returns add-result returns-2)
+is-processor-spec = tie.close (tie.spec returns (λ c. search needs) returns-2)

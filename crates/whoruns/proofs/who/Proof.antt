@@ -6,14 +6,8 @@ use Rattle.whoruns.proofs.WhoLaws.{who-unmade}
 use Rattle.whoruns.proofs.who.Statement.{statement}
 use Rattle.whoruns.proofs.who.Tie as tie
 
-makes-plan-requires : tie.Need-makes-plan-requires
-makes-plan-requires c κs = search needs
-
 who-made-requires : tie.Need-who-made-requires
 who-made-requires c κs = sym (c .before .makes-plan .ensures) ∙ c .if1 .taken
-
-refused-who-requires : tie.Need-refused-who-requires
-refused-who-requires c κs = search needs
 
 returns : tie.Need-returns
 returns c = c .who-made .ensures
@@ -25,4 +19,4 @@ returns-2 c =
 
 pub who-spec : {M : Type 1} → statement M
 who-spec =
-    tie.close (tie.spec makes-plan-requires who-made-requires refused-who-requires returns returns-2)
+    tie.close (tie.spec (λ c κs. search needs) who-made-requires (λ c κs. search needs) returns returns-2)

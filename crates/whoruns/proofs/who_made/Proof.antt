@@ -26,9 +26,6 @@ is-processor-requires c κs =
     let known = of-set (c .args .set) (full c) (c .args .plan) (c .pre) in
     omega (arith, known .processors, needed-few (c .args .set) (full c) (known .clear))
 
-refused-who-requires : tie.Need-refused-who-requires
-refused-who-requires c κs = search needs
-
 returns : tie.Need-returns
 returns c =
     let s = c .before .before .before in
@@ -49,4 +46,4 @@ returns-2 c =
 pub who-made-spec : {M : Type 1} → statement M
 who-made-spec =
     tie.close
-    (tie.spec is-processor-requires refused-who-requires returns who-stands-requires returns-2)
+    (tie.spec is-processor-requires (λ c κs. search needs) returns who-stands-requires returns-2)

@@ -6,12 +6,6 @@ use Rattle.whoruns.proofs.StandingLaws.{row-stands, row-who}
 use Rattle.whoruns.proofs.who_stands.Statement.{statement}
 use Rattle.whoruns.proofs.who_stands.Tie as tie
 
-reserves-requires : tie.Need-reserves-requires
-reserves-requires c κs = search needs
-
-slice-aggregate-who : tie.Need-slice-aggregate-who
-slice-aggregate-who c = search needs
-
 who-requires : tie.Need-who-requires
 who-requires c κs = let s = c .before .before in row-stands (s .args .plan) (c .before .reserves .ensures) (s .pre)
 
@@ -21,4 +15,4 @@ returns c =
     c .who .ensures ∙ row-who (s .args .plan) (c .before .before .reserves .ensures) (s .args .processor) (s .args .tick)
 
 pub who-stands-spec : {M : Type 1} → statement M
-who-stands-spec = tie.close (tie.spec reserves-requires slice-aggregate-who who-requires returns)
+who-stands-spec = tie.close (tie.spec (λ c κs. search needs) (λ c. search needs) who-requires returns)

@@ -5,12 +5,9 @@ use Rattle.demand.specs.Charging.{effectiveDeadline}
 use Rattle.demand.proofs.charging.charged_deadline.Statement.{statement}
 use Rattle.demand.proofs.charging.charged_deadline.Tie as tie
 
-sub-result : tie.Need-sub-result
-sub-result c = search needs
-
 returns : tie.Need-returns
 unfolding effectiveDeadline
 returns c = search needs
 
 pub charged-deadline-spec : {M : Type 1} → statement M
-charged-deadline-spec = tie.close (tie.spec sub-result returns)
+charged-deadline-spec = tie.close (tie.spec (λ c. search needs) returns)

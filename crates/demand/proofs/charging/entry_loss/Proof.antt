@@ -5,12 +5,9 @@ use Rattle.demand.specs.Charging.{entryLoss}
 use Rattle.demand.proofs.charging.entry_loss.Statement.{statement}
 use Rattle.demand.proofs.charging.entry_loss.Tie as tie
 
-add-result : tie.Need-add-result
-add-result c = search needs
-
 returns : tie.Need-returns
 unfolding entryLoss
 returns c = search needs
 
 pub entry-loss-spec : {M : Type 1} → statement M
-entry-loss-spec = tie.close (tie.spec add-result returns)
+entry-loss-spec = tie.close (tie.spec (λ c. search needs) returns)

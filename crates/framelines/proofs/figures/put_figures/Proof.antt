@@ -20,14 +20,8 @@ loop-holds c = copied-none _ _ _
 add-j : tie.Need-add-j Inv-loop μ-loop
 add-j c = omega arith
 
-mul-numbers : tie.Need-mul-numbers Inv-loop μ-loop
-mul-numbers c = search needs
-
 shared-slice-read-numbers : tie.Need-shared-slice-read-numbers Inv-loop μ-loop
 shared-slice-read-numbers c = omega arith
-
-mul-numbers-2 : tie.Need-mul-numbers-2 Inv-loop μ-loop
-mul-numbers-2 c = search needs
 
 slice-write-numbers : tie.Need-slice-write-numbers Inv-loop μ-loop
 slice-write-numbers c = omega arith
@@ -55,9 +49,9 @@ put-figures-spec =
     μ-loop
     loop-holds
     add-j
-    mul-numbers
+    (λ c. search needs)
     shared-slice-read-numbers
-    mul-numbers-2
+    (λ c. search needs)
     slice-write-numbers
     add-i
     loop-less

@@ -8,9 +8,6 @@ use Rattle.frames.proofs.Tables.{index-within, row-at}
 use Rattle.frames.proofs.table.row_of.Statement.{statement}
 use Rattle.frames.proofs.table.row_of.Tie as tie
 
-index-requires : tie.Need-index-requires
-index-requires c κs = search needs
-
 mul-result : tie.Need-mul-result
 mul-result c = omega (arith, index-within (c .before .args .frame))
 
@@ -22,4 +19,4 @@ unfolding kindOf widthsOf sum front rowOf
 returns c = rw (c .before .index .ensures) (row-at _ _ refl (c .before .before .args .frame))
 
 pub row-of-spec : {M : Type 1} → statement M
-row-of-spec = tie.close (tie.spec index-requires mul-result array-copy-out-result returns)
+row-of-spec = tie.close (tie.spec (λ c κs. search needs) mul-result array-copy-out-result returns)

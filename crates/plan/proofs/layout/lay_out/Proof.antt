@@ -13,43 +13,16 @@ use Rattle.plan.proofs.layout.lay_out.Tie as tie
 full : (c : tie.Start) → length (c .args .served .placement) ≡ mostTasks
 full c = sym (length-map (c .args .served .placement) _) ∙ c .good .0 .1 .1 .1 .0 .1 .0 .1
 
-slice-aggregate-whole-count : tie.Need-slice-aggregate-whole-count
-slice-aggregate-whole-count c = search needs
-
-whole-count-requires : tie.Need-whole-count-requires
-whole-count-requires c κs = search needs
-
-slice-aggregate-ring-processors : tie.Need-slice-aggregate-ring-processors
-slice-aggregate-ring-processors c = search needs
-
-ring-processors-requires : tie.Need-ring-processors-requires
-ring-processors-requires c κs = search needs
-
 mul-idle : tie.Need-mul-idle
 mul-idle c = omega (arith, ring-fits (c .before .before .before .before .before .before .pre .laid) (c .ring-processors .ensures))
 
-slice-aggregate-ring-ticks : tie.Need-slice-aggregate-ring-ticks
-slice-aggregate-ring-ticks c = search needs
-
-ring-ticks-requires : tie.Need-ring-ticks-requires
-ring-ticks-requires c κs = search needs
-
 sub-idle : tie.Need-sub-idle
 sub-idle c = ring-covers (c .before .before .before .before .before .before .before .before .pre .laid) (c .before .before .ring-processors .ensures) (c .ring-ticks .ensures)
-
-slice-aggregate-records : tie.Need-slice-aggregate-records
-slice-aggregate-records c = search needs
-
-slice-aggregate-records-2 : tie.Need-slice-aggregate-records-2
-slice-aggregate-records-2 c = search needs
 
 records-requires : tie.Need-records-requires
 records-requires c κs =
     let s = c .before .before .before .before .before .before .before .before .before .before in
     ((omega (arith, full s, s .pre .tasks-few), s .pre .tasks-few), (s .pre .laid, s .pre .servers-few))
-
-slice-aggregate-first-reserves : tie.Need-slice-aggregate-first-reserves
-slice-aggregate-first-reserves c = search needs
 
 add-first-reserves : tie.Need-add-first-reserves
 add-first-reserves c = omega (arith, sum-few (c .before .before .before .before .before .before .before .before .before .before .before .before .pre .laid) (c .before .before .before .before .before .before .ring-processors .ensures) (c .before .before .before .before .before .before .before .before .whole-count .ensures), c .before .before .before .before .before .before .before .before .before .before .before .before .pre .servers-few)
@@ -74,18 +47,18 @@ pub lay-out-spec : {M : Type 1} → statement M
 lay-out-spec =
     tie.close
     (tie.spec
-    slice-aggregate-whole-count
-    whole-count-requires
-    slice-aggregate-ring-processors
-    ring-processors-requires
+    (λ c. search needs)
+    (λ c κs. search needs)
+    (λ c. search needs)
+    (λ c κs. search needs)
     mul-idle
-    slice-aggregate-ring-ticks
-    ring-ticks-requires
+    (λ c. search needs)
+    (λ c κs. search needs)
     sub-idle
-    slice-aggregate-records
-    slice-aggregate-records-2
+    (λ c. search needs)
+    (λ c. search needs)
     records-requires
-    slice-aggregate-first-reserves
+    (λ c. search needs)
     add-first-reserves
     first-reserves-requires
     returns)

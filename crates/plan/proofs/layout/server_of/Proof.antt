@@ -8,24 +8,6 @@ use Rattle.plan.proofs.RecordLaws.{server-made}
 use Rattle.plan.proofs.layout.server_of.Statement.{statement}
 use Rattle.plan.proofs.layout.server_of.Tie as tie
 
-slice-aggregate-places-of : tie.Need-slice-aggregate-places-of
-slice-aggregate-places-of c = search needs
-
-places-of-requires : tie.Need-places-of-requires
-places-of-requires c κs = search needs
-
-sub-before : tie.Need-sub-before
-sub-before c = search needs
-
-mul-reserve : tie.Need-mul-reserve
-mul-reserve c = search needs
-
-shared-slice-read-reserve : tie.Need-shared-slice-read-reserve
-shared-slice-read-reserve c = search needs
-
-start-of-requires : tie.Need-start-of-requires
-start-of-requires c κs = search needs
-
 returns : tie.Need-returns
 returns c =
     let s = c .before .before .before .before .before .before .before in
@@ -37,10 +19,10 @@ pub server-of-spec : {M : Type 1} → statement M
 server-of-spec =
     tie.close
     (tie.spec
-    slice-aggregate-places-of
-    places-of-requires
-    sub-before
-    mul-reserve
-    shared-slice-read-reserve
-    start-of-requires
+    (λ c. search needs)
+    (λ c κs. search needs)
+    (λ c. search needs)
+    (λ c. search needs)
+    (λ c. search needs)
+    (λ c κs. search needs)
     returns)

@@ -6,18 +6,6 @@ use Rattle.plan.proofs.RingStarts.{start-ring, start-whole}
 use Rattle.plan.proofs.layout.start_of.Statement.{statement}
 use Rattle.plan.proofs.layout.start_of.Tie as tie
 
-sub-before : tie.Need-sub-before
-sub-before c = search needs
-
-mul-if1 : tie.Need-mul-if1
-mul-if1 c = search needs
-
-shared-slice-read-if1 : tie.Need-shared-slice-read-if1
-shared-slice-read-if1 c = search needs
-
-start-requires : tie.Need-start-requires
-start-requires c κs = search needs
-
 returns : tie.Need-returns
 returns c =
     let s = c .before .before .before .before in
@@ -30,4 +18,4 @@ returns-2 c =
 
 pub start-of-spec : {M : Type 1} → statement M
 start-of-spec =
-    tie.close (tie.spec sub-before mul-if1 shared-slice-read-if1 start-requires returns returns-2)
+    tie.close (tie.spec (λ c. search needs) (λ c. search needs) (λ c. search needs) (λ c κs. search needs) returns returns-2)

@@ -8,21 +8,6 @@ use borrow.Author.Needs.{needs}
 use Rattle.planfile.proofs.file.filed.Statement.{statement}
 use Rattle.planfile.proofs.file.filed.Tie as tie
 
-read-requires : tie.Need-read-requires
-read-requires c κs = search needs
-
-enum-told : tie.Need-enum-told
-enum-told c = search needs
-
-planned-requires : tie.Need-planned-requires
-planned-requires c κs = search needs
-
-enum-known-outcome : tie.Need-enum-known-outcome
-enum-known-outcome c = search needs
-
-refused-requires : tie.Need-refused-requires
-refused-requires c κs = search needs
-
 returns : tie.Need-returns
 unfolding filedOf
 returns c =
@@ -41,10 +26,10 @@ pub filed-spec : {M : Type 1} → statement M
 filed-spec =
     tie.close
     (tie.spec
-    read-requires
-    enum-told
-    planned-requires
-    enum-known-outcome
-    refused-requires
+    (λ c κs. search needs)
+    (λ c. search needs)
+    (λ c κs. search needs)
+    (λ c. search needs)
+    (λ c κs. search needs)
     returns
     returns-2)

@@ -9,18 +9,6 @@ use borrow.Author.Needs.{needs}
 use Rattle.planfile.proofs.file.planned.Statement.{statement}
 use Rattle.planfile.proofs.file.planned.Tie as tie
 
-make-requires : tie.Need-make-requires
-make-requires c κs = search needs
-
-enum-told : tie.Need-enum-told
-enum-told c = search needs
-
-enum-known-outcome : tie.Need-enum-known-outcome
-enum-known-outcome c = search needs
-
-refused-requires : tie.Need-refused-requires
-refused-requires c κs = search needs
-
 returns : tie.Need-returns
 unfolding plannedSet
 returns c =
@@ -39,4 +27,4 @@ returns-2 c =
 pub planned-spec : {M : Type 1} → statement M
 planned-spec =
     tie.close
-    (tie.spec make-requires enum-told enum-known-outcome refused-requires returns returns-2)
+    (tie.spec (λ c κs. search needs) (λ c. search needs) (λ c. search needs) (λ c κs. search needs) returns returns-2)

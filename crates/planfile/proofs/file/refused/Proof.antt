@@ -8,14 +8,8 @@ use borrow.Author.Needs.{needs}
 use Rattle.planfile.proofs.file.refused.Statement.{statement}
 use Rattle.planfile.proofs.file.refused.Tie as tie
 
-zero-requires : tie.Need-zero-requires
-zero-requires c κs = search needs
-
-zero-requires-2 : tie.Need-zero-requires-2
-zero-requires-2 c κs = search needs
-
 returns : tie.Need-returns
 returns c = rw (c .before .zero .ensures, c .zero2 .ensures)
 
 pub refused-spec : {M : Type 1} → statement M
-refused-spec = tie.close (tie.spec zero-requires zero-requires-2 returns)
+refused-spec = tie.close (tie.spec (λ c κs. search needs) (λ c κs. search needs) returns)

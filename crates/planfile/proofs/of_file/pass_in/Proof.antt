@@ -9,21 +9,9 @@ use borrow.Author.Needs.{needs}
 use Rattle.planfile.proofs.of_file.pass_in.Statement.{statement}
 use Rattle.planfile.proofs.of_file.pass_in.Tie as tie
 
-filed-requires : tie.Need-filed-requires
-filed-requires c κs = search needs
-
-enum-told : tie.Need-enum-told
-enum-told c = search needs
-
 pass-made-requires : tie.Need-pass-made-requires
 pass-made-requires c κs =
     filed-makes (c .before .before .before .before .before .before .args .text .now) (c .before .before .before .before .filed .ensures) (c .enum-told .given .1)
-
-enum-known-outcome : tie.Need-enum-known-outcome
-enum-known-outcome c = search needs
-
-refused-pass-requires : tie.Need-refused-pass-requires
-refused-pass-requires c κs = search needs
 
 returns : tie.Need-returns
 unfolding passIn
@@ -45,10 +33,10 @@ pub pass-in-spec : {M : Type 1} → statement M
 pass-in-spec =
     tie.close
     (tie.spec
-    filed-requires
-    enum-told
+    (λ c κs. search needs)
+    (λ c. search needs)
     pass-made-requires
-    enum-known-outcome
-    refused-pass-requires
+    (λ c. search needs)
+    (λ c κs. search needs)
     returns
     returns-2)

@@ -10,24 +10,9 @@ use borrow.Author.Needs.{needs}
 use Rattle.planfile.proofs.tool.answer.Statement.{statement}
 use Rattle.planfile.proofs.tool.answer.Tie as tie
 
-filed-requires : tie.Need-filed-requires
-filed-requires c κs = search needs
-
-enum-told : tie.Need-enum-told
-enum-told c = search needs
-
 fit-plan-requires : tie.Need-fit-plan-requires
 fit-plan-requires c κs =
     makes-counted _ _ (filed-makes (c .before .before .before .before .before .before .before .before .args .text .now) (c .before .before .before .before .before .filed .ensures) (c .before .enum-told .given .1))
-
-enum-known-outcome : tie.Need-enum-known-outcome
-enum-known-outcome c = search needs
-
-fit-refusal-requires : tie.Need-fit-refusal-requires
-fit-refusal-requires c κs = search needs
-
-same-length : tie.Need-same-length
-same-length c = search needs
 
 returns : tie.Need-returns
 unfolding answered
@@ -35,9 +20,6 @@ returns c =
     fits-as
     (when-done refusalText (λ (f : FileAnswer). f .outcome) (λ (f : FileAnswer). planText (f .set) (f .plan)) (c .before .before .before .before .before .before .before .before .filed .ensures) (c .before .before .before .before .enum-told .given .1))
     (c .before .before .fit-plan .ensures)
-
-same-length-2 : tie.Need-same-length-2
-same-length-2 c = search needs
 
 returns-2 : tie.Need-returns-2
 unfolding answered
@@ -50,12 +32,12 @@ pub answer-spec : {M : Type 1} → statement M
 answer-spec =
     tie.close
     (tie.spec
-    filed-requires
-    enum-told
+    (λ c κs. search needs)
+    (λ c. search needs)
     fit-plan-requires
-    enum-known-outcome
-    fit-refusal-requires
-    same-length
+    (λ c. search needs)
+    (λ c κs. search needs)
+    (λ c. search needs)
     returns
-    same-length-2
+    (λ c. search needs)
     returns-2)

@@ -8,9 +8,6 @@ use borrow.Author.Needs.{needs}
 use Rattle.planfile.proofs.write.write_plan.Statement.{statement}
 use Rattle.planfile.proofs.write.write_plan.Tie as tie
 
-makes-plan-requires : tie.Need-makes-plan-requires
-makes-plan-requires c κs = search needs
-
 returns : tie.Need-returns
 returns c =
     let a = c .before .before .before .args in
@@ -21,9 +18,6 @@ fit-plan-requires c κs =
     let s = c .before .before .before .before in
     makes-counted (s .args .set) (s .args .plan) (sym (c .before .before .makes-plan .ensures) ∙ not-false _ (c .before .if1 .left))
 
-same-length : tie.Need-same-length
-same-length c = search needs
-
 returns-2 : tie.Need-returns-2
 returns-2 c =
     let a = c .before .before .before .before .before .before .before .args in
@@ -31,4 +25,4 @@ returns-2 c =
 
 pub write-plan-spec : {M : Type 1} → statement M
 write-plan-spec =
-    tie.close (tie.spec makes-plan-requires returns fit-plan-requires same-length returns-2)
+    tie.close (tie.spec (λ c κs. search needs) returns fit-plan-requires (λ c. search needs) returns-2)

@@ -7,19 +7,10 @@ use borrow.Author.Needs.{needs}
 use Rattle.plantext.proofs.fit.fit_plan.Statement.{statement}
 use Rattle.plantext.proofs.fit.fit_plan.Tie as tie
 
-text-length-requires : tie.Need-text-length-requires
-text-length-requires c κs = search needs
-
 returns : tie.Need-returns
 returns c =
     let a = c .before .before .before .args in
     no-room (a .out .now) (planText (a .set) (a .plan)) (omega (arith, c .if1 .taken, c .before .text-length .ensures))
-
-put-text-requires : tie.Need-put-text-requires
-put-text-requires c κs = search needs
-
-same-length : tie.Need-same-length
-same-length c = search needs
 
 returns-2 : tie.Need-returns-2
 returns-2 c =
@@ -28,4 +19,4 @@ returns-2 c =
 
 pub fit-plan-spec : {M : Type 1} → statement M
 fit-plan-spec =
-    tie.close (tie.spec text-length-requires returns put-text-requires same-length returns-2)
+    tie.close (tie.spec (λ c κs. search needs) returns (λ c κs. search needs) (λ c. search needs) returns-2)

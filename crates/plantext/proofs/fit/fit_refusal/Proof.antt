@@ -8,9 +8,6 @@ use borrow.Author.Needs.{needs}
 use Rattle.plantext.proofs.fit.fit_refusal.Statement.{statement}
 use Rattle.plantext.proofs.fit.fit_refusal.Tie as tie
 
-length-requires : tie.Need-length-requires
-length-requires c κs = search needs
-
 add-size : tie.Need-add-size
 add-size c = omega (arith, c .length .ensures, refused-size)
 
@@ -22,9 +19,6 @@ returns c =
 put-refusal-requires : tie.Need-put-refusal-requires
 put-refusal-requires c κs = omega (arith, c .before .if1 .left, c .before .before .length .ensures, refused-size, refusal-bytes (c .before .before .before .before .args .refusal))
 
-same-length : tie.Need-same-length
-same-length c = search needs
-
 returns-2 : tie.Need-returns-2
 returns-2 c =
     let a = c .before .before .before .before .before .before .before .args in
@@ -34,4 +28,4 @@ returns-2 c =
 pub fit-refusal-spec : {M : Type 1} → statement M
 fit-refusal-spec =
     tie.close
-    (tie.spec length-requires add-size returns put-refusal-requires same-length returns-2)
+    (tie.spec (λ c κs. search needs) add-size returns put-refusal-requires (λ c. search needs) returns-2)

@@ -9,24 +9,9 @@ use borrow.Author.Needs.{needs}
 use Rattle.plantext.proofs.line.put_refusal.Statement.{statement}
 use Rattle.plantext.proofs.line.put_refusal.Tie as tie
 
-number-requires : tie.Need-number-requires
-number-requires c κs = search needs
-
-place-requires : tie.Need-place-requires
-place-requires c κs = search needs
-
-cast-place : tie.Need-cast-place
-cast-place c = search needs
-
-slice-aggregate-put-line : tie.Need-slice-aggregate-put-line
-slice-aggregate-put-line c = search needs
-
 put-line-requires : tie.Need-put-line-requires
 unfolding widthsOf
 put-line-requires c κs = (omega arith, omega (arith, refused-size, refusal-bytes (c .before .before .before .before .before .args .refusal), c .before .before .before .before .before .pre))
-
-same-length : tie.Need-same-length
-same-length c = search needs
 
 returns : tie.Need-returns
 returns c =
@@ -36,4 +21,4 @@ returns c =
 pub put-refusal-spec : {M : Type 1} → statement M
 put-refusal-spec =
     tie.close
-    (tie.spec number-requires place-requires cast-place slice-aggregate-put-line put-line-requires same-length returns)
+    (tie.spec (λ c κs. search needs) (λ c κs. search needs) (λ c. search needs) (λ c. search needs) put-line-requires (λ c. search needs) returns)

@@ -18,21 +18,12 @@ use borrow.Author.Needs.{needs}
 use Rattle.plantext.proofs.text.put_processors.Statement.{statement}
 use Rattle.plantext.proofs.text.put_processors.Tie as tie
 
-processor-values-requires : tie.Need-processor-values-requires
-processor-values-requires c κs = search needs
-
-slice-aggregate-put-lines : tie.Need-slice-aggregate-put-lines
-slice-aggregate-put-lines c = search needs
-
 put-lines-requires : tie.Need-put-lines-requires
 unfolding widthsOf
 put-lines-requires c κs =
     let s = c .before .before .before .before in
     let a = s .args in
     (omega (arith, s .pre .0, ap length (c .before .before .processor-values .ensures), filled-length (processorFigures (a .plan .first)) 3 (processor-each (a .plan .first)) (3 * mostProcessors) (a .n) (omega (arith, s .pre .0))), s .pre .1)
-
-same-length : tie.Need-same-length
-same-length c = search needs
 
 returns : tie.Need-returns
 unfolding widthsOf processorLine
@@ -45,8 +36,8 @@ pub put-processors-spec : {M : Type 1} → statement M
 put-processors-spec =
     tie.close
     (tie.spec
-    processor-values-requires
-    slice-aggregate-put-lines
+    (λ c κs. search needs)
+    (λ c. search needs)
     put-lines-requires
-    same-length
+    (λ c. search needs)
     returns)

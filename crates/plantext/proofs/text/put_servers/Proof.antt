@@ -18,21 +18,12 @@ use borrow.Author.Needs.{needs}
 use Rattle.plantext.proofs.text.put_servers.Statement.{statement}
 use Rattle.plantext.proofs.text.put_servers.Tie as tie
 
-server-values-requires : tie.Need-server-values-requires
-server-values-requires c κs = search needs
-
-slice-aggregate-put-lines : tie.Need-slice-aggregate-put-lines
-slice-aggregate-put-lines c = search needs
-
 put-lines-requires : tie.Need-put-lines-requires
 unfolding widthsOf
 put-lines-requires c κs =
     let s = c .before .before .before .before in
     let a = s .args in
     (omega (arith, s .pre .0, ap length (c .before .before .server-values .ensures), filled-length (serverFigures (a .plan .server) (a .plan .slot)) 4 (server-each (a .plan .server) (a .plan .slot)) (4 * mostTasks) (a .plan .servers) (omega (arith, s .pre .0))), s .pre .1)
-
-same-length : tie.Need-same-length
-same-length c = search needs
 
 returns : tie.Need-returns
 unfolding widthsOf serverLine
@@ -45,8 +36,8 @@ pub put-servers-spec : {M : Type 1} → statement M
 put-servers-spec =
     tie.close
     (tie.spec
-    server-values-requires
-    slice-aggregate-put-lines
+    (λ c κs. search needs)
+    (λ c. search needs)
     put-lines-requires
-    same-length
+    (λ c. search needs)
     returns)

@@ -22,16 +22,10 @@ use Rattle.plantext.proofs.text.put_tasks.Tie as tie
 placement-row : (s : tie.Start) → length (s .args .plan .placement) ≡ 64
 placement-row s = sym (length-map (s .args .plan .placement) _) ∙ s .good .1 .1 .1 .0 .1 .1 .1 .1 .1 .1 .1 .1 .0 .1 .0 .1
 
-slice-aggregate-placed-values : tie.Need-slice-aggregate-placed-values
-slice-aggregate-placed-values c = search needs
-
 placed-values-requires : tie.Need-placed-values-requires
 placed-values-requires c κs =
     let s = c .before .before .before in
     (s .pre .0, omega (arith, s .pre .0, placement-row s))
-
-slice-aggregate-put-lines : tie.Need-slice-aggregate-put-lines
-slice-aggregate-put-lines c = search needs
 
 put-lines-requires : tie.Need-put-lines-requires
 unfolding widthsOf
@@ -39,9 +33,6 @@ put-lines-requires c κs =
     let s = c .before .before .before .before .before .before in
     let a = s .args in
     (omega (arith, s .pre .0, ap length (c .before .before .placed-values .ensures), filled-length (placedFigures (a .set .tasks) (a .plan .placement)) 2 (placed-each (a .set .tasks) (a .plan .placement)) (2 * mostTasks) (a .set .count) (omega (arith, s .pre .0))), s .pre .1)
-
-same-length : tie.Need-same-length
-same-length c = search needs
 
 returns : tie.Need-returns
 unfolding widthsOf placedLine
@@ -54,9 +45,9 @@ pub put-tasks-spec : {M : Type 1} → statement M
 put-tasks-spec =
     tie.close
     (tie.spec
-    slice-aggregate-placed-values
+    (λ c. search needs)
     placed-values-requires
-    slice-aggregate-put-lines
+    (λ c. search needs)
     put-lines-requires
-    same-length
+    (λ c. search needs)
     returns)

@@ -12,9 +12,6 @@ use borrow.Author.Needs.{needs}
 use Rattle.plantext.proofs.text.put_text.Statement.{statement}
 use Rattle.plantext.proofs.text.put_text.Tie as tie
 
-add-count : tie.Need-add-count
-add-count c = search needs
-
 -- the buffer has the room of all lines
 room : (s : tie.Start) → let a = s .args in 23 + a .plan .servers * 21 + a .set .count * 7 + (a .plan .ring + a .plan .whole) * 13 ≤ length (a .out .now)
 room s = omega (arith, s .pre .1, text-bytes (s .args .set) (s .args .plan))
@@ -32,18 +29,12 @@ tasks q e = e ∙ ap (λ (k : ℕ). q * k) placed-size
 put-plan-requires : tie.Need-put-plan-requires
 put-plan-requires c κs = omega (arith, room (c .before .before .before), plan-bytes (c .before .before .before .args .plan))
 
-lines-length-requires : tie.Need-lines-length-requires
-lines-length-requires c κs = search needs
-
 put-servers-requires : tie.Need-put-servers-requires
 put-servers-requires c κs =
     let s = c .before .before .before .before .before .before .before .before in
     let kept = c .before .before .before .before .put-plan .kept .0 in
     let a = s .args in
     (s .pre .0 .servers, omega (arith, room s, first (c .before .lines-length .ensures), ap (λ (k : ℕ). a .plan .servers * k) server-size, kept))
-
-lines-length-requires-2 : tie.Need-lines-length-requires-2
-lines-length-requires-2 c κs = search needs
 
 add-tasks : tie.Need-add-tasks
 add-tasks c =
@@ -57,9 +48,6 @@ put-tasks-requires c κs =
     let kept = c .before .before .before .before .put-servers .kept .0 ∙ c .before .before .before .before .before .before .before .before .before .put-plan .kept .0 in
     (s .pre .0 .tasks, omega (arith, room s, first (c .before .before .before .before .before .before .lines-length .ensures), servers (s .args .plan .servers) (c .before .lines-length2 .ensures), ap (λ (k : ℕ). a .set .count * k) placed-size, kept))
 
-lines-length-requires-3 : tie.Need-lines-length-requires-3
-lines-length-requires-3 c κs = search needs
-
 add-processors : tie.Need-add-processors
 add-processors c =
     let s = c .before .before .before .before .before .before .before .before .before .before .before .before .before .before .before .before .before in
@@ -71,9 +59,6 @@ put-processors-requires c κs =
     let a = s .args in
     let kept = c .before .before .before .before .put-tasks .kept .0 ∙ c .before .before .before .before .before .before .before .before .before .put-servers .kept .0 ∙ c .before .before .before .before .before .before .before .before .before .before .before .before .before .before .put-plan .kept .0 in
     (s .pre .0 .processors, omega (arith, room s, first (c .before .before .before .before .before .before .before .before .before .before .before .lines-length .ensures), servers (s .args .plan .servers) (c .before .before .before .before .before .before .lines-length2 .ensures), tasks (s .args .set .count) (c .before .lines-length3 .ensures), ap (λ (k : ℕ). (a .plan .ring + a .plan .whole) * k) processor-size, kept))
-
-same-length : tie.Need-same-length
-same-length c = search needs
 
 returns : tie.Need-returns
 returns c =
@@ -90,15 +75,15 @@ pub put-text-spec : {M : Type 1} → statement M
 put-text-spec =
     tie.close
     (tie.spec
-    add-count
+    (λ c. search needs)
     put-plan-requires
-    lines-length-requires
+    (λ c κs. search needs)
     put-servers-requires
-    lines-length-requires-2
+    (λ c κs. search needs)
     add-tasks
     put-tasks-requires
-    lines-length-requires-3
+    (λ c κs. search needs)
     add-processors
     put-processors-requires
-    same-length
+    (λ c. search needs)
     returns)

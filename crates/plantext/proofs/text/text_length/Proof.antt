@@ -10,21 +10,6 @@ use borrow.Author.Needs.{needs}
 use Rattle.plantext.proofs.text.text_length.Statement.{statement}
 use Rattle.plantext.proofs.text.text_length.Tie as tie
 
-lines-length-requires : tie.Need-lines-length-requires
-lines-length-requires c κs = search needs
-
-lines-length-requires-2 : tie.Need-lines-length-requires-2
-lines-length-requires-2 c κs = search needs
-
-lines-length-requires-3 : tie.Need-lines-length-requires-3
-lines-length-requires-3 c κs = search needs
-
-add-lines-length : tie.Need-add-lines-length
-add-lines-length c = search needs
-
-lines-length-requires-4 : tie.Need-lines-length-requires-4
-lines-length-requires-4 c κs = search needs
-
 -- the four parts, in bytes
 parts : (c : tie.After-lines-length4) → let a = c .before .before .before .before .before .args in
     (c .before .before .before .before .lines-length .result ≡ 23) × (c .before .before .before .lines-length2 .result ≡ a .plan .servers * 21) × (c .before .before .lines-length3 .result ≡ a .set .count * 7) × (c .lines-length4 .result ≡ (a .plan .ring + a .plan .whole) * 13)
@@ -55,11 +40,11 @@ pub text-length-spec : {M : Type 1} → statement M
 text-length-spec =
     tie.close
     (tie.spec
-    lines-length-requires
-    lines-length-requires-2
-    lines-length-requires-3
-    add-lines-length
-    lines-length-requires-4
+    (λ c κs. search needs)
+    (λ c κs. search needs)
+    (λ c κs. search needs)
+    (λ c. search needs)
+    (λ c κs. search needs)
     add-result
     add-result-2
     add-result-3

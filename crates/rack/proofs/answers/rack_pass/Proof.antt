@@ -12,30 +12,6 @@ use borrow.Author.Needs.{needs}
 use Rattle.rack.proofs.answers.rack_pass.Statement.{statement}
 use Rattle.rack.proofs.answers.rack_pass.Tie as tie
 
-pass-in-requires : tie.Need-pass-in-requires
-pass-in-requires c κs = search needs
-
-numbers-of-requires : tie.Need-numbers-of-requires
-numbers-of-requires c κs = search needs
-
-enum-told : tie.Need-enum-told
-enum-told c = search needs
-
-slice-aggregate-put-numbers : tie.Need-slice-aggregate-put-numbers
-slice-aggregate-put-numbers c = search needs
-
-put-numbers-requires : tie.Need-put-numbers-requires
-put-numbers-requires c κs = search needs
-
-enum-known-outcome : tie.Need-enum-known-outcome
-enum-known-outcome c = search needs
-
-code-requires : tie.Need-code-requires
-code-requires c κs = search needs
-
-same-length : tie.Need-same-length
-same-length c = search needs
-
 -- the numbers of the question's verdict, told with an outcome
 told : (answer tasks : List ℕ) (q R : ℕ) {p : PassAnswer} {o : Outcome} {numbers : List ℕ} {status : ℕ} {left : List ℕ} → p ≡ passIn tasks q R → p .outcome ≡ o
     → numbers ≡ verdictNumbers (p .verdict) → Told o numbers answer status left
@@ -60,13 +36,13 @@ pub rack-pass-spec : {M : Type 1} → statement M
 rack-pass-spec =
     tie.close
     (tie.spec
-    pass-in-requires
-    numbers-of-requires
-    enum-told
-    slice-aggregate-put-numbers
-    put-numbers-requires
-    enum-known-outcome
-    code-requires
-    same-length
+    (λ c κs. search needs)
+    (λ c κs. search needs)
+    (λ c. search needs)
+    (λ c. search needs)
+    (λ c κs. search needs)
+    (λ c. search needs)
+    (λ c κs. search needs)
+    (λ c. search needs)
     returns
     returns-2)

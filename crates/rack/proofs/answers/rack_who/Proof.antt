@@ -12,27 +12,6 @@ use borrow.Author.Needs.{needs}
 use Rattle.rack.proofs.answers.rack_who.Statement.{statement}
 use Rattle.rack.proofs.answers.rack_who.Tie as tie
 
-who-in-requires : tie.Need-who-in-requires
-who-in-requires c κs = search needs
-
-enum-told : tie.Need-enum-told
-enum-told c = search needs
-
-slice-aggregate-put-numbers : tie.Need-slice-aggregate-put-numbers
-slice-aggregate-put-numbers c = search needs
-
-put-numbers-requires : tie.Need-put-numbers-requires
-put-numbers-requires c κs = search needs
-
-enum-known-outcome : tie.Need-enum-known-outcome
-enum-known-outcome c = search needs
-
-code-requires : tie.Need-code-requires
-code-requires c κs = search needs
-
-same-length : tie.Need-same-length
-same-length c = search needs
-
 -- the numbers of the question's answer, told with an outcome
 told : (answer tasks : List ℕ) (p x : ℕ) {w : WhoAnswer} {o : Outcome} {status : ℕ} {left : List ℕ} → w ≡ whoIn tasks p (record { 0 = x }) → w .outcome ≡ o
     → Told o (w .server ∷ w .left ∷ []) answer status left
@@ -54,12 +33,12 @@ pub rack-who-spec : {M : Type 1} → statement M
 rack-who-spec =
     tie.close
     (tie.spec
-    who-in-requires
-    enum-told
-    slice-aggregate-put-numbers
-    put-numbers-requires
-    enum-known-outcome
-    code-requires
-    same-length
+    (λ c κs. search needs)
+    (λ c. search needs)
+    (λ c. search needs)
+    (λ c κs. search needs)
+    (λ c. search needs)
+    (λ c κs. search needs)
+    (λ c. search needs)
     returns
     returns-2)

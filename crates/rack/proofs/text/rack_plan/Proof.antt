@@ -5,25 +5,10 @@ use borrow.Author.Needs.{needs}
 use Rattle.rack.proofs.text.rack_plan.Statement.{statement}
 use Rattle.rack.proofs.text.rack_plan.Tie as tie
 
-answer-requires : tie.Need-answer-requires
-answer-requires c κs = search needs
-
-enum-known-length : tie.Need-enum-known-length
-enum-known-length c = search needs
-
-enum-told : tie.Need-enum-told
-enum-told c = search needs
-
-same-length : tie.Need-same-length
-same-length c = search needs
-
 returns : tie.Need-returns
 returns c =
     let a = c .before .before .before .before .before .before .before .before .args in
     plan-told (a .tasks .now) (a .out .now) _ (c .before .before .before .before .answer .result) (Refused (c .enum-told .given .0 .0)) (c .enum-told .given .1) (c .before .before .before .before .answer .ensures)
-
-same-length-2 : tie.Need-same-length-2
-same-length-2 c = search needs
 
 returns-2 : tie.Need-returns-2
 returns-2 c =
@@ -33,4 +18,4 @@ returns-2 c =
 pub rack-plan-spec : {M : Type 1} → statement M
 rack-plan-spec =
     tie.close
-    (tie.spec answer-requires enum-known-length enum-told same-length returns same-length-2 returns-2)
+    (tie.spec (λ c κs. search needs) (λ c. search needs) (λ c. search needs) (λ c. search needs) returns (λ c. search needs) returns-2)

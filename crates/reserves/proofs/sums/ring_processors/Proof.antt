@@ -7,15 +7,9 @@ use Rattle.wholes.specs.Ceiling.{ceilingOf}
 use Rattle.reserves.proofs.sums.ring_processors.Statement.{statement}
 use Rattle.reserves.proofs.sums.ring_processors.Tie as tie
 
-ring-ticks-requires : tie.Need-ring-ticks-requires
-ring-ticks-requires c κs = search needs
-
-ceiling-requires : tie.Need-ceiling-requires
-ceiling-requires c κs = search needs
-
 returns : tie.Need-returns
 returns c =
     c .ceiling .ensures ∙ ap (λ (t : ℕ). ceilingOf t (c .before .before .before .args .slot)) (c .before .ring-ticks .ensures)
 
 pub ring-processors-spec : {M : Type 1} → statement M
-ring-processors-spec = tie.close (tie.spec ring-ticks-requires ceiling-requires returns)
+ring-processors-spec = tie.close (tie.spec (λ c κs. search needs) (λ c κs. search needs) returns)

@@ -19,23 +19,11 @@ abbrev μ-loop : tie.MeasureT-loop
 loop-holds : tie.Need-loop-holds Inv-loop μ-loop
 loop-holds c = summed-none (ring-nil _)
 
-mul-reserve : tie.Need-mul-reserve Inv-loop μ-loop
-mul-reserve c = search needs
-
-shared-slice-read-reserve : tie.Need-shared-slice-read-reserve Inv-loop μ-loop
-shared-slice-read-reserve c = search needs
-
 add-sum : tie.Need-add-sum Inv-loop μ-loop
 add-sum c =
     let at = c .before .before .before in
     let laid = at .before .pre in
     omega (arith, laid .slot-below, laid .within (at .loop .i) (c .before .before .loop-test .taken), ticks-room laid (at .loop .inv))
-
-add-i : tie.Need-add-i Inv-loop μ-loop
-add-i c = search needs
-
-loop-less : tie.Need-loop-less Inv-loop μ-loop
-loop-less c = search needs
 
 loop-again : tie.Need-loop-again Inv-loop μ-loop
 loop-again c =
@@ -56,10 +44,10 @@ ring-ticks-spec =
     Inv-loop
     μ-loop
     loop-holds
-    mul-reserve
-    shared-slice-read-reserve
+    (λ c. search needs)
+    (λ c. search needs)
     add-sum
-    add-i
-    loop-less
+    (λ c. search needs)
+    (λ c. search needs)
     loop-again
     returns)

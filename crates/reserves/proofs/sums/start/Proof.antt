@@ -11,9 +11,6 @@ use Rattle.reserves.proofs.Starts.{fewer, taken-start}
 use Rattle.reserves.proofs.sums.start.Statement.{statement}
 use Rattle.reserves.proofs.sums.start.Tie as tie
 
-sub-before : tie.Need-sub-before
-sub-before c = search needs
-
 ring-ticks-requires : tie.Need-ring-ticks-requires
 ring-ticks-requires c κs = fewer (c .before .pre .0) _ (omega arith)
 
@@ -24,4 +21,4 @@ returns c =
     ap (λ (i : ℕ). ringTicks (a .slot) (take i (take (a .n) (a .reserves .now)))) (sub-one (a .q))
 
 pub start-spec : {M : Type 1} → statement M
-start-spec = tie.close (tie.spec sub-before ring-ticks-requires returns)
+start-spec = tie.close (tie.spec (λ c. search needs) ring-ticks-requires returns)

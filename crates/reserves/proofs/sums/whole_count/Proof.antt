@@ -19,22 +19,10 @@ abbrev μ-loop : tie.MeasureT-loop
 loop-holds : tie.Need-loop-holds Inv-loop μ-loop
 loop-holds c = summed-none (wholes-nil _)
 
-mul-reserve : tie.Need-mul-reserve Inv-loop μ-loop
-mul-reserve c = search needs
-
-shared-slice-read-reserve : tie.Need-shared-slice-read-reserve Inv-loop μ-loop
-shared-slice-read-reserve c = search needs
-
 add-count : tie.Need-add-count Inv-loop μ-loop
 add-count c =
     let at = c .before .before .before in
     omega (arith, count-room (at .before .pre) (at .loop .inv))
-
-add-i : tie.Need-add-i Inv-loop μ-loop
-add-i c = search needs
-
-loop-less : tie.Need-loop-less Inv-loop μ-loop
-loop-less c = search needs
 
 loop-again : tie.Need-loop-again Inv-loop μ-loop
 loop-again c =
@@ -55,10 +43,10 @@ whole-count-spec =
     Inv-loop
     μ-loop
     loop-holds
-    mul-reserve
-    shared-slice-read-reserve
+    (λ c. search needs)
+    (λ c. search needs)
     add-count
-    add-i
-    loop-less
+    (λ c. search needs)
+    (λ c. search needs)
     loop-again
     returns)

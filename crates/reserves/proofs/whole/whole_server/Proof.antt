@@ -17,12 +17,6 @@ abbrev μ-loop : tie.MeasureT-loop
 loop-holds : tie.Need-loop-holds Inv-loop μ-loop
 loop-holds c = walked-none
 
-mul-reserve : tie.Need-mul-reserve Inv-loop μ-loop
-mul-reserve c = search needs
-
-shared-slice-read-reserve : tie.Need-shared-slice-read-reserve Inv-loop μ-loop
-shared-slice-read-reserve c = search needs
-
 add-result : tie.Need-add-result Inv-loop μ-loop
 add-result c = omega (arith, c .before .before .before .before .before .pre .few)
 
@@ -30,15 +24,6 @@ returns : tie.Need-returns Inv-loop μ-loop
 returns c =
     let at = c .before .before .before .before in
     walked-here (at .before .pre) (at .loop .inv) (c .before .before .before .loop-test .taken) (omega (arith, c .before .if1 .taken)) (omega (arith, c .if2 .taken))
-
-sub-more : tie.Need-sub-more Inv-loop μ-loop
-sub-more c = search needs
-
-add-i : tie.Need-add-i Inv-loop μ-loop
-add-i c = search needs
-
-loop-less : tie.Need-loop-less Inv-loop μ-loop
-loop-less c = search needs
 
 loop-again : tie.Need-loop-again Inv-loop μ-loop
 loop-again c =
@@ -59,12 +44,12 @@ whole-server-spec =
     Inv-loop
     μ-loop
     loop-holds
-    mul-reserve
-    shared-slice-read-reserve
+    (λ c. search needs)
+    (λ c. search needs)
     add-result
     returns
-    sub-more
-    add-i
-    loop-less
+    (λ c. search needs)
+    (λ c. search needs)
+    (λ c. search needs)
     loop-again
     returns-2)

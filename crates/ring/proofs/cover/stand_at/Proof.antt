@@ -41,12 +41,6 @@ whole c = ap (λ (r : ℕ). r * c .before .before .before .before .args .slot) (
 loop-holds : tie.Need-loop-holds Inv-loop μ-loop
 loop-holds c = (summed-none (ring-nil _), omega arith)
 
-mul-reserve : tie.Need-mul-reserve Inv-loop μ-loop
-mul-reserve c = search needs
-
-shared-slice-read-reserve : tie.Need-shared-slice-read-reserve Inv-loop μ-loop
-shared-slice-read-reserve c = search needs
-
 add-end : tie.Need-add-end Inv-loop μ-loop
 add-end c =
     let at = c .before .before .before in
@@ -55,9 +49,6 @@ add-end c =
 
 add-server : tie.Need-add-server Inv-loop μ-loop
 add-server c = omega (arith, c .before .before .before .before .before .before .pre .0 .few)
-
-sub-left : tie.Need-sub-left Inv-loop μ-loop
-sub-left c = search needs
 
 returns : tie.Need-returns Inv-loop μ-loop
 returns c =
@@ -70,12 +61,6 @@ returns c =
     (at .loop .inv .0 .so-far)
     (at .loop .inv .1)
     before
-
-add-i : tie.Need-add-i Inv-loop μ-loop
-add-i c = search needs
-
-loop-less : tie.Need-loop-less Inv-loop μ-loop
-loop-less c = search needs
 
 loop-again : tie.Need-loop-again Inv-loop μ-loop
 loop-again c =
@@ -108,14 +93,14 @@ stand-at-spec =
     Inv-loop
     μ-loop
     loop-holds
-    mul-reserve
-    shared-slice-read-reserve
+    (λ c. search needs)
+    (λ c. search needs)
     add-end
     add-server
-    sub-left
+    (λ c. search needs)
     returns
-    add-i
-    loop-less
+    (λ c. search needs)
+    (λ c. search needs)
     loop-again
     ceiling-requires
     mul-length

@@ -19,14 +19,8 @@ slots c k h = lt-of-le-of-lt (mul-le-mul-right (c .args .slot) h) (c .pre .3)
 sum : (c : tie.Start) (k : ℕ) → k ≤ c .args .ring → c .args .tick .0 % (c .args .ring * c .args .slot) + k * c .args .slot < 2 ^ 49
 sum c k h = omega (arith, slots c k h, mod-lt (c .args .tick .0) (some c), c .pre .3)
 
-mul-length : tie.Need-mul-length
-mul-length c = search needs
-
 rem-reduced : tie.Need-rem-reduced
 rem-reduced c = omega (arith, some c)
-
-sub-offset : tie.Need-sub-offset
-sub-offset c = search needs
 
 mul-offset : tie.Need-mul-offset
 mul-offset c = record { fits = lt-trans (slots c _ (omega arith)) (lit< tt) }
@@ -44,4 +38,4 @@ returns c =
 
 pub position-spec : {M : Type 1} → statement M
 position-spec =
-    tie.close (tie.spec mul-length rem-reduced sub-offset mul-offset add-t9 rem-t10 returns)
+    tie.close (tie.spec (λ c. search needs) rem-reduced (λ c. search needs) mul-offset add-t9 rem-t10 returns)

@@ -5,13 +5,10 @@ use Rattle.ring.proofs.WhoLaws.{first-told}
 use Rattle.ring.proofs.who.first.Statement.{statement}
 use Rattle.ring.proofs.who.first.Tie as tie
 
-who-requires : tie.Need-who-requires
-who-requires c κs = search needs
-
 returns : tie.Need-returns
 returns c =
     let s = c .before .before in
     first-told (s .pre .0) (s .pre .1) (c .who .ensures)
 
 pub first-spec : {M : Type 1} → statement M
-first-spec = tie.close (tie.spec who-requires returns)
+first-spec = tie.close (tie.spec (λ c κs. search needs) returns)

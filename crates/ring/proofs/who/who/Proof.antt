@@ -9,9 +9,6 @@ use borrow.Author.Needs.{needs}
 use Rattle.ring.proofs.who.who.Statement.{statement}
 use Rattle.ring.proofs.who.who.Tie as tie
 
-ring-processors-requires : tie.Need-ring-processors-requires
-ring-processors-requires c κs = search needs
-
 position-requires : tie.Need-position-requires
 position-requires c κs =
     let s = c .before .before .before in
@@ -31,18 +28,6 @@ returns c =
     c .stand-at .ensures ∙
     who-lands (s .pre .0) (c .before .before .before .ring-processors .ensures) (c .before .position .result) (s .args .tick) l (c .before .position .ensures)
 
-sub-whole-server : tie.Need-sub-whole-server
-sub-whole-server c = search needs
-
-sub-whole-server-2 : tie.Need-sub-whole-server-2
-sub-whole-server-2 c = search needs
-
-whole-server-requires : tie.Need-whole-server-requires
-whole-server-requires c κs = search needs
-
-rem-t11 : tie.Need-rem-t11
-rem-t11 c = search needs
-
 sub-t12 : tie.Need-sub-t12
 sub-t12 c = let s = c .before .before .before .before in le-of-lt (mod-lt (s .args .tick .0) (s .pre .0 .slot-some))
 
@@ -56,13 +41,13 @@ pub who-spec : {M : Type 1} → statement M
 who-spec =
     tie.close
     (tie.spec
-    ring-processors-requires
+    (λ c κs. search needs)
     position-requires
     stand-at-requires
     returns
-    sub-whole-server
-    sub-whole-server-2
-    whole-server-requires
-    rem-t11
+    (λ c. search needs)
+    (λ c. search needs)
+    (λ c κs. search needs)
+    (λ c. search needs)
     sub-t12
     returns-2)

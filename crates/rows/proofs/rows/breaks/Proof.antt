@@ -8,15 +8,6 @@ use Rattle.rows.specs.Rows.{slotRow, rowOf}
 use Rattle.rows.proofs.rows.breaks.Statement.{statement}
 use Rattle.rows.proofs.rows.breaks.Tie as tie
 
-enum-told : tie.Need-enum-told
-enum-told c = search needs
-
-enum-told-2 : tie.Need-enum-told-2
-enum-told-2 c = search needs
-
-breaks-tight-requires : tie.Need-breaks-tight-requires
-breaks-tight-requires c κs = search needs
-
 returns : tie.Need-returns
 unfolding slotRow
 returns c =
@@ -31,4 +22,4 @@ returns-2 c =
     c .breaks-tight .ensures ∙ sym (ap (λ (r : TaskRow). rowOf r (a .header) (a .task)) (told .enum-told2 .given .1))
 
 pub breaks-spec : {M : Type 1} → statement M
-breaks-spec = tie.close (tie.spec enum-told enum-told-2 breaks-tight-requires returns returns-2)
+breaks-spec = tie.close (tie.spec (λ c. search needs) (λ c. search needs) (λ c κs. search needs) returns returns-2)

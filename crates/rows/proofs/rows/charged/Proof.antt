@@ -26,29 +26,14 @@ few c =
 figured : (c : tie.After-enum-told) → figuresOutcome (c .before .before .before .args .set) ≡ Done
 figured c = sym (c .before .before .figures .ensures) ∙ c .enum-told .given .1
 
-figures-requires : tie.Need-figures-requires
-figures-requires c κs = search needs
-
-enum-known-outcome : tie.Need-enum-known-outcome
-enum-known-outcome c = search needs
-
 returns : tie.Need-returns
 returns c = charged-figures _ (sym (c .before .before .before .figures .ensures) ∙ c .before .outcome .given .1)
-
-enum-told : tie.Need-enum-told
-enum-told c = search needs
-
-first-broken-requires : tie.Need-first-broken-requires
-first-broken-requires c κs = search needs
 
 cast-t10 : tie.Need-cast-t10
 cast-t10 c = omega (arith, c .before .first-broken .ensures, first-within (slotRow (c .before .before .before .before .before .args .set .header)) 1 (members (c .before .before .before .before .before .args .set)), few (c .before .before .before .before .before))
 
 returns-2 : tie.Need-returns-2
 returns-2 c = charged-slot _ (figured (c .before .before)) (c .before .first-broken .ensures) (c .if1 .taken)
-
-first-broken-requires-2 : tie.Need-first-broken-requires-2
-first-broken-requires-2 c κs = search needs
 
 cast-t12 : tie.Need-cast-t12
 cast-t12 c = omega (arith, c .before .first-broken2 .ensures, first-within (tightRow (c .before .before .before .before .before .before .before .args .set .header)) 1 (members (c .before .before .before .before .before .before .before .args .set)), few (c .before .before .before .before .before .before .before))
@@ -59,12 +44,6 @@ returns-3 c =
 
 horizon-within-requires : tie.Need-horizon-within-requires
 horizon-within-requires c κs = chargeable _ (c .before .before .before .before .before .before .before .pre) (figured (c .before .before .before .before)) (sym (c .before .first-broken2 .ensures) ∙ c .if2 .left)
-
-enum-known-found : tie.Need-enum-known-found
-enum-known-found c = search needs
-
-enum-told-2 : tie.Need-enum-told-2
-enum-told-2 c = search needs
 
 -- rows 7 and 8 were tried, and are clear
 module _ (c : tie.After-horizon-within) where
@@ -88,18 +67,18 @@ pub charged-spec : {M : Type 1} → statement M
 charged-spec =
     tie.close
     (tie.spec
-    figures-requires
-    enum-known-outcome
+    (λ c κs. search needs)
+    (λ c. search needs)
     returns
-    enum-told
-    first-broken-requires
+    (λ c. search needs)
+    (λ c κs. search needs)
     cast-t10
     returns-2
-    first-broken-requires-2
+    (λ c κs. search needs)
     cast-t12
     returns-3
     horizon-within-requires
-    enum-known-found
-    enum-told-2
+    (λ c. search needs)
+    (λ c. search needs)
     returns-4
     returns-5)

@@ -29,9 +29,6 @@ mul-task c = omega arith
 element-copy-out-task : tie.Need-element-copy-out-task Inv-loop μ-loop
 element-copy-out-task c = omega arith
 
-breaks-requires : tie.Need-breaks-requires Inv-loop μ-loop
-breaks-requires c κs = search needs
-
 add-result : tie.Need-add-result Inv-loop μ-loop
 add-result c = omega arith
 
@@ -59,7 +56,7 @@ first-broken-spec =
     loop-holds
     mul-task
     element-copy-out-task
-    breaks-requires
+    (λ c κs. search needs)
     add-result
     returns
     add-i

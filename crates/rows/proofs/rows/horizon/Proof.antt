@@ -8,15 +8,6 @@ use Rattle.rows.proofs.Clears.{horizon-short}
 use Rattle.rows.proofs.rows.horizon.Statement.{statement}
 use Rattle.rows.proofs.rows.horizon.Tie as tie
 
-horizon-within-requires : tie.Need-horizon-within-requires
-horizon-within-requires c κs = search needs
-
-enum-known-horizon : tie.Need-enum-known-horizon
-enum-known-horizon c = search needs
-
-enum-told : tie.Need-enum-told
-enum-told c = search needs
-
 returns : tie.Need-returns
 returns c =
     let s = c .before .before .before in
@@ -27,4 +18,4 @@ returns-2 c = within-value _ _ _ (sym (c .before .before .before .horizon-within
 
 pub horizon-spec : {M : Type 1} → statement M
 horizon-spec =
-    tie.close (tie.spec horizon-within-requires enum-known-horizon enum-told returns returns-2)
+    tie.close (tie.spec (λ c κs. search needs) (λ c. search needs) (λ c. search needs) returns returns-2)

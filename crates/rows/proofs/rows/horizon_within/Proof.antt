@@ -20,14 +20,8 @@ room : (c : tie.Start) → c .args .set .count ≤ length (c .args .set .tasks)
 room c =
     omega (arith, c .pre .few, sym (length-map (c .args .set .tasks) _) ∙ c .good .0 .1 .1 .1 .1 .0 .1 .0 .1)
 
-cast-slot : tie.Need-cast-slot
-cast-slot c = search needs
-
 figures-requires : tie.Need-figures-requires
 figures-requires c κs = c .before .pre .few
-
-slice-aggregate-horizon-of : tie.Need-slice-aggregate-horizon-of
-slice-aggregate-horizon-of c = search needs
 
 horizon-of-requires : tie.Need-horizon-of-requires
 horizon-of-requires c κs =
@@ -44,4 +38,4 @@ returns c =
 
 pub horizon-within-spec : {M : Type 1} → statement M
 horizon-within-spec =
-    tie.close (tie.spec cast-slot figures-requires slice-aggregate-horizon-of horizon-of-requires returns)
+    tie.close (tie.spec (λ c. search needs) figures-requires (λ c. search needs) horizon-of-requires returns)

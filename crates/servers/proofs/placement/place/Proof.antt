@@ -104,12 +104,6 @@ add-totals c =
 array-write-totals : tie.Need-array-write-totals Inv-loop μ-loop
 array-write-totals c = omega (arith, range (c .before) .0, range (c .before) .1, below (c .before))
 
-add-i : tie.Need-add-i Inv-loop μ-loop
-add-i c = search needs
-
-loop-less : tie.Need-loop-less Inv-loop μ-loop
-loop-less c = search needs
-
 -- the servers are counted again
 recounted : (c : tie.Joined1 Inv-loop μ-loop) → c .if1 .count ≡ max (c .before .before .before .before .before .before .loop .count) (c .before .before .server-for .result)
 recounted c = ⊎-elim (λ w. omega (arith, w .0 .taken, w .1)) (λ w. omega (arith, w .0 .left, w .1)) (c .if1 .came)
@@ -153,7 +147,7 @@ place-spec =
     array-read-totals
     add-totals
     array-write-totals
-    add-i
-    loop-less
+    (λ c. search needs)
+    (λ c. search needs)
     loop-again
     returns)

@@ -59,12 +59,6 @@ module _ (h : Header) (figures placement : List ℕ) (i H own : ℕ) (file : Fil
       candidates h figures placement i (q + 1) ≡ false
   full totals q room w few e more = ap (candidates h figures placement i) (add-one q) ∙ past (suc q) (omega (arith, w .each q few))
 
-share-requires : tie.Need-share-requires Inv-loop μ-loop
-share-requires c κs = search needs
-
-add-result : tie.Need-add-result Inv-loop μ-loop
-add-result c = search needs
-
 returns : tie.Need-returns Inv-loop μ-loop
 returns c =
     let s = c .before .before .before .before .before in
@@ -77,19 +71,10 @@ returns c =
 loop-holds : tie.Need-loop-holds Inv-loop μ-loop
 loop-holds c = (omega arith, λ x a b. absurd (omega arith))
 
-add-q : tie.Need-add-q Inv-loop μ-loop
-add-q c = search needs
-
-mul-if2 : tie.Need-mul-if2 Inv-loop μ-loop
-mul-if2 c = search needs
-
 shared-slice-read-if2 : tie.Need-shared-slice-read-if2 Inv-loop μ-loop
 shared-slice-read-if2 c =
     let s = c .before .before .before .before .before .before .before .before in
     omega (arith, c .before .loop-test .taken, s .pre .1 .0 .1, s .pre .1 .1 .room)
-
-takes-task-requires : tie.Need-takes-task-requires Inv-loop μ-loop
-takes-task-requires c κs = search needs
 
 returns-2 : tie.Need-returns-2 Inv-loop μ-loop
 returns-2 c =
@@ -125,9 +110,6 @@ loop-again-2 c =
           (s .args .totals .now) (at .q) (s .args .horizon - share .result) (s .pre .1 .1) (omega (arith, c .before .before .loop-test .taken, s .pre .1 .0 .1)) refl more),
     )
 
-add-result-2 : tie.Need-add-result-2 Inv-loop μ-loop
-add-result-2 c = search needs
-
 returns-3 : tie.Need-returns-3 Inv-loop μ-loop
 returns-3 c =
     let s = c .before .before .before .before .before .before .before in
@@ -143,18 +125,18 @@ server-for-spec =
     (tie.spec
     Inv-loop
     μ-loop
-    share-requires
-    add-result
+    (λ c κs. search needs)
+    (λ c. search needs)
     returns
     loop-holds
-    add-q
-    mul-if2
+    (λ c. search needs)
+    (λ c. search needs)
     shared-slice-read-if2
-    takes-task-requires
+    (λ c κs. search needs)
     returns-2
     loop-less
     loop-again
     loop-less-2
     loop-again-2
-    add-result-2
+    (λ c. search needs)
     returns-3)

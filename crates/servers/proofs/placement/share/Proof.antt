@@ -34,21 +34,6 @@ fits cost quotient h g =
 mul-at : tie.Need-mul-at
 mul-at c = omega (arith, c .before .pre .few)
 
-mul-charged-cost : tie.Need-mul-charged-cost
-mul-charged-cost c = search needs
-
-shared-slice-read-charged-cost : tie.Need-shared-slice-read-charged-cost
-shared-slice-read-charged-cost c = search needs
-
-cast-charged-cost : tie.Need-cast-charged-cost
-cast-charged-cost c = search needs
-
-cast-charged-cost-2 : tie.Need-cast-charged-cost-2
-cast-charged-cost-2 c = search needs
-
-cast-charged-cost-3 : tie.Need-cast-charged-cost-3
-cast-charged-cost-3 c = search needs
-
 charged-cost-requires : tie.Need-charged-cost-requires
 charged-cost-requires c κs =
     let m = member (c .before .before .before .before .before) in (
@@ -57,15 +42,6 @@ charged-cost-requires c κs =
       search needs,
       search needs,
     )
-
-add-result : tie.Need-add-result
-add-result c = search needs
-
-mul-result : tie.Need-mul-result
-mul-result c = search needs
-
-shared-slice-read-result : tie.Need-shared-slice-read-result
-shared-slice-read-result c = search needs
 
 div-result : tie.Need-div-result
 div-result c =
@@ -99,15 +75,15 @@ share-spec =
     tie.close
     (tie.spec
     mul-at
-    mul-charged-cost
-    shared-slice-read-charged-cost
-    cast-charged-cost
-    cast-charged-cost-2
-    cast-charged-cost-3
+    (λ c. search needs)
+    (λ c. search needs)
+    (λ c. search needs)
+    (λ c. search needs)
+    (λ c. search needs)
     charged-cost-requires
-    add-result
-    mul-result
-    shared-slice-read-result
+    (λ c. search needs)
+    (λ c. search needs)
+    (λ c. search needs)
     div-result
     mul-result-2
     returns)

@@ -79,29 +79,11 @@ module _ (c : tie.After-charge) where
       own ≡ serverHorizon (from .args .header) (members from)
   own-horizon e f = horizon-found (from .pre .0) (standing at-places) _ refl (c .charge .ensures) e f
 
-slice-aggregate-places-of : tie.Need-slice-aggregate-places-of
-slice-aggregate-places-of c = search needs
-
-places-of-requires : tie.Need-places-of-requires
-places-of-requires c κs = search needs
-
-cast-places : tie.Need-cast-places
-cast-places c = search needs
-
 array-write-places : tie.Need-array-write-places
 array-write-places c = omega (arith, free c)
 
 add-n : tie.Need-add-n
 add-n c = omega (arith, free c)
-
-cast-charge : tie.Need-cast-charge
-cast-charge c = search needs
-
-slice-aggregate-charge : tie.Need-slice-aggregate-charge
-slice-aggregate-charge c = search needs
-
-slice-aggregate-charge-2 : tie.Need-slice-aggregate-charge-2
-slice-aggregate-charge-2 c = search needs
 
 charge-requires : tie.Need-charge-requires
 charge-requires c κs =
@@ -109,31 +91,16 @@ charge-requires c κs =
     let o = overheads (start at) in
     may-charge (start at .pre .0) (standing at) (start at .args .header .cpmdo) _ (omega (arith, o .cache)) refl
 
-cast-slot : tie.Need-cast-slot
-cast-slot c = search needs
-
-slice-aggregate-horizon-of : tie.Need-slice-aggregate-horizon-of
-slice-aggregate-horizon-of c = search needs
-
 horizon-of-requires : tie.Need-horizon-of-requires
 horizon-of-requires c κs =
     let at = c .before .before .before in
     charged-timed (from at .pre .0) (standing (at-places at)) _ refl (at .charge .ensures)
-
-enum-known-own : tie.Need-enum-known-own
-enum-known-own c = search needs
-
-enum-told : tie.Need-enum-told
-enum-told c = search needs
 
 -- the horizon is within the file's
 returns : tie.Need-returns
 returns c =
     let at = c .before .before .before .before .before .before in
     horizon-not-past (from at .pre .0) (standing (at-places at)) _ refl (at .charge .ensures) (c .before .before .horizon-of .ensures) (c .enum-told .given .1)
-
-slice-aggregate-passes : tie.Need-slice-aggregate-passes
-slice-aggregate-passes c = search needs
 
 passes-requires : tie.Need-passes-requires
 passes-requires c κs =
@@ -169,21 +136,21 @@ pub takes-task-spec : {M : Type 1} → statement M
 takes-task-spec =
     tie.close
     (tie.spec
-    slice-aggregate-places-of
-    places-of-requires
-    cast-places
+    (λ c. search needs)
+    (λ c κs. search needs)
+    (λ c. search needs)
     array-write-places
     add-n
-    cast-charge
-    slice-aggregate-charge
-    slice-aggregate-charge-2
+    (λ c. search needs)
+    (λ c. search needs)
+    (λ c. search needs)
     charge-requires
-    cast-slot
-    slice-aggregate-horizon-of
+    (λ c. search needs)
+    (λ c. search needs)
     horizon-of-requires
-    enum-known-own
-    enum-told
+    (λ c. search needs)
+    (λ c. search needs)
     returns
-    slice-aggregate-passes
+    (λ c. search needs)
     passes-requires
     returns-2)

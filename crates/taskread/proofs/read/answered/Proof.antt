@@ -9,15 +9,6 @@ use borrow.Author.Needs.{needs}
 use Rattle.taskread.proofs.read.answered.Statement.{statement}
 use Rattle.taskread.proofs.read.answered.Tie as tie
 
-enum-told : tie.Need-enum-told
-enum-told c = search needs
-
-enum-known-outcome : tie.Need-enum-known-outcome
-enum-known-outcome c = search needs
-
-zero-requires : tie.Need-zero-requires
-zero-requires c κs = search needs
-
 returns : tie.Need-returns
 returns c = sym (ap (λ (o : Outcome). answer o (c .before .before .args .set)) (c .enum-told .given .1))
 
@@ -28,4 +19,4 @@ returns-2 c =
     ap zeroed (c .zero .ensures) ∙ sym (ap (λ (o : Outcome). answer o (c .before .before .before .before .args .set)) (c .before .before .outcome .given .1))
 
 pub answered-spec : {M : Type 1} → statement M
-answered-spec = tie.close (tie.spec enum-told enum-known-outcome zero-requires returns returns-2)
+answered-spec = tie.close (tie.spec (λ c. search needs) (λ c. search needs) (λ c κs. search needs) returns returns-2)

@@ -30,32 +30,11 @@ Inv-loop text set₀ ids₀ at₀ lines₀ set ids at lines = Held text lines at
 abbrev μ-loop : tie.MeasureT-loop
 μ-loop text set₀ ids₀ at₀ lines₀ set ids at lines = length text - at
 
-zero-requires : tie.Need-zero-requires Inv-loop μ-loop
-zero-requires c κs = search needs
-
-header-line-requires : tie.Need-header-line-requires Inv-loop μ-loop
-header-line-requires c κs = search needs
-
-enum-known-first : tie.Need-enum-known-first Inv-loop μ-loop
-enum-known-first c = search needs
-
-enum-told : tie.Need-enum-told Inv-loop μ-loop
-enum-told c = search needs
-
-header-outcome-requires : tie.Need-header-outcome-requires Inv-loop μ-loop
-header-outcome-requires c κs = search needs
-
-answered-requires : tie.Need-answered-requires Inv-loop μ-loop
-answered-requires c κs = search needs
-
 returns : tie.Need-returns Inv-loop μ-loop
 returns c =
     let s = c .before .before .before .before .before in
     let told = c .before .before .enum-told .given in
     c .answered .ensures ∙ first-refused (now (s .before .before .args .text)) (told .0 .0) (s .zero .result) (c .before .before .before .before .header-line .ensures) (told .1) (c .before .header-outcome .ensures)
-
-length-requires : tie.Need-length-requires Inv-loop μ-loop
-length-requires c κs = search needs
 
 add-at : tie.Need-add-at Inv-loop μ-loop
 add-at c = omega (arith, c .length .ensures, length-most Frame.Header)
@@ -75,18 +54,6 @@ slice-aggregate-task-line c = sym (length-take-le _ _ (omega (arith, held-few (c
 
 task-line-requires : tie.Need-task-line-requires Inv-loop μ-loop
 task-line-requires c κs = (c .before .before .loop .inv .taken, (c .before .loop-test .taken, c .before .before .loop .inv .listed))
-
-enum-known-line : tie.Need-enum-known-line Inv-loop μ-loop
-enum-known-line c = search needs
-
-enum-told-2 : tie.Need-enum-told-2 Inv-loop μ-loop
-enum-told-2 c = search needs
-
-task-outcome-requires : tie.Need-task-outcome-requires Inv-loop μ-loop
-task-outcome-requires c κs = search needs
-
-answered-requires-2 : tie.Need-answered-requires-2 Inv-loop μ-loop
-answered-requires-2 c κs = search needs
 
 returns-2 : tie.Need-returns-2 Inv-loop μ-loop
 returns-2 c =
@@ -116,9 +83,6 @@ add-set c = omega (arith, room c)
 array-write-ids : tie.Need-array-write-ids Inv-loop μ-loop
 array-write-ids c = omega (arith, room c)
 
-length-requires-2 : tie.Need-length-requires-2 Inv-loop μ-loop
-length-requires-2 c κs = search needs
-
 add-at-2 : tie.Need-add-at-2 Inv-loop μ-loop
 add-at-2 c = omega (arith, c .length2 .ensures, length-most Frame.Task)
 
@@ -142,17 +106,11 @@ loop-again c =
     rw (c .length2 .ensures)
     (held-task task (at .loop .inv) (c .before .before .before .before .before .before .loop-test .taken) (gives (c .before)))
 
-answered-requires-3 : tie.Need-answered-requires-3 Inv-loop μ-loop
-answered-requires-3 c κs = search needs
-
 returns-3 : tie.Need-returns-3 Inv-loop μ-loop
 returns-3 c = c .answered3 .ensures ∙ ended-none (c .before .before .before .loop .inv) (c .before .before .loop-test .left) (c .before .if1 .taken)
 
 figures-requires : tie.Need-figures-requires Inv-loop μ-loop
 figures-requires c κs = held-few (c .before .before .loop .inv)
-
-answered-requires-4 : tie.Need-answered-requires-4 Inv-loop μ-loop
-answered-requires-4 c κs = search needs
 
 returns-4 : tie.Need-returns-4 Inv-loop μ-loop
 returns-4 c =
@@ -167,36 +125,36 @@ read-spec =
     (tie.spec
     Inv-loop
     μ-loop
-    zero-requires
-    header-line-requires
-    enum-known-first
-    enum-told
-    header-outcome-requires
-    answered-requires
+    (λ c κs. search needs)
+    (λ c κs. search needs)
+    (λ c. search needs)
+    (λ c. search needs)
+    (λ c κs. search needs)
+    (λ c κs. search needs)
     returns
-    length-requires
+    (λ c κs. search needs)
     add-at
     loop-holds
     array-share-prefix-ids
     slice-aggregate-task-line
     task-line-requires
-    enum-known-line
-    enum-told-2
-    task-outcome-requires
-    answered-requires-2
+    (λ c. search needs)
+    (λ c. search needs)
+    (λ c κs. search needs)
+    (λ c κs. search needs)
     returns-2
     mul-task
     element-set-from-task
     add-set
     array-write-ids
-    length-requires-2
+    (λ c κs. search needs)
     add-at-2
     add-at-3
     add-lines
     loop-less
     loop-again
-    answered-requires-3
+    (λ c κs. search needs)
     returns-3
     figures-requires
-    answered-requires-4
+    (λ c κs. search needs)
     returns-4)

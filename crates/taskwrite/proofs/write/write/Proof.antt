@@ -17,9 +17,6 @@ use Rattle.tasktext.proofs.TextLaws.{text-bytes}
 use Rattle.taskwrite.proofs.write.write.Statement.{statement}
 use Rattle.taskwrite.proofs.write.write.Tie as tie
 
-writer-asks-requires : tie.Need-writer-asks-requires
-writer-asks-requires c κs = search needs
-
 returns : tie.Need-returns
 returns c =
     let a = c .before .before .before .args in
@@ -56,9 +53,6 @@ put-text-requires c κs =
     let d = c .before .before in
     (within (d .before), omega (arith, c .before .if2 .left, size d))
 
-same-length : tie.Need-same-length
-same-length c = search needs
-
 returns-3 : tie.Need-returns-3
 returns-3 c =
     let e = c .before .before .before .before in
@@ -70,4 +64,4 @@ returns-3 c =
     (c .before .before .put-text .ensures)
 
 pub write-spec : {M : Type 1} → statement M
-write-spec = tie.close (tie.spec writer-asks-requires returns text-length-requires returns-2 put-text-requires same-length returns-3)
+write-spec = tie.close (tie.spec (λ c κs. search needs) returns text-length-requires returns-2 put-text-requires (λ c. search needs) returns-3)

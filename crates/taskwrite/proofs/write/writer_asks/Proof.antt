@@ -12,14 +12,8 @@ use Rattle.taskwrite.proofs.WriteAsks.{first-some, writer-rows}
 use Rattle.taskwrite.proofs.write.writer_asks.Statement.{statement}
 use Rattle.taskwrite.proofs.write.writer_asks.Tie as tie
 
-asks-requires : tie.Need-asks-requires
-asks-requires c κs = search needs
-
 returns : tie.Need-returns
 returns c = sym (writer-rows _ (sym (c .before .asks .ensures) ∙ c .if1 .taken) refl refl)
-
-breaks-board-requires : tie.Need-breaks-board-requires
-breaks-board-requires c κs = search needs
 
 returns-2 : tie.Need-returns-2
 returns-2 c =
@@ -44,9 +38,9 @@ pub writer-asks-spec : {M : Type 1} → statement M
 writer-asks-spec =
     tie.close
     (tie.spec
-    asks-requires
+    (λ c κs. search needs)
     returns
-    breaks-board-requires
+    (λ c κs. search needs)
     returns-2
     first-out-of-range-requires
     returns-3)

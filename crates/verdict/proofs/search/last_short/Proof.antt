@@ -35,9 +35,6 @@ supply-at-requires c κs = omega arith
 loop-holds : tie.Need-loop-holds Inv-loop μ-loop
 loop-holds c = descent-starts (c .supply-at .ensures)
 
-demand-at-requires : tie.Need-demand-at-requires Inv-loop μ-loop
-demand-at-requires c κs = search needs
-
 add-w : tie.Need-add-w Inv-loop μ-loop
 add-w c =
     let s = c .before .before .before .before .before in
@@ -113,7 +110,7 @@ last-short-spec =
     sub-usable
     supply-at-requires
     loop-holds
-    demand-at-requires
+    (λ c κs. search needs)
     add-w
     returns
     returns-2

@@ -4,8 +4,5 @@ use borrow.Author.Needs.{needs}
 use Rattle.plan.proofs.plan.Plan.zero.Statement.{statement}
 use Rattle.plan.proofs.plan.Plan.zero.Tie as tie
 
-returns : tie.Need-returns
-returns c = search needs
-
 pub zero-spec : {M : Type 1} → statement M
-zero-spec = tie.close (tie.spec returns)
+zero-spec = tie.close (tie.spec (λ c. search needs))
