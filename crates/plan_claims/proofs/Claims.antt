@@ -3,7 +3,7 @@
 use Prim.Native.Nat.{ℕ}
 use mathlib.Core.Path.{_≡_, refl, sym, ap, subst, _∙_}
 use mathlib.Core.Logic.{_⊎_, ⊎-elim}
-use mathlib.Core.Bool.{Bool, true, false, and-false}
+use mathlib.Core.Bool.{Bool, true, false, cond, _&&_, and-false}
 use mathlib.Core.List.{List}
 use native.Mathlib.Omega.{arith}
 use Rattle.refusals.specs.declared.Refusal.{Refusal}
@@ -11,6 +11,9 @@ use Rattle.refusals.specs.declared.Refusal.the-variants.{Ask}
 use Rattle.refusals.specs.declared.Outcome.{Outcome}
 use Rattle.refusals.specs.declared.Outcome.the-variants.{Done, Refused}
 use Rattle.refusals.proofs.FirstLaws.{done-refused, till-done, done-till, stays, found}
+use Rattle.ring.specs.declared.clock.Tick.{Tick}
+use Rattle.ring.specs.declared.cover.Stand.{Stand}
+use Rattle.verdict.specs.declared.answer.Verdict.{Verdict}
 use Rattle.tasks.specs.declared.set.TaskSet.{TaskSet}
 use Rattle.demand.specs.Load.{Load}
 use Rattle.members.specs.Charge.{serverLoss}
@@ -19,16 +22,17 @@ use Rattle.plan.specs.Plan.{planMade, zeroPlan}
 use Rattle.planner.specs.Planner.{planOutcome, answer, planOf}
 use Rattle.planner.proofs.Made.{plan-outcome, plan-is}
 use Rattle.plancheck.specs.Agrees.{makes}
-use Rattle.whoruns.specs.WhoRuns.{isProcessor, whoRuns}
-use Rattle.doespass.specs.DoesPass.{allowed, isServer, refusedPass, doesPass}
+use Rattle.whoruns.specs.WhoRuns.{isProcessor, whoAnswer, refusedWho, whoRuns}
+use Rattle.doespass.specs.DoesPass.{allowed, isServer, allowedTo, passAnswer, refusedPass, doesPass}
 use Rattle.plancheck.proofs.AgreeLaws.{agree-same, agree-self}
 use Rattle.plancheck.proofs.Checked.{makes-done, makes-agrees}
-use Rattle.plan_claims.specs.Claims.{PlannerRow, turn, refusalOf, membersIn, NotHeld, FirstHolds, PlanExactly, PlanDone, PlanOnly, PlanGiven, PlanDetermined, RoomIgnored, MakesOwn, PlanFitting, PlanChecked, WhoAnswers, PassAnswers, AsksElse}
+use Rattle.plan_claims.specs.Claims.{PlannerRow, turn, refusalOf, membersIn, NotHeld, FirstHolds, PlanExactly, PlanDone, PlanOnly, PlanGiven, PlanDetermined, RoomIgnored, MakesOwn, PlanFitting, PlanChecked, WhoAnswers, PassAnswers, AsksElse, allowedIn, WhoExactly, PassExactly}
 use Rattle.plan_claims.proofs.ExactLaws.{outcomeOf, rowAt, rowOf, outs, holds-by, by-holds, not-by, by-not, refusal-named, row-back, at-turn, turn-below, turn-at, outcome-is}
 use Rattle.plan_claims.proofs.RoomLaws.{set-room, plan-room}
 use Rattle.plan_claims.proofs.MemberLaws.{members-made}
 use Rattle.plan_claims.proofs.FittingLaws.{with-fitting}
 use Rattle.plan_claims.proofs.CheckedLaws.{checked-plan, who-tells, pass-tells}
+use Rattle.plan_claims.proofs.AskLaws.{decided, decides, two-fail, two-hold, three-fail, three-hold}
 
 -- each refusal exactly when its row holds first
 pub plan-exactly : PlanExactly
@@ -149,3 +153,36 @@ asks-else = record {
       ⊎-elim (λ (e : makes set plan ≡ false). rw e)
       (λ w. ⊎-elim (λ (e : isServer plan q ≡ false). rw (e, and-false (makes set plan))) (pass-else set plan q R (makes set plan) refl) w) h;
 }
+
+-- ---- row 11 of the questions, exactly
+
+who-decided : (b : Bool) (stand : Stand) → cond b (whoAnswer stand) (refusedWho Ask) .outcome ≡ decided b
+who-decided true stand = refl
+who-decided false stand = refl
+
+pass-decided : (b : Bool) (v : Verdict) → cond b (passAnswer v) (refusedPass Ask) .outcome ≡ decided b
+pass-decided true v = refl
+pass-decided false v = refl
+
+-- who runs
+pub who-exactly : WhoExactly
+unfolding whoRuns
+who-exactly set plan p x =
+    decides (makes set plan && isProcessor plan p) (who-decided (makes set plan && isProcessor plan p) _)
+    (two-fail (makes set plan) (isProcessor plan p)) (two-hold (makes set plan) (isProcessor plan p))
+
+-- the plan's own figures and the set's allow the same reserves, where the plan is made
+allowed-same : (set : TaskSet) (plan : Plan) (q R : ℕ) (b : Bool) → makes set plan ≡ b →
+    (b && (isServer plan q && allowedTo set q R)) ≡ (b && (isServer plan q && allowedIn set plan q R))
+allowed-same set plan q R false m = refl
+allowed-same set plan q R true m =
+    ap (λ (own : List Load). (isServer plan q && allowed (set .header .slot) (serverLoss (set .header) own) R)) (sym (members-made set plan m q))
+
+-- does it pass
+pub pass-exactly : PassExactly
+unfolding doesPass
+pass-exactly set plan q R =
+    decides (makes set plan && (isServer plan q && allowedIn set plan q R))
+    (pass-decided (makes set plan && (isServer plan q && allowedTo set q R)) _ ∙ ap decided (allowed-same set plan q R (makes set plan) refl))
+    (three-fail (makes set plan) (isServer plan q) (allowedIn set plan q R))
+    (three-hold (makes set plan) (isServer plan q) (allowedIn set plan q R))

@@ -3,4 +3,5 @@ pub mod RoomLaws
 pub mod MemberLaws
 pub mod FittingLaws
 pub mod CheckedLaws
+pub mod AskLaws
 pub mod Claims

@@ -8,7 +8,9 @@ use mathlib.Core.List.{List}
 use lib.ListN.{length, getD, take}
 use Rattle.refusals.specs.declared.Refusal.{Refusal}
 use Rattle.refusals.specs.declared.Refusal.the-variants.{Board, Range, Slot, Tight, Horizon, Full, Ask}
+use Rattle.refusals.specs.declared.Outcome.{Outcome}
 use Rattle.refusals.specs.declared.Outcome.the-variants.{Done, Refused}
+use Rattle.refusals.specs.Refused.{numberOf, placeOf}
 use Rattle.demand.specs.Passes.{Passes}
 use Rattle.verdict.specs.declared.answer.Verdict.the-variants.{Yes, No}
 use Rattle.verdict.specs.Reserve.{Smallest}
@@ -258,3 +260,33 @@ pub record AsksElse : Type 0 where
   pub pass : (set : TaskSet) (plan : Plan) (q R : ℕ) →
       (makes set plan ≡ false) ⊎ ((isServer plan q ≡ false) ⊎ (allowed (set .header .slot) (serverLoss (set .header) (membersIn set plan q)) R ≡ false)) →
       doesPass set plan q R ≡ record { outcome = Refused Ask; verdict = Yes (record { length = 0; demand = 0; supply = 0 }) }
+
+-- ---- row 11 of the questions, exactly
+
+-- A question is refused by row 11 exactly where something fails, in the enum and by number and place; it is done exactly where
+-- all holds, and no other refusal is given.
+pub record AskExactly (outcome : Outcome) (fails holds : Type 0) : Type 0 where
+  pub refused : (outcome ≡ Refused Ask) ↔ fails
+  pub numbered : ((r : Refusal) × (outcome ≡ Refused r) × (numberOf r ≡ 11) × (placeOf r ≡ 0)) ↔ fails
+  pub done : (outcome ≡ Done) ↔ holds
+  pub only : (r : Refusal) → outcome ≡ Refused r → (r ≡ Ask) × (numberOf r ≡ 11) × (placeOf r ≡ 0)
+
+-- Who runs: the planner does not make that plan of that set, or the processor is not there.
+abbrev pub WhoExactly : Type 0
+WhoExactly =
+    (set : TaskSet) (plan : Plan) (p : ℕ) (x : Tick) →
+    AskExactly (whoRuns set plan p x .outcome)
+    ((makes set plan ≡ false) ⊎ (isProcessor plan p ≡ false))
+    ((makes set plan ≡ true) × (isProcessor plan p ≡ true))
+
+-- R is allowed by the entry loss of server q, in the plan's own figures
+abbrev pub allowedIn : TaskSet → Plan → (q R : ℕ) → Bool
+allowedIn set plan q R = allowed (set .header .slot) (serverLoss (set .header) (membersIn set plan q)) R
+
+-- Does it pass: the planner does not make that plan of that set, the server is not there, or R is not allowed.
+abbrev pub PassExactly : Type 0
+PassExactly =
+    (set : TaskSet) (plan : Plan) (q R : ℕ) →
+    AskExactly (doesPass set plan q R .outcome)
+    ((makes set plan ≡ false) ⊎ ((isServer plan q ≡ false) ⊎ (allowedIn set plan q R ≡ false)))
+    ((makes set plan ≡ true) × ((isServer plan q ≡ true) × (allowedIn set plan q R ≡ true)))
