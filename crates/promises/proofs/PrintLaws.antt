@@ -20,8 +20,9 @@ use Rattle.plan.specs.Plan.{noServer, zeroStand, serverAt, serverOf, laidOut}
 use Rattle.plan.proofs.LaidLaws.{laid-reserves, laid-server, laid-first}
 use Rattle.plancheck.specs.Agrees.{used, SamePlan}
 use Rattle.plancheck.proofs.Checked.{reserves-same}
+use Rattle.ring_claims.specs.Rota.{PrintsRing}
 use Rattle.rotas.specs.Rota.{Rota, IsServer}
-use Rattle.promises.specs.Prints.{PrintsServer, PrintsRota}
+use Rattle.promises.specs.Prints.{PrintsServer, PrintsRota, printedOf}
 
 -- what stands at a place of something of each element
 map-at : {A B : Type 0} (f : A → B) (d : A) (xs : List A) (i : ℕ) → getD (map f xs) i (f d) ≡ f (getD xs i d)
@@ -73,6 +74,7 @@ module _ (rota : Rota) (placement : List ℕ) where
       placed = padded-take placement (length placement) refl;
       ring = refl;
       whole = refl;
+      idle = refl;
       first = first-is;
     }
 
@@ -119,5 +121,21 @@ module _ (rota : Rota) (placement : List ℕ) where
       placed = same .placement ∙ prints .placed;
       ring = same .ring ∙ prints .ring;
       whole = same .whole ∙ prints .whole;
+      idle = same .idle ∙ prints .idle;
       first = first-at;
     }
+
+  -- ---- its lines are those of the ring that is laid of the rota's reserves
+
+  pub lines-of : {plan : Plan} → PrintsRota rota placement plan → PrintsRing (rota .slot) (rota .reserves) (printedOf plan)
+  lines-of prints = record {
+    whole = prints .whole;
+    ring = prints .ring;
+    servers = prints .servers;
+    slot = prints .slot;
+    idle = prints .idle;
+    reserve = λ q h l. prints .server q (record { some = h; there = l }) .reserve;
+    start = λ q s. prints .server q (record { some = s .some; there = s .there }) .start (s .ring);
+    first = λ p h l. ap (λ (s : Stand). s .server) (prints .first p h l);
+    duration = λ p h l. ap (λ (s : Stand). s .left) (prints .first p h l);
+  }
