@@ -239,6 +239,10 @@ WhoAnswers =
     (set : TaskSet) (plan : Plan) (p : ℕ) (x : Tick) → length (set .tasks) ≡ mostTasks → makes set plan ≡ true → isProcessor plan p ≡ true →
     WhoTells set plan p x
 
+-- R is allowed by the entry loss of server q, in the plan's own figures
+abbrev pub allowedIn : TaskSet → Plan → (q R : ℕ) → Bool
+allowedIn set plan q R = allowed (set .header .slot) (serverLoss (set .header) (membersIn set plan q)) R
+
 -- does it pass: yes with three zeros exactly when demand never exceeds supply; no exactly with the smallest failing length,
 -- the demand and the supply there
 pub record PassTells (set : TaskSet) (plan : Plan) (q R : ℕ) : Type 0 where
@@ -251,14 +255,14 @@ pub record PassTells (set : TaskSet) (plan : Plan) (q R : ℕ) : Type 0 where
 abbrev pub PassAnswers : Type 0
 PassAnswers =
     (set : TaskSet) (plan : Plan) (q R : ℕ) → length (set .tasks) ≡ mostTasks → makes set plan ≡ true → isServer plan q ≡ true →
-    allowed (set .header .slot) (serverLoss (set .header) (membersIn set plan q)) R ≡ true → PassTells set plan q R
+    allowedIn set plan q R ≡ true → PassTells set plan q R
 
 -- Both answer 11, and zeros, where the plan is not the planner's of the set, or what is named is not there or not allowed.
 pub record AsksElse : Type 0 where
   pub who : (set : TaskSet) (plan : Plan) (p : ℕ) (x : Tick) →
       (makes set plan ≡ false) ⊎ (isProcessor plan p ≡ false) → whoRuns set plan p x ≡ record { outcome = Refused Ask; server = 0; left = 0 }
   pub pass : (set : TaskSet) (plan : Plan) (q R : ℕ) →
-      (makes set plan ≡ false) ⊎ ((isServer plan q ≡ false) ⊎ (allowed (set .header .slot) (serverLoss (set .header) (membersIn set plan q)) R ≡ false)) →
+      (makes set plan ≡ false) ⊎ ((isServer plan q ≡ false) ⊎ (allowedIn set plan q R ≡ false)) →
       doesPass set plan q R ≡ record { outcome = Refused Ask; verdict = Yes (record { length = 0; demand = 0; supply = 0 }) }
 
 -- ---- row 11 of the questions, exactly
@@ -278,10 +282,6 @@ WhoExactly =
     AskExactly (whoRuns set plan p x .outcome)
     ((makes set plan ≡ false) ⊎ (isProcessor plan p ≡ false))
     ((makes set plan ≡ true) × (isProcessor plan p ≡ true))
-
--- R is allowed by the entry loss of server q, in the plan's own figures
-abbrev pub allowedIn : TaskSet → Plan → (q R : ℕ) → Bool
-allowedIn set plan q R = allowed (set .header .slot) (serverLoss (set .header) (membersIn set plan q)) R
 
 -- Does it pass: the planner does not make that plan of that set, the server is not there, or R is not allowed.
 abbrev pub PassExactly : Type 0
