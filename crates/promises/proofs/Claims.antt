@@ -54,12 +54,12 @@ abbrev Prints : TaskSet → Plan → Type 0
 Prints set plan = PrintsRota (rotaOf set (setPlacement set)) (setPlacement set) plan
 
 -- the rota, read off the lines of a plan that prints it
-read-off : (set : TaskSet) (plan : Plan) (p x : ℕ) → Accepted set → Prints set plan → 1 ≤ p → p ≤ plan .ring + plan .whole →
-    unrolled (printedOf plan) p x ≡ whoOf (rotaOf set (setPlacement set) .slot) (rotaOf set (setPlacement set) .reserves) p (record { 0 = x })
-read-off set plan p x ok prints h l =
+read-off : (set : TaskSet) (plan : Plan) (mark p x : ℕ) → Accepted set → Prints set plan → 1 ≤ p → p ≤ plan .ring + plan .whole →
+    unrolled (printedOf mark plan) p x ≡ whoOf (rotaOf set (setPlacement set) .slot) (rotaOf set (setPlacement set) .reserves) p (record { 0 = x })
+read-off set plan mark p x ok prints h l =
     let rota : Rota = rotaOf set (setPlacement set) in
     let stands : Slotted (rota .slot) (rota .reserves) = standing-slotted rota (accepted-stands set ok) in
-    rota-unrolled (printedOf plan) (rota .slot) (rota .reserves) p x stands (lines-of rota (setPlacement set) prints) h l
+    rota-unrolled (printedOf mark plan) (rota .slot) (rota .reserves) p x stands (lines-of rota (setPlacement set) mark prints) h l
 
 -- its own slot and reserves are the rota's
 own-figures : (set : TaskSet) (plan : Plan) (p x : ℕ) → Prints set plan →
@@ -70,7 +70,7 @@ own-figures set plan p x prints =
     ∙ ap (λ (rs : List ℕ). whoOf (plan .slot) rs p (record { 0 = x })) (sym (prints .reserves))
 
 pub printed-rota : PrintedRota
-printed-rota set plan p x full e h l =
+printed-rota set plan mark p x full e h l =
     let made : Accepted set × Prints set plan = plan-is-rota set plan full e in
-    let off = read-off set plan p x (made .0) (made .1) h l in
+    let off = read-off set plan mark p x (made .0) (made .1) h l in
     record { rota = off; question = off ∙ own-figures set plan p x (made .1) }

@@ -20,6 +20,7 @@ use Rattle.plan.specs.Plan.{noServer, zeroStand, serverAt, serverOf, laidOut}
 use Rattle.plan.proofs.LaidLaws.{laid-reserves, laid-server, laid-first}
 use Rattle.plancheck.specs.Agrees.{used, SamePlan}
 use Rattle.plancheck.proofs.Checked.{reserves-same}
+use Rattle.ring_claims.specs.Serves.{RingServer}
 use Rattle.ring_claims.specs.Rota.{PrintsRing}
 use Rattle.rotas.specs.Rota.{Rota, IsServer}
 use Rattle.promises.specs.Prints.{PrintsServer, PrintsRota, printedOf}
@@ -127,15 +128,23 @@ module _ (rota : Rota) (placement : List ℕ) where
 
   -- ---- its lines are those of the ring that is laid of the rota's reserves
 
-  pub lines-of : {plan : Plan} → PrintsRota rota placement plan → PrintsRing (rota .slot) (rota .reserves) (printedOf plan)
-  lines-of prints = record {
-    whole = prints .whole;
-    ring = prints .ring;
-    servers = prints .servers;
-    slot = prints .slot;
-    idle = prints .idle;
-    reserve = λ q h l. prints .server q (record { some = h; there = l }) .reserve;
-    start = λ q s. prints .server q (record { some = s .some; there = s .there }) .start (s .ring);
-    first = λ p h l. ap (λ (s : Stand). s .server) (prints .first p h l);
-    duration = λ p h l. ap (λ (s : Stand). s .left) (prints .first p h l);
-  }
+  module _ (mark : ℕ) {plan : Plan} (prints : PrintsRota rota placement plan) where
+    -- a ring server's start is printed, not the mark
+    start-shown : (q : ℕ) → RingServer (rota .slot) (rota .reserves) q → printedOf mark plan .start q ≡ startOf (rota .slot) (rota .reserves) q
+    start-shown q s =
+        let server : PrintsServer rota placement q (serverAt plan q) = prints .server q (record { some = s .some; there = s .there }) in
+        let below : serverAt plan q .reserve < plan .slot = omega (arith, server .reserve, prints .slot, s .ring) in
+        ap (λ (b : Bool). cond b (serverAt plan q .start .0) mark) (lt-ltb (serverAt plan q .reserve) (plan .slot) below) ∙ server .start (s .ring)
+
+    pub lines-of : PrintsRing (rota .slot) (rota .reserves) (printedOf mark plan)
+    lines-of = record {
+      whole = prints .whole;
+      ring = prints .ring;
+      servers = prints .servers;
+      slot = prints .slot;
+      idle = prints .idle;
+      reserve = λ q h l. prints .server q (record { some = h; there = l }) .reserve;
+      start = start-shown;
+      first = λ p h l. ap (λ (s : Stand). s .server) (prints .first p h l);
+      duration = λ p h l. ap (λ (s : Stand). s .left) (prints .first p h l);
+    }

@@ -45,12 +45,13 @@ PlanIsRota =
 
 -- processor p at tick x, read off the printed lines alone: the server and the ticks left that the rota gives, and that the question
 -- answers from the plan's own slot and reserves
-pub record UnrolledRota (set : TaskSet) (plan : Plan) (p x : ℕ) : Type 0 where
-  pub rota : unrolled (printedOf plan) p x ≡ whoOf (rotaOf set (setPlacement set) .slot) (rotaOf set (setPlacement set) .reserves) p (record { 0 = x })
-  pub question : unrolled (printedOf plan) p x ≡ whoOf (plan .slot) (reservesIn plan) p (record { 0 = x })
+pub record UnrolledRota (set : TaskSet) (plan : Plan) (mark p x : ℕ) : Type 0 where
+  pub rota : unrolled (printedOf mark plan) p x ≡ whoOf (rotaOf set (setPlacement set) .slot) (rotaOf set (setPlacement set) .reserves) p (record { 0 = x })
+  pub question : unrolled (printedOf mark plan) p x ≡ whoOf (plan .slot) (reservesIn plan) p (record { 0 = x })
 
--- so whoever has the printed plan of a set, and nothing else, has its rota: on every processor, at every tick of all time
+-- so whoever has the printed plan of a set, and nothing else, has its rota: on every processor, at every tick of all time.
+-- Whatever the mark of a whole processor is, it is not read.
 abbrev pub PrintedRota : Type 0
 PrintedRota =
-    (set : TaskSet) (plan : Plan) (p x : ℕ) → length (set .tasks) ≡ mostTasks → makes set plan ≡ true → 1 ≤ p → p ≤ plan .ring + plan .whole →
-    UnrolledRota set plan p x
+    (set : TaskSet) (plan : Plan) (mark p x : ℕ) → length (set .tasks) ≡ mostTasks → makes set plan ≡ true → 1 ≤ p → p ≤ plan .ring + plan .whole →
+    UnrolledRota set plan mark p x

@@ -1,8 +1,10 @@
 -- What a plan prints of a rota and a placement: figure by figure, in every place that is used; and the lines that a boot code reads.
 use Prim.Native.Nat.{ℕ, _-_, _≤_, _<_}
 use mathlib.Core.Path.{_≡_}
+use mathlib.Core.Bool.{cond}
 use mathlib.Core.List.{List}
 use lib.ListN.{length, getD, take}
+use lib.Dec.{ltb}
 use Rattle.places.specs.Places.{placesIn}
 use Rattle.reserves.specs.Reserves.{reserveOf, startOf, ringProcessors, wholes, idlePositions, processorsOf}
 use Rattle.ring.specs.Who.{firstReserve}
@@ -32,9 +34,10 @@ pub record PrintsRota (rota : Rota) (placement : List ℕ) (plan : Plan) : Type 
   pub first : (p : ℕ) → 1 ≤ p → p ≤ processorsOf (rota .slot) (rota .reserves) →
       getD (plan .first) (p - 1) zeroStand ≡ firstReserve (rota .slot) (rota .reserves) p
 
--- the figures of a plan's lines 11, 12 and 14, from its record alone: of the plan, by server, by processor
-abbrev pub printedOf : Plan → Printed
-printedOf plan =
+-- the figures of a plan's lines 11, 12 and 14, from its record alone: of the plan, by server, by processor. A mark stands for the
+-- ring start of a server that has a whole processor.
+abbrev pub printedOf : (mark : ℕ) → Plan → Printed
+printedOf mark plan =
     record {
       whole = plan .whole;
       ring = plan .ring;
@@ -42,7 +45,7 @@ printedOf plan =
       slot = plan .slot;
       idle = plan .idle;
       reserve = λ q. serverAt plan q .reserve;
-      start = λ q. serverAt plan q .start .0;
+      start = λ q. cond (ltb (serverAt plan q .reserve) (plan .slot)) (serverAt plan q .start .0) mark;
       first = λ p. getD (plan .first) (p - 1) zeroStand .server;
       duration = λ p. getD (plan .first) (p - 1) zeroStand .left;
     }
