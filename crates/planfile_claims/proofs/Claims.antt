@@ -32,9 +32,11 @@ use Rattle.plantext.specs.Fit.{fitted}
 use Rattle.planfile.specs.File.{unless, refusedFile, plannedSet, filedOf}
 use Rattle.planfile.specs.Tool.{printed, answered}
 use Rattle.planfile.specs.OfFile.{whoOfFile, passOfFile, whoIn, passIn}
-use Rattle.planfile_claims.specs.Claims.{Determined, TextExact, RefusedStoresNothing, PrefixEnough, AnsweredShort, SamePrinted, TextTells, TextTellsPlan}
+use Rattle.planfile_claims.specs.Claims.{Determined, TextExact, WriteExactly, RefusedStoresNothing, PrefixEnough, AnsweredShort, SamePrinted, TextTells, TextTellsPlan, NothingCutOff}
+use Rattle.planfile_claims.proofs.AnswerLaws.{ask-exactly, room-exactly, bytes-exactly, no-others}
 use Rattle.planfile_claims.proofs.TellLaws.{same-count, told}
 use Rattle.planfile_claims.proofs.FieldLaws.{front-long, places-at, cache-at, fit-fields}
+use Rattle.planfile_claims.proofs.CutLaws.{plan-whole, server-whole, placed-whole, processor-whole}
 use Rattle.plantext.proofs.LineLaws.{refusal-bytes}
 use Rattle.plantext.proofs.TextLaws.{text-short}
 use Rattle.plantext.proofs.FitLaws.{fitted-room, fitted-bytes}
@@ -63,6 +65,9 @@ text-exact =
       room = fitted-room;
       room-only = λ buffer text r e. let only = only-room (ltb (length buffer) (length text)) (length text) r e in (only .0, ltb-true (length buffer) (length text) (only .1));
     }
+
+pub write-exactly : WriteExactly
+write-exactly = record { ask = ask-exactly; room = room-exactly; bytes = bytes-exactly; others = no-others }
 
 pub refused-stores-nothing : RefusedStoresNothing
 refused-stores-nothing =
@@ -123,3 +128,12 @@ text-tells-plan set₁ set₂ plan₁ plan₂ full₁ full₂ m₁ m₂ e = reco
 
     there : (i : ℕ) → i < plan₂ .servers → i < plan₁ .servers
     there i h = omega (arith, same .1 .servers)
+
+pub nothing-cut-off : NothingCutOff
+nothing-cut-off set plan full m =
+    record {
+      figures = plan-whole set plan full m;
+      servers = λ q some h. server-whole set plan full m q some (omega (arith, h));
+      tasks = λ k some h. placed-whole set plan full m k some (omega (arith, h));
+      processors = λ p some h. processor-whole set plan full m p some (omega (arith, h));
+    }

@@ -1,3 +1,5 @@
 pub mod TellLaws
 pub mod FieldLaws
+pub mod AnswerLaws
+pub mod CutLaws
 pub mod Claims

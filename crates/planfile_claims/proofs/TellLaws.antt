@@ -78,7 +78,7 @@ processor-figures plan i =
     ap (λ (k : ℕ). lineOf Frame.Processor ((i + 1) ∷ firstIn plan k .server ∷ firstIn plan k .left ∷ [])) (add-sub-cancel i 1)
 
 -- a ring start or the mark fits its field
-pick-fits : (t : Bool) (x : ℕ) → x < 16 ^ widthOf Frame.Server 2 → cond t x mark < 16 ^ widthOf Frame.Server 2
+pub pick-fits : (t : Bool) (x : ℕ) → x < 16 ^ widthOf Frame.Server 2 → cond t x mark < 16 ^ widthOf Frame.Server 2
 unfolding widthsOf
 pick-fits true x h = h
 pick-fits false x h = lit< tt

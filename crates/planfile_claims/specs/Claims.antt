@@ -2,17 +2,18 @@
 -- Document 01, "Lines of hexadecimal", rows 11 and 12 of the refusals and "How tight each promise is".
 use Prim.Native.Nat.{ℕ, _+_, _^_, _≤_, _<_}
 use mathlib.Core.List.{List, _++_}
-use mathlib.Core.Bool.{true}
+use mathlib.Core.Bool.{true, false}
+use mathlib.Core.Logic.{_↔_, _⊎_}
 use mathlib.Core.Path.{_≡_}
 use lib.ListN.{length, take, drop, getD}
 use Rattle.refusals.specs.declared.Refusal.{Refusal}
-use Rattle.refusals.specs.declared.Refusal.the-variants.{Room}
+use Rattle.refusals.specs.declared.Refusal.the-variants.{Ask, Room}
 use Rattle.refusals.specs.declared.Written.{Written}
 use Rattle.refusals.specs.declared.Written.the-variants.{Bytes, Refused}
 use Rattle.ring.specs.declared.clock.Tick.{Tick}
 use Rattle.tasks.specs.declared.set.TaskSet.{TaskSet}
 use Rattle.tasks.specs.Set.{mostTasks}
-use Rattle.frames.specs.Table.{widthOf}
+use Rattle.frames.specs.Table.{fieldsIn, widthOf}
 use Rattle.frames.specs.declared.table.Frame.{Frame}
 use Rattle.refusals.specs.Leaves.{leaves}
 use Rattle.ring.specs.declared.cover.Stand.{Stand}
@@ -23,7 +24,8 @@ use Rattle.whoruns.specs.declared.WhoAnswer.{WhoAnswer}
 use Rattle.doespass.specs.declared.PassAnswer.{PassAnswer}
 use Rattle.plancheck.specs.Agrees.{makes}
 use Rattle.taskread.specs.Read.{furthest}
-use Rattle.plantext.specs.Text.{planText, longestText}
+use Rattle.planfigures.specs.Figures.{serverFigures, placedFigures, processorFigures}
+use Rattle.plantext.specs.Text.{planFigures, planText, longestText}
 use Rattle.plantext.specs.Fit.{fitted, Fits}
 use Rattle.planfile.specs.Write.{writePlan}
 use Rattle.planfile.specs.Tool.{answered}
@@ -49,6 +51,16 @@ pub record TextExact : Type 0 where
       (fitted buffer text ≡ Bytes (length text)) × (leaves (fitted buffer text) buffer text ≡ text ++ drop (length text) buffer)
   pub room : (buffer text : List ℕ) → length buffer < length text → fitted buffer text ≡ Refused Room
   pub room-only : (buffer text : List ℕ) (r : Refusal) → fitted buffer text ≡ Refused r → (r ≡ Room) × (length buffer < length text)
+
+-- Writing a plan: row 11 exactly where the planner does not make that plan of that set; row 12 exactly where it does and the buffer is
+-- shorter than the text. A number of bytes exactly where neither holds, and it is the text's length. No other refusal is given.
+pub record WriteExactly : Type 0 where
+  pub ask : (set : TaskSet) (plan : Plan) (buffer : List ℕ) → (writePlan set plan buffer ≡ Refused Ask) ↔ (makes set plan ≡ false)
+  pub room : (set : TaskSet) (plan : Plan) (buffer : List ℕ) →
+      (writePlan set plan buffer ≡ Refused Room) ↔ ((makes set plan ≡ true) × (length buffer < length (planText set plan)))
+  pub bytes : (set : TaskSet) (plan : Plan) (buffer : List ℕ) (n : ℕ) →
+      (writePlan set plan buffer ≡ Bytes n) ↔ ((makes set plan ≡ true) × ((length (planText set plan) ≤ length buffer) × (n ≡ length (planText set plan))))
+  pub others : (set : TaskSet) (plan : Plan) (buffer : List ℕ) (r : Refusal) → writePlan set plan buffer ≡ Refused r → (r ≡ Ask) ⊎ (r ≡ Room)
 
 -- A refused write stores nothing.
 pub record RefusedStoresNothing : Type 0 where
@@ -126,3 +138,19 @@ TextTellsPlan =
     (set₁ set₂ : TaskSet) (plan₁ plan₂ : Plan) → length (set₁ .tasks) ≡ mostTasks → length (set₂ .tasks) ≡ mostTasks
     → makes set₁ plan₁ ≡ true → makes set₂ plan₂ ≡ true
     → planText set₁ plan₁ ≡ planText set₂ plan₂ → ToldSame set₁ set₂ plan₁ plan₂
+
+-- a line has a figure for each field of its frame, and each fits its field
+pub record InFields (frame : Frame) (figures : List ℕ) : Type 0 where
+  pub many : length figures ≡ fieldsIn frame
+  pub each : (k : ℕ) → getD figures k 0 < 16 ^ widthOf frame k
+
+-- all lines of a plan's text: the plan's, its servers', the tasks' and the processors'
+pub record LinesInFields (set : TaskSet) (plan : Plan) : Type 0 where
+  pub figures : InFields Frame.Plan (planFigures plan)
+  pub servers : (q : ℕ) → 1 ≤ q → q ≤ plan .servers → InFields Frame.Server (serverFigures (plan .server) (plan .slot) q)
+  pub tasks : (k : ℕ) → 1 ≤ k → k ≤ set .count → InFields Frame.Placed (placedFigures (set .tasks) (plan .placement) k)
+  pub processors : (p : ℕ) → 1 ≤ p → p ≤ plan .ring + plan .whole → InFields Frame.Processor (processorFigures (plan .first) p)
+
+-- No digit of an accepted plan is cut off: every figure of its text fits its field. A set has room for the most tasks, by its type.
+abbrev pub NothingCutOff : Type 0
+NothingCutOff = (set : TaskSet) (plan : Plan) → length (set .tasks) ≡ mostTasks → makes set plan ≡ true → LinesInFields set plan
