@@ -4,7 +4,7 @@ use Prim.Native.Nat.{ℕ, _≤_, _<_}
 use mathlib.Core.Path.{_≡_, refl, sym, _∙_, ap}
 use mathlib.Core.List.{List}
 use mathlib.Core.Bool.{Bool, true, false, cond}
-use mathlib.Core.Logic.{_↔_, _⊎_, inl, inr}
+use mathlib.Core.Logic.{_⊎_, inl, inr}
 use lib.Dec.{ltb}
 use lib.ListN.{length}
 use borrow.Author.Tests.{ltb-true, ltb-false}
@@ -59,24 +59,31 @@ module _ (set : TaskSet) (plan : Plan) (buffer : List ℕ) where
   unfolding writePlan fitted made short size
   write-is = refl
 
-  pub ask-exactly : (writePlan set plan buffer ≡ Refused Ask) ↔ (makes set plan ≡ false)
+  -- each answer tells what holds
+  pub ask-tells : writePlan set plan buffer ≡ Refused Ask → makes set plan ≡ false
   unfolding made
-  ask-exactly = (λ e. ask-only made short size (sym write-is ∙ e), λ (m : makes set plan ≡ false). write-is ∙ ap (λ (b : Bool). by-tests b short size) m)
+  ask-tells e = ask-only made short size (sym write-is ∙ e)
 
-  pub room-exactly : (writePlan set plan buffer ≡ Refused Room) ↔ ((makes set plan ≡ true) × (length buffer < length (planText set plan)))
-  unfolding made size short writePlan
-  room-exactly = (
-    λ e. let only = short-only made short size (sym write-is ∙ e) in (only .0, ltb-true (length buffer) size (only .1)),
-    λ (h : (makes set plan ≡ true) × (length buffer < length (planText set plan))). rw (h .0) (fitted-room buffer (planText set plan) (h .1)),
-  )
+  pub room-tells : writePlan set plan buffer ≡ Refused Room → (makes set plan ≡ true) × (length buffer < length (planText set plan))
+  unfolding made size short
+  room-tells e = let only = short-only made short size (sym write-is ∙ e) in (only .0, ltb-true (length buffer) size (only .1))
 
-  pub bytes-exactly : (n : ℕ) → (writePlan set plan buffer ≡ Bytes n) ↔ ((makes set plan ≡ true) × ((length (planText set plan) ≤ length buffer) × (n ≡ length (planText set plan))))
-  unfolding made size short writePlan
-  bytes-exactly n = (
-    λ e. let only = bytes-only made short size n (sym write-is ∙ e) in (only .0, (ltb-false (length buffer) size (only .1 .0), only .1 .1)),
-    λ (h : (makes set plan ≡ true) × ((length (planText set plan) ≤ length buffer) × (n ≡ length (planText set plan)))).
-        rw (h .0) (fitted-bytes buffer (planText set plan) (h .1 .0) ∙ ap Bytes (sym (h .1 .1))),
-  )
+  pub bytes-tell : (n : ℕ) → writePlan set plan buffer ≡ Bytes n → (makes set plan ≡ true) × ((length (planText set plan) ≤ length buffer) × (n ≡ length (planText set plan)))
+  unfolding made size short
+  bytes-tell n e = let only = bytes-only made short size n (sym write-is ∙ e) in (only .0, (ltb-false (length buffer) size (only .1 .0), only .1 .1))
 
   pub no-others : (r : Refusal) → writePlan set plan buffer ≡ Refused r → (r ≡ Ask) ⊎ (r ≡ Room)
   no-others r e = two-only made short size r (sym write-is ∙ e)
+
+  -- and what holds gives the answer
+  pub ask-given : makes set plan ≡ false → writePlan set plan buffer ≡ Refused Ask
+  unfolding writePlan
+  ask-given m = rw m
+
+  pub room-given : makes set plan ≡ true → length buffer < length (planText set plan) → writePlan set plan buffer ≡ Refused Room
+  unfolding writePlan
+  room-given m h = rw m (fitted-room buffer (planText set plan) h)
+
+  pub bytes-given : (n : ℕ) → makes set plan ≡ true → length (planText set plan) ≤ length buffer → n ≡ length (planText set plan) → writePlan set plan buffer ≡ Bytes n
+  unfolding writePlan
+  bytes-given n m h e = rw m (fitted-bytes buffer (planText set plan) h ∙ ap Bytes (sym e))
