@@ -21,21 +21,25 @@ use Rattle.refusals.specs.declared.Written.the-variants.{Bytes, Refused}
 use Rattle.tasks.specs.declared.set.TaskSet.{TaskSet}
 use Rattle.taskread.specs.declared.read.ReadAnswer.{ReadAnswer}
 use Rattle.refusals.specs.Leaves.{leaves}
+use Rattle.refusals.specs.Refused.{placeOf}
+use Rattle.planner.specs.Planner.{planOf}
 use Rattle.places.specs.Places.{placesIn}
 use Rattle.tasks_claims.proofs.Prefix.{read-looks-at}
 use Rattle.plan.specs.declared.plan.Plan.{Plan}
 use Rattle.plancheck.specs.Agrees.{makes}
 use Rattle.plantext.specs.Text.{planText, longestText}
 use Rattle.frames.specs.Table.{widthsOf, sum}
-use Rattle.taskread.specs.Read.{furthest}
+use Rattle.taskread.specs.Read.{furthest, readOf}
 use Rattle.plantext.specs.Fit.{fitted}
+use Rattle.planfile.specs.declared.file.FileAnswer.{FileAnswer}
 use Rattle.planfile.specs.File.{unless, refusedFile, plannedSet, filedOf}
 use Rattle.planfile.specs.Tool.{printed, answered}
 use Rattle.planfile.specs.OfFile.{whoOfFile, passOfFile, whoIn, passIn}
-use Rattle.planfile_claims.specs.Claims.{Determined, TextExact, WriteExactly, RefusedStoresNothing, PrefixEnough, AnsweredShort, SamePrinted, TextTells, TextTellsPlan, NothingCutOff}
+use Rattle.planfile_claims.specs.Claims.{Determined, TextExact, WriteExactly, RefusedStoresNothing, PrefixEnough, AnsweredShort, SamePrinted, TextTells, TextTellsPlan, NothingCutOff, PlacesFit}
 use Rattle.planfile_claims.proofs.AnswerLaws.{ask-tells, room-tells, bytes-tell, no-others, ask-given, room-given, bytes-given}
 use Rattle.planfile_claims.proofs.TellLaws.{same-count, told}
 use Rattle.planfile_claims.proofs.FieldLaws.{front-long, places-at, cache-at, fit-fields}
+use Rattle.planfile_claims.proofs.PlaceLaws.{read-few, plan-few}
 use Rattle.planfile_claims.proofs.CutLaws.{plan-whole, server-whole, placed-whole, processor-whole}
 use Rattle.plantext.proofs.LineLaws.{refusal-bytes}
 use Rattle.plantext.proofs.TextLaws.{text-short}
@@ -149,3 +153,19 @@ nothing-cut-off set plan full m =
       tasks = λ k some h. placed-whole set plan full m k some (omega (arith, h));
       processors = λ p some h. processor-whole set plan full m p some (omega (arith, h));
     }
+
+-- a refusal that is handed on keeps its place
+handed : (o : Outcome) (file : FileAnswer) (r : Refusal) → ((q : Refusal) → o ≡ RefusedBy q → placeOf q < 256) → (o ≡ Done → file .outcome ≡ RefusedBy r → placeOf r < 256)
+    → unless refusedFile o file .outcome ≡ RefusedBy r → placeOf r < 256
+handed Done file r here next e = next refl e
+handed (RefusedBy q) file r here next e = let same : q ≡ r = cc in here r (ap RefusedBy same)
+
+planned-places : (set : TaskSet) (r : Refusal) → plannedSet set .outcome ≡ RefusedBy r → placeOf r < 256
+unfolding plannedSet
+planned-places set r e = handed (planOf set .outcome) (record { outcome = Done; set = set; plan = planOf set .plan }) r (plan-few set) (λ d f. clash (cc)) e
+
+pub places-fit : PlacesFit
+unfolding filedOf widthsOf
+places-fit text r e =
+    let few : placeOf r < 256 = handed (readOf text .outcome) (plannedSet (readOf text .set)) r (read-few text) (λ d f. planned-places (readOf text .set) r f) e in
+    omega (arith, few)

@@ -2,4 +2,5 @@ pub mod TellLaws
 pub mod FieldLaws
 pub mod AnswerLaws
 pub mod CutLaws
+pub mod PlaceLaws
 pub mod Claims

@@ -8,6 +8,7 @@ use mathlib.Core.Path.{_≡_}
 use lib.ListN.{length, take, drop, getD}
 use Rattle.refusals.specs.declared.Refusal.{Refusal}
 use Rattle.refusals.specs.declared.Refusal.the-variants.{Ask, Room}
+use Rattle.refusals.specs.declared.Outcome.the-variants.{Refused as RefusedBy}
 use Rattle.refusals.specs.declared.Written.{Written}
 use Rattle.refusals.specs.declared.Written.the-variants.{Bytes, Refused}
 use Rattle.ring.specs.declared.clock.Tick.{Tick}
@@ -16,6 +17,7 @@ use Rattle.tasks.specs.Set.{mostTasks}
 use Rattle.frames.specs.Table.{fieldsIn, widthOf}
 use Rattle.frames.specs.declared.table.Frame.{Frame}
 use Rattle.refusals.specs.Leaves.{leaves}
+use Rattle.refusals.specs.Refused.{placeOf}
 use Rattle.ring.specs.declared.cover.Stand.{Stand}
 use Rattle.plan.specs.declared.plan.Plan.{Plan}
 use Rattle.plan.specs.declared.server.Server.{Server}
@@ -28,6 +30,7 @@ use Rattle.planfigures.specs.Figures.{serverFigures, placedFigures, processorFi
 use Rattle.plantext.specs.Text.{planFigures, planText, longestText}
 use Rattle.plantext.specs.Fit.{fitted, Fits}
 use Rattle.planfile.specs.Write.{writePlan}
+use Rattle.planfile.specs.File.{filedOf}
 use Rattle.planfile.specs.Tool.{answered}
 use Rattle.planfile.specs.OfFile.{whoIn, passIn}
 
@@ -154,3 +157,7 @@ pub record LinesInFields (set : TaskSet) (plan : Plan) : Type 0 where
 -- No digit of an accepted plan is cut off: every figure of its text fits its field. A set has room for the most tasks, by its type.
 abbrev pub NothingCutOff : Type 0
 NothingCutOff = (set : TaskSet) (plan : Plan) → length (set .tasks) ≡ mostTasks → makes set plan ≡ true → LinesInFields set plan
+
+-- The place of a refusal that a file meets, by reading it or by planning it, fits its field.
+abbrev pub PlacesFit : Type 0
+PlacesFit = (text : List ℕ) (r : Refusal) → filedOf text .outcome ≡ RefusedBy r → placeOf r < 16 ^ widthOf Frame.Refused 1
