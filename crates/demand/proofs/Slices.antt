@@ -1,13 +1,13 @@
 -- Loads in a slice that changes: what is stored past them leaves them, and a load stored behind them is one more.
 -- Assumes nothing.
 use Prim.Native.Nat.{ℕ, zero, suc, _+_, _*_, _≤_, _<_}
-use mathlib.Core.Path.{_≡_, refl, ap, ap₂, _∙_}
+use mathlib.Core.Path.{_≡_, refl, ap₂, _∙_}
 use mathlib.Core.List.{List, [], _∷_, _++_}
 use native.Mathlib.Omega.{arith}
 use lib.ListN.{length, set, getD, length-set}
 use lib.Seq.{getD-set-same, getD-set-other}
-use Rattle.demand.specs.Load.{Load, Sound, Small, Loaded, loadAt, loadsOf}
-use Rattle.demand.proofs.Demand.{loads-next, every-first}
+use Rattle.demand.specs.Load.{Load, loadAt, loadsOf}
+use Rattle.demand.proofs.Demand.{loads-next}
 
 -- slices that agree at a load's three places have the same load there
 pub load-same : (xs ys : List ℕ) (i : ℕ) → ((j : ℕ) → j < 3 * i + 3 → getD xs j 0 ≡ getD ys j 0) → loadAt xs i ≡ loadAt ys i
@@ -33,12 +33,6 @@ abbrev pub putLoad : (numbers : List ℕ) → (i : ℕ) → Load → List ℕ
 putLoad numbers i l = set (set (set numbers (3 * i) (l .cost)) (3 * i + 1) (l .deadline)) (3 * i + 2) (l .period)
 
 module _ (numbers : List ℕ) (i : ℕ) (l : Load) where
-  -- as many numbers as before
-  pub put-long : length (putLoad numbers i l) ≡ length numbers
-  put-long =
-      length-set (set (set numbers (3 * i) (l .cost)) (3 * i + 1) (l .deadline)) (3 * i + 2) (l .period) ∙
-      length-set (set numbers (3 * i) (l .cost)) (3 * i + 1) (l .deadline) ∙ length-set numbers (3 * i) (l .cost)
-
   -- the load stands there
   pub put-there : 3 * i + 3 ≤ length numbers → loadAt (putLoad numbers i l) i ≡ l
   put-there h =
@@ -64,13 +58,3 @@ module _ (numbers : List ℕ) (i : ℕ) (l : Load) where
   put-next h =
       loads-next (putLoad numbers i l) i ∙
       ap₂ (λ (ls : List Load) (k : Load). ls ++ (k ∷ [])) (put-keeps (omega arith)) (put-there h)
-
--- of a slice of loads the first i are one too
-pub loaded-first : (numbers : List ℕ) (n : ℕ) {i : ℕ} → i ≤ n → Loaded numbers n → Loaded numbers i
-loaded-first numbers n h w =
-    record {
-      there = omega (arith, w .there);
-      few = omega (arith, w .few);
-      sound = every-first numbers Sound n h (w .sound);
-      small = every-first numbers Small n h (w .small);
-    }

@@ -7,7 +7,7 @@ use native.Mathlib.Nat.{add-zero, add-assoc}
 use native.Mathlib.Numerals.{add-one}
 use native.Mathlib.Omega.{arith}
 use lib.ListN.{length, take, drop, getD, set, length-append, length-drop, take-append-drop}
-use lib.Seq.{take-set-le, drop-set-lt, drop-cons, getD-set-same, lt-length-set, length-take-le, take-at, take-append-add, take-append-le, drop-append-add, drop-append-le, drop-drop, set-split, take-suc}
+use lib.Seq.{take-set-le, drop-set-lt, drop-cons, getD-set-same, lt-length-set, length-take-le, take-at, drop-append-add, drop-drop, set-split, take-suc}
 use Rattle.digits.specs.Stored.{stored}
 
 -- nothing stored changes nothing
@@ -99,32 +99,3 @@ stored-three b at x y z m n p q h =
     ap₂ (λ (j k : ℕ). stored (stored (stored b at x) j y) k z) p q
     ∙ stored-stored (stored b at x) (at + length x) y z (omega (arith, stored-length b at x (omega arith)))
     ∙ stored-stored b at x (y ++ z) (omega (arith, length-append y z))
-
-regroup : (p q y r t : List ℕ) → (p ++ q) ++ (y ++ (r ++ t)) ≡ p ++ ((q ++ (y ++ r)) ++ t)
-regroup p q y r t = simp append-assoc
-
--- a text stored inside a stored text
-pub stored-inside : (b : List ℕ) (at : ℕ) (x : List ℕ) (k : ℕ) (y : List ℕ)
-    → k + length y ≤ length x → at + length x ≤ length b
-    → stored (stored b at x) (at + k) y ≡ stored b at (stored x k y)
-unfolding stored
-stored-inside b at x k y p h =
-    ap₂ (λ (l r : List ℕ). l ++ (y ++ r)) front back
-    ∙ regroup (take at b) (take k x) y (drop (k + length y) x) (drop (at + length x) b)
-    ∙ ap (λ (n : ℕ). take at b ++ ((take k x ++ (y ++ drop (k + length y) x)) ++ drop (at + n) b)) (sym (stored-length x k y p))
-  where
-    head : length (take at b) ≡ at
-    head = length-take-le at b (omega arith)
-
-    front : take (at + k) (take at b ++ (x ++ drop (at + length x) b)) ≡ take at b ++ take k x
-    front =
-        ap (λ (n : ℕ). take (n + k) (take at b ++ (x ++ drop (at + length x) b))) (sym head)
-        ∙ take-append-add (take at b) (x ++ drop (at + length x) b) k
-        ∙ ap (λ (l : List ℕ). take at b ++ l) (take-append-le k x (drop (at + length x) b) (omega arith))
-
-    back : drop (at + k + length y) (take at b ++ (x ++ drop (at + length x) b)) ≡ drop (k + length y) x ++ drop (at + length x) b
-    back =
-        ap (λ (n : ℕ). drop n (take at b ++ (x ++ drop (at + length x) b))) (add-assoc at k (length y))
-        ∙ ap (λ (n : ℕ). drop (n + (k + length y)) (take at b ++ (x ++ drop (at + length x) b))) (sym head)
-        ∙ drop-append-add (take at b) (x ++ drop (at + length x) b) (k + length y)
-        ∙ drop-append-le (k + length y) x (drop (at + length x) b) p

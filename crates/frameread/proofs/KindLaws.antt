@@ -12,7 +12,7 @@ use borrow.Author.Tests.{eq-eqb}
 use Rattle.frameread.specs.declared.Found.{Found}
 use Rattle.frames.specs.declared.table.Frame.{Frame}
 use Rattle.frames.specs.Table.{allFrames, indexOf}
-use Rattle.frameread.specs.Line.{formed, firstFormed, kindAt, closed}
+use Rattle.frameread.specs.Line.{formed, firstFormed, kindAt}
 use Rattle.laws.proofs.Tests.{never-true, true-false}
 use Rattle.frames.proofs.Tables.{at-index, kinds-differ}
 use Rattle.frameread.proofs.Formed.{formed-kinds}
@@ -59,19 +59,6 @@ kind-formed f text p = first-formed allFrames text f p
 pub kind-none : (text : List ℕ) → kindAt text ≡ Found.Nothing → (f : Frame) → formed f text ≡ false
 unfolding kindAt
 kind-none text p f = sym (at-index (λ (g : Frame). formed g text) false f) ∙ first-none allFrames text p (indexOf f)
-
--- a formed frame is the one found
-pub formed-kind : (f : Frame) (text : List ℕ) → formed f text ≡ true → kindAt text ≡ Found.Frame f
-formed-kind f text p = go (kindAt text) refl
-  where
-    go : (o : Found) → kindAt text ≡ o → kindAt text ≡ Found.Frame f
-    go (Found.Frame g) e = e ∙ ap Found.Frame (one-frame g f text (kind-formed g text e) p)
-    go Found.Nothing e = true-false (sym p ∙ kind-none text e f)
-
--- nothing is found at a text's end
-pub kind-nil : kindAt [] ≡ Found.Nothing
-unfolding kindAt firstFormed formed closed
-kind-nil = refl
 
 -- the search from one frame on: it ends there, or goes on behind it
 module _ (fs : List Frame) (text : List ℕ) (i : ℕ) (d : Frame) (h : i < length fs) where

@@ -13,7 +13,7 @@ use Rattle.demand.specs.Lawful.{Lawful}
 use Rattle.demand.specs.Passes.{Passes}
 use Rattle.demand.proofs.Demand.{jobs-full}
 use Rattle.demand.proofs.Supply.{supply-all}
-use Rattle.demand.proofs.Claims.{loads-lawful, alone-passes}
+use Rattle.demand.proofs.Claims.{alone-passes}
 use Rattle.verdict.proofs.Horizons.{own-lawful}
 use Rattle.verdict.proofs.Verdict.{passing-passes, passes-passing}
 use Rattle.tasks.specs.declared.set.Header.{Header}
@@ -31,11 +31,6 @@ total-demand H (l ∷ ls) e v =
     ap₂ (λ (j w : ℕ). l .cost * j + w) (jobs-full (l .deadline) (l .period) H (e .0 .due) (e .0 .constrained) (v .0)) (total-demand H ls (e .1) (v .1))
 
 module _ (h : Header) (ms : List Load) (ok : Every (Member h) ms) where
-  -- the demand is lawful under every multiple of the periods
-  pub server-lawful-at : (H : ℕ) → 1 ≤ H → Every (λ (l : Load). l .period ∣ H) ms → Lawful (serverDemand h ms) H
-  server-lawful-at H some v =
-      loads-lawful .lawful (serverLoads h ms) H (loads-sound h ms ok) some (loads-period h ms (λ (p : ℕ). p ∣ H) v)
-
   -- the horizon divides every multiple of the slot and the periods, and is at most each that is positive
   pub server-divides : (H : ℕ) → h .slot ∣ H → Every (λ (l : Load). l .period ∣ H) ms → serverHorizon h ms ∣ H
   server-divides H s v = own-divides (h .slot) (serverLoads h ms) H s (loads-period h ms (λ (p : ℕ). p ∣ H) v)

@@ -2,11 +2,11 @@
 use Prim.Native.Nat.{ℕ, zero, suc, _+_, _≤_, _<_}
 use native.Mathlib.Omega.{arith}
 use native.Mathlib.Nat.{le-of-suc-le-suc}
-use mathlib.Core.Path.{_≡_, refl, sym, ap, ap₂, _∙_}
+use mathlib.Core.Path.{_≡_, refl, ap, ap₂, _∙_}
 use mathlib.Core.Bool.{Bool, true, false}
 use mathlib.Core.List.{List, [], _∷_, _++_, map, append-nil}
 use lib.Dec.{eqb}
-use lib.ListN.{length, getD, length-map}
+use lib.ListN.{length, getD}
 use borrow.Author.Tests.{eq-eqb, ne-eqb}
 use Rattle.tasks.specs.Set.{mostTasks}
 use Rattle.places.specs.Places.{keep, placesFrom, placesIn, chosen}
@@ -95,12 +95,6 @@ pub places-read : {A : Type 0} (d : A) (xs : List A) (placement : List ℕ) (q :
     map (λ (i : ℕ). getD xs i d) (placesIn placement q) ≡ chosen xs placement q
 places-read d xs placement q h =
     from-reads (λ (i : ℕ). getD xs i d) d 0 xs placement q (λ i. ap (λ (j : ℕ). getD xs j d) (omega arith)) h
-
--- there are as many places as tasks
-pub places-length : {A : Type 0} (d : A) (xs : List A) (placement : List ℕ) (q : ℕ) → length placement ≤ length xs →
-    length (placesIn placement q) ≡ length (chosen xs placement q)
-places-length {A} d xs placement q h =
-    sym (length-map (placesIn placement q) (λ (i : ℕ). getD xs i d)) ∙ ap length (places-read d xs placement q h)
 
 -- one task more, in server a, from place k on
 from-more : (k : ℕ) (placement : List ℕ) (a q : ℕ) →

@@ -1,7 +1,7 @@
 -- Sums over the reserves in server order: where each ring server starts, how many have a whole processor, and the ring's length.
 -- Assumes nothing.
 use Prim.Native.Nat.{ℕ, zero, suc, _+_, _*_, _≤_, _<_, _^_}
-use mathlib.Core.Path.{_≡_, refl, sym, ap, _∙_}
+use mathlib.Core.Path.{_≡_, refl, ap}
 use mathlib.Core.Bool.{cond}
 use mathlib.Core.List.{List, [], _∷_, _++_}
 use mathlib.Core.Logic.{⊎-elim}
@@ -9,7 +9,7 @@ use native.Mathlib.Nat.{le-trans, le-refl, mul-le-mul-right}
 use native.Mathlib.Omega.{arith}
 use lib.Dec.{ltb}
 use lib.ListN.{length, getD, take, drop, take-append-drop}
-use lib.Seq.{take-suc, take-add, take-take, length-take-le, getD-take}
+use lib.Seq.{take-suc, take-take, length-take-le}
 use Rattle.laws.proofs.Orders.{le-or-lt}
 use Rattle.laws.proofs.Choices.{cond-ltb, cond-ltb-not}
 use Rattle.wholes.proofs.CeilingLaws.{ceiling-least}
@@ -77,15 +77,6 @@ module _ (S : ℕ) where
 
     pub ring-part : (i : ℕ) → ringTicks S (take i rs) ≤ ringTicks S rs
     ring-part i = sum-part (ringTicks S) (ringTerm S) ring-nil ring-cons i rs
-
-    -- the reserves up to a server and those after it
-    pub ring-split : (i : ℕ) → ringTicks S (take i rs) + ringTicks S (drop i rs) ≡ ringTicks S rs
-    ring-split i =
-        sym (sum-append (ringTicks S) (ringTerm S) ring-nil ring-cons (take i rs) (drop i rs)) ∙ ap (ringTicks S) (take-append-drop i rs)
-
-    pub ring-between : (q i : ℕ) → ringTicks S (take (q + i) rs) ≡ ringTicks S (take q rs) + ringTicks S (take i (drop q rs))
-    ring-between q i =
-        ap (ringTicks S) (take-add q i rs) ∙ sum-append (ringTicks S) (ringTerm S) ring-nil ring-cons (take q rs) (take i (drop q rs))
 
     pub wholes-same : (i : ℕ) → i < length rs → getD rs i 0 < S → wholes S (take (suc i) rs) ≡ wholes S (take i rs)
     wholes-same i h l =

@@ -1,6 +1,6 @@
 -- A server's members at their places among a file's tasks, as the code finds them, and what is left of them charged: the server's
 -- loads, with its horizon, for which the test may be asked.
-use Prim.Native.Nat.{ℕ, zero, suc, _+_, _*_, _^_, _≤_, _<_, _∣_}
+use Prim.Native.Nat.{ℕ, zero, suc, _+_, _*_, _^_, _≤_, _<_}
 use native.Mathlib.Omega.{arith}
 use mathlib.Core.Path.{_≡_, refl, sym, ap, ap₂, subst, _∙_}
 use mathlib.Core.Bool.{Bool, true, false}
@@ -30,7 +30,7 @@ use Rattle.places.proofs.PlacesLaws.{in-more, places-more, places-few, places-b
 use Rattle.members.specs.Charge.{numbersOf, cacheOf, chargedIn, serverLoads, serverLoss, membersAt, Member, Overheads, Charging, Timed}
 use Rattle.members.specs.Server.{serverDemand, serverHorizon, fits, passesWith, Filed}
 use Rattle.members.proofs.ServerLaws.{server-lawful}
-use Rattle.members.proofs.FiledLaws.{Below, placed-members, placed-periods, placed-charging, placed-testable, left-loads, left-long, left-loaded, left-timed, left-horizon}
+use Rattle.members.proofs.FiledLaws.{Below, placed-members, placed-periods, placed-charging, placed-testable, left-loads, left-loaded, left-timed, left-horizon}
 
 -- ---- the places of a server's tasks
 
@@ -184,9 +184,6 @@ module _ {h : Header} {figures : List ℕ} {m H : ℕ} {members : List Load} {pl
     same : h .cpmdo ≡ cacheOf h (membersAt figures (take n places))
     unfolding cacheOf
     same = refl
-
-    pub charged-length : length out ≡ 3 * mostTasks
-    charged-length = left-long h figures places n (h .cpmdo) b is same (w .there) enough ∙ room
 
     pub charged-loads : loadsOf out n ≡ serverLoads h members
     charged-loads = left-loads h figures places n (h .cpmdo) b is same (w .there) ∙ ap (serverLoads h) (w .is)

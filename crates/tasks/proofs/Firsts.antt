@@ -1,33 +1,16 @@
 -- Laws of the first task for which a test holds: at a task it holds, fails, or the tasks end.
-use Prim.Native.Nat.{ℕ, zero, suc, _+_, _≤_, _<_}
+use Prim.Native.Nat.{ℕ, zero, suc, _+_, _≤_}
 use native.Mathlib.Omega.{arith}
-use native.Mathlib.Numerals.{add-one}
 use mathlib.Core.List.{List, [], _∷_}
 use mathlib.Core.Bool.{Bool, true, false, cond}
 use mathlib.Core.Path.{_≡_, refl}
-use lib.ListN.{length, drop, getD, drop-of-length-le}
-use lib.Seq.{drop-cons}
+use lib.ListN.{length}
 use Rattle.tasks.specs.declared.set.Task.{Task}
 use Rattle.refusals.specs.declared.Refusal.{Refusal}
 use Rattle.refusals.specs.declared.Outcome.the-variants.{Done, Refused}
 use Rattle.tasks.specs.Search.{firstFrom, atTask}
 
 module _ (p : Task → Bool) where
-  -- the test holds at a task
-  pub first-here : (ts : List Task) (i k : ℕ) (z : Task) → i < length ts → p (getD ts i z) ≡ true → firstFrom p k (drop i ts) ≡ k
-  unfolding firstFrom
-  first-here ts i k z lt e = rw (drop-cons ts i z lt, e)
-
-  -- it fails, and the next is tried
-  pub first-more : (ts : List Task) (i k : ℕ) (z : Task) → i < length ts → p (getD ts i z) ≡ false → firstFrom p k (drop i ts) ≡ firstFrom p (k + 1) (drop (i + 1) ts)
-  unfolding firstFrom
-  first-more ts i k z lt e = rw (add-one i, add-one k, drop-cons ts i z lt, e)
-
-  -- no task is left
-  pub first-end : (ts : List Task) (i k : ℕ) → length ts ≤ i → firstFrom p k (drop i ts) ≡ 0
-  unfolding firstFrom
-  first-end ts i k le = rw (drop-of-length-le ts le)
-
   -- the first is one of them, or 0
   pub first-within : (k : ℕ) (ts : List Task) → firstFrom p k ts ≤ k + length ts
   unfolding firstFrom
