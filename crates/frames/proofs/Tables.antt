@@ -12,7 +12,7 @@ use lib.Seq.{getD-take, take-all}
 use borrow.Author.Tests.{leb-true, ltb-true, eqb-true}
 use Rattle.frames.specs.declared.table.Row.{Row}
 use Rattle.frames.specs.declared.table.Frame.{Frame}
-use Rattle.frames.specs.declared.table.Frame.the-variants.{Header, Task, Plan, Server, Placed, Processor, Refused}
+use Rattle.frames.specs.declared.table.Frame.the-variants.{Header, Task, Plan, Server, Placed, Processor, Refused, Switch}
 use Rattle.digits.specs.Digit.{legal, allLegal}
 use Rattle.frames.specs.Table.{allFrames, kindOf, widthsOf, fieldsIn, mostFields, mostWidth, mostDigits, sum, widthOf, fieldStart, lengthOf, front, rowOf, indexOf}
 use Rattle.laws.specs.Same.{same}
@@ -27,6 +27,7 @@ at-index g other Server = refl
 at-index g other Placed = refl
 at-index g other Processor = refl
 at-index g other Refused = refl
+at-index g other Switch = refl
 
 -- the table's entry at a frame's index is that frame's row
 pub row-at : (table : List Row) (other : Row) → table ≡ map rowOf allFrames → (frame : Frame) → getD table (indexOf frame) other ≡ rowOf frame

@@ -5,7 +5,7 @@ use mathlib.Core.List.{List, [], _∷_, _++_}
 use lib.ListN.{length, getD, take, replicate}
 use Rattle.frames.specs.declared.table.Row.{Row}
 use Rattle.frames.specs.declared.table.Frame.{Frame}
-use Rattle.frames.specs.declared.table.Frame.the-variants.{Header, Task, Plan, Server, Placed, Processor, Refused}
+use Rattle.frames.specs.declared.table.Frame.the-variants.{Header, Task, Plan, Server, Placed, Processor, Refused, Switch}
 
 -- the byte LF, which closes a line
 abbrev pub LF : ℕ
@@ -15,7 +15,7 @@ LF = 10
 abbrev pub Shape : Type 0
 Shape = List ℕ × List ℕ
 
--- the rows of the table: 01, 02, 11, 12, 13, 14, 1F
+-- the rows of the table: 01, 02, 11, 12, 13, 14, 1F, 21
 abbrev pub rows : List Shape
 rows =
     (48 ∷ 49 ∷ [], 2 ∷ 6 ∷ 4 ∷ 4 ∷ 4 ∷ 4 ∷ 4 ∷ [])
@@ -25,11 +25,12 @@ rows =
     ∷ (49 ∷ 51 ∷ [], 2 ∷ 2 ∷ [])
     ∷ (49 ∷ 52 ∷ [], 2 ∷ 2 ∷ 6 ∷ [])
     ∷ (49 ∷ 70 ∷ [], 2 ∷ 2 ∷ [])
+    ∷ (50 ∷ 49 ∷ [], 8 ∷ 2 ∷ 2 ∷ [])
     ∷ []
 
 -- the frames in the table's order
 abbrev pub allFrames : List Frame
-allFrames = Header ∷ Task ∷ Plan ∷ Server ∷ Placed ∷ Processor ∷ Refused ∷ []
+allFrames = Header ∷ Task ∷ Plan ∷ Server ∷ Placed ∷ Processor ∷ Refused ∷ Switch ∷ []
 
 -- the index of a frame in the table
 abbrev pub indexOf : Frame → ℕ
@@ -40,6 +41,7 @@ indexOf Server = 3
 indexOf Placed = 4
 indexOf Processor = 5
 indexOf Refused = 6
+indexOf Switch = 7
 
 unfoldable pub kindOf : Frame → List ℕ
 kindOf frame = getD rows (indexOf frame) ([], []) .0

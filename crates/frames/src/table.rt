@@ -12,10 +12,11 @@ pub enum Frame {
     Placed,
     Processor,
     Refused,
+    Switch,
 }
 
 // The number of kinds, and the most fields that one of them has.
-pub const KINDS: usize = 7;
+pub const KINDS: usize = 8;
 
 pub const MOST_FIELDS: usize = 7;
 
@@ -35,6 +36,7 @@ pub const FRAMES: [Frame; KINDS] = [
     Frame::Placed,
     Frame::Processor,
     Frame::Refused,
+    Frame::Switch,
 ];
 
 pub const TABLE: [Row; KINDS] = [
@@ -80,6 +82,12 @@ pub const TABLE: [Row; KINDS] = [
         widths: [2, 2, 0, 0, 0, 0, 0],
         starts: [2, 4, 6, 6, 6, 6, 6, 6],
     },
+    Row {
+        kind: *b"21",
+        fields: 3,
+        widths: [8, 2, 2, 0, 0, 0, 0],
+        starts: [2, 10, 12, 14, 14, 14, 14, 14],
+    },
 ];
 
 // The index of a frame in the table.
@@ -94,6 +102,7 @@ fn index(frame: Frame) -> usize
         Frame::Placed => 4,
         Frame::Processor => 5,
         Frame::Refused => 6,
+        Frame::Switch => 7,
     }
 }
 

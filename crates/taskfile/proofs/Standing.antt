@@ -46,6 +46,7 @@ tag-index Frame.Server = refl
 tag-index Frame.Placed = refl
 tag-index Frame.Processor = refl
 tag-index Frame.Refused = refl
+tag-index Frame.Switch = refl
 
 -- the tags of the frames that are none of a task file's
 abbrev otherTags : List ℕ
