@@ -1,0 +1,61 @@
+-- What is promised of the switch list of a plan and of a task file, in the words of document 02, Req 01.
+-- The proofs stand in proofs/Claims.antt, one for each claim.
+use Prim.Native.Nat.{ℕ, _*_, _%_, _≤_, _<_}
+use mathlib.Core.Path.{_≡_}
+use mathlib.Core.List.{List, []}
+use mathlib.Core.Bool.{true, false}
+use mathlib.Core.Logic.{_↔_}
+use lib.ListN.{length}
+use Rattle.refusals.specs.declared.Refusal.the-variants.{Ask, Room}
+use Rattle.refusals.specs.declared.Outcome.the-variants.{Done}
+use Rattle.refusals.specs.declared.Written.the-variants.{Bytes, Refused}
+use Rattle.tasks.specs.declared.set.TaskSet.{TaskSet}
+use Rattle.ring.specs.declared.clock.Tick.{Tick}
+use Rattle.turn.specs.Switches.{turnSwitches}
+use Rattle.turncount.specs.Count.{longestSwitches}
+use Rattle.turn_claims.specs.List.{named}
+use Rattle.plan.specs.declared.plan.Plan.{Plan}
+use Rattle.plan.specs.Plan.{reservesIn}
+use Rattle.plancheck.specs.Agrees.{makes}
+use Rattle.whoruns.specs.WhoRuns.{whoRuns}
+use Rattle.planfile.specs.File.{filedOf}
+use Rattle.planfile.specs.OfFile.{whoIn}
+use Rattle.switchlist.specs.Write.{planSwitches, writeSwitches}
+use Rattle.switchfile.specs.OfFile.{listed}
+
+-- rows 11 and 12, exactly: ASK where the planner does not make the plan of the set; ROOM where it does and the buffer is shorter than the
+-- text; else the text's length
+pub record WritesSwitches (set : TaskSet) (plan : Plan) (buffer : List ℕ) : Type 0 where
+  pub ask : (writeSwitches set plan buffer ≡ Refused Ask) ↔ (makes set plan ≡ false)
+  pub room : (writeSwitches set plan buffer ≡ Refused Room) ↔ ((makes set plan ≡ true) × (length buffer < length (planSwitches plan)))
+  pub bytes : (n : ℕ) → (writeSwitches set plan buffer ≡ Bytes n) ↔
+      ((makes set plan ≡ true) × (length (planSwitches plan) ≤ length buffer) × (length (planSwitches plan) ≡ n))
+
+abbrev pub SwitchesWritten : Type 0
+SwitchesWritten = (set : TaskSet) (plan : Plan) (buffer : List ℕ) → WritesSwitches set plan buffer
+
+-- a plan with r = 0 gives no lines, and that is no refusal
+abbrev pub NoRingNoLines : Type 0
+NoRingNoLines =
+    (set : TaskSet) (plan : Plan) (buffer : List ℕ) → makes set plan ≡ true → plan .ring ≡ 0 →
+    (planSwitches plan ≡ []) × (writeSwitches set plan buffer ≡ Bytes 0)
+
+-- loaded and repeated every r·S ticks, a plan's list names whom the question "who runs" names, on every ring processor at every tick
+abbrev pub BootList : Type 0
+BootList =
+    (set : TaskSet) (plan : Plan) (p x : ℕ) → makes set plan ≡ true → 1 ≤ p → p ≤ plan .ring →
+    named (turnSwitches (plan .slot) (reservesIn plan)) p (x % (plan .ring * plan .slot)) ≡ whoRuns set plan p (record { 0 = x }) .server
+
+-- the same of a task file
+abbrev pub BootListOfFile : Type 0
+BootListOfFile =
+    (text : List ℕ) (p x : ℕ) → filedOf text .outcome ≡ Done → 1 ≤ p → p ≤ filedOf text .plan .ring →
+    named (turnSwitches (filedOf text .plan .slot) (reservesIn (filedOf text .plan))) p (x % (filedOf text .plan .ring * filedOf text .plan .slot))
+    ≡ whoIn text p (record { 0 = x }) .server
+
+-- a buffer of the most bytes never meets ROOM
+abbrev pub EnoughRoom : Type 0
+EnoughRoom = (set : TaskSet) (plan : Plan) → makes set plan ≡ true → length (planSwitches plan) ≤ longestSwitches
+
+abbrev pub EnoughRoomOfFile : Type 0
+EnoughRoomOfFile = (text buffer : List ℕ) → longestSwitches ≤ length buffer → listed text buffer ≡ Refused Room → ⊥
