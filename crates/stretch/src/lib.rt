@@ -1,5 +1,5 @@
 // The stretch that follows another on the ring: the next ring server's reserve, or the idle positions behind the last.
-// What it is stands in specs/Stretch.antt. Server 0 is the idle stretch.
+// What it is stands in turn's specs/Stretch.antt. Server 0 is the idle stretch.
 use ring::clock::Position;
 use ring::cover::Stand;
 use ring::cover::stand_at;
@@ -7,7 +7,7 @@ ghost use mathlib.Core.Path.{_≡_};
 ghost use lib.ListN.{take};
 ghost use Rattle.reserves.specs.Slotted.{SlottedFirst};
 ghost use Rattle.reserves.specs.Reserves.{idlePositions};
-ghost use Rattle.stretch.specs.Stretch.{standAfter, Stretched};
+ghost use Rattle.turn.specs.Stretch.{standAfter, Stretched};
 
 // Behind the last reserve come the idle positions, and where there are none the ring begins again.
 pub fn stand_after(reserves: &[u64], n: usize, slot: u64, idle: u64, server: u64) -> Stand

@@ -12,7 +12,7 @@ use Rattle.refusals.specs.declared.Written.the-variants.{Bytes, Refused}
 use Rattle.tasks.specs.declared.set.TaskSet.{TaskSet}
 use Rattle.ring.specs.declared.clock.Tick.{Tick}
 use Rattle.turn.specs.Switches.{turnSwitches}
-use Rattle.turncount.specs.Count.{longestSwitches}
+use Rattle.turn.specs.Count.{longestSwitches}
 use Rattle.turn_claims.specs.List.{named}
 use Rattle.plan.specs.declared.plan.Plan.{Plan}
 use Rattle.plan.specs.Plan.{reservesIn}

@@ -1,2 +1,3 @@
+pub mod Stretch
 pub mod Switches
-pub mod Walk
+pub mod Count

@@ -13,7 +13,7 @@ use Rattle.reserves.specs.Reserves.{ringProcessors, ringLength}
 use Rattle.ring.specs.Who.{whoOf}
 use Rattle.ring_claims.specs.Slotted.{Slotted}
 use Rattle.turn.specs.Switches.{Switch, runs, turnSwitches, switchText}
-use Rattle.turncount.specs.Count.{switchCount, longestSwitches}
+use Rattle.turn.specs.Count.{switchCount, longestSwitches}
 use Rattle.turn_claims.specs.List.{Begins, switchAt, StandsIn, Earlier, named}
 
 -- each switch and none missing: a switch stands in the list exactly when its processor begins its server then

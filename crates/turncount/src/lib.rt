@@ -1,11 +1,11 @@
-// How many switches a turn has, without walking through it. What they are stands in specs/Count.antt.
+// How many switches a turn has, without walking through it. What they are stands in turn's specs/Count.antt.
 use reserves::sums::whole_count;
 use ring::who::first;
 use turn::Turn;
 ghost use mathlib.Core.Path.{_≡_};
 ghost use lib.ListN.{take};
-ghost use Rattle.turn.specs.Walk.{Laid};
-ghost use Rattle.turncount.specs.Count.{amid, stretches, switchCount};
+ghost use Rattle.turn.specs.Stretch.{Laid};
+ghost use Rattle.turn.specs.Count.{amid, stretches, switchCount};
 
 // The ring processors that start amid a reserve.
 fn amid_count(reserves: &[u64], turn: Turn) -> u64

@@ -5,9 +5,11 @@ use mathlib.Core.Path.{_≡_}
 use mathlib.Core.List.{List}
 use lib.ListN.{length, take}
 use Rattle.reserves.specs.Slotted.{SlottedFirst}
-use Rattle.reserves.specs.Reserves.{reserveOf, startOf, ringLength, idlePositions}
+use Rattle.tasks.specs.Set.{mostProcessors}
+use Rattle.reserves.specs.Reserves.{reserveOf, startOf, ringProcessors, ringLength, idlePositions}
 use Rattle.ring.specs.declared.cover.Stand.{Stand}
 use Rattle.ring.specs.Cover.{standAt}
+use Rattle.turn.specs.declared.Turn.{Turn}
 
 -- where a stretch ends: that of a server at its start plus its reserve, the idle one at the ring's end
 abbrev pub endOf : (S : ℕ) (reserves : List ℕ) (q : ℕ) → ℕ
@@ -23,3 +25,10 @@ pub record Stretched (S : ℕ) (reserves : List ℕ) (q : ℕ) : Type 0 where
   pub there : q ≤ length reserves
   pub idle : q ≡ 0 → 1 ≤ idlePositions S reserves
   pub ring : 1 ≤ q → reserveOf reserves q < S
+
+-- the figures of a turn are those of the ring that is laid of the first reserves
+pub record Laid (turn : Turn) (reserves : List ℕ) : Type 0 where
+  pub slotted : SlottedFirst (turn .slot) reserves (turn .servers)
+  pub ring : turn .ring ≡ ringProcessors (turn .slot) (take (turn .servers) reserves)
+  pub idle : turn .idle ≡ idlePositions (turn .slot) (take (turn .servers) reserves)
+  pub few : turn .ring ≤ mostProcessors

@@ -2,20 +2,9 @@
 use Prim.Native.Nat.{ℕ, zero, suc, min, _+_, _≤_, _<_}
 use mathlib.Core.Path.{_≡_}
 use mathlib.Core.List.{List}
-use lib.ListN.{length, take, getD}
-use Rattle.tasks.specs.Set.{mostProcessors}
-use Rattle.reserves.specs.Slotted.{SlottedFirst}
-use Rattle.reserves.specs.Reserves.{ringProcessors, idlePositions}
+use lib.ListN.{length, getD}
 use Rattle.ring.specs.Who.{whoOf}
-use Rattle.turn.specs.declared.Turn.{Turn}
 use Rattle.turn.specs.Switches.{runs}
-
--- the figures of a turn are those of the ring that is laid of these reserves
-pub record Laid (turn : Turn) (reserves : List ℕ) : Type 0 where
-  pub slotted : SlottedFirst (turn .slot) reserves (turn .servers)
-  pub ring : turn .ring ≡ ringProcessors (turn .slot) (take (turn .servers) reserves)
-  pub idle : turn .idle ≡ idlePositions (turn .slot) (take (turn .servers) reserves)
-  pub few : turn .ring ≤ mostProcessors
 
 -- the server that runs right before tick x, and until when; before tick 0 nobody runs, until tick 0
 abbrev pub serverBefore : (S : ℕ) (reserves : List ℕ) (p x : ℕ) → ℕ

@@ -1,0 +1,99 @@
+// The switches of one turn of the ring as text, written from switch to switch: the time goes with the lines and the processors.
+// What they are stands in turn's specs/Switches.antt, what is carried from switch to switch in specs/Walk.antt.
+use frames::table::Frame;
+use framesizes::length;
+use framewrite::put_line;
+use ring::clock::Tick;
+use ring::cover::Stand;
+use ring::who::who;
+use stretch::stand_after;
+use tasks::set::TaskSet;
+use turn::Turn;
+ghost use mathlib.Core.Path.{_≡_};
+ghost use Prim.Native.Nat.{suc, _+_, _*_, _≤_, _<_};
+ghost use lib.ListN.{length as count, take};
+ghost use Rattle.digits.specs.Stored.{stored};
+ghost use Rattle.ring.specs.Who.{whoOf};
+ghost use Rattle.turn.specs.Switches.{switchesAt, switchLines, switchText};
+ghost use Rattle.turn.specs.Stretch.{Laid};
+ghost use Rattle.walk.specs.Walk.{serverBefore, untilBefore, leastOf, Carried};
+
+// Where the next line goes, and the tick of the next switch, or the turn's end.
+struct Next {
+    at: usize,
+    tick: u64,
+}
+
+// What runs on a processor from a tick on where it begins: at tick 0 its first reserve, later what follows the server before.
+fn begun(reserves: &[u64], turn: Turn, processor: u64, tick: u64, before: u64) -> Stand
+    requires { ⌜ Laid turn (now reserves) × (1 ≤ processor) × (processor ≤ turn .ring) ⌝ }
+    requires { ⌜ before ≡ serverBefore (turn .slot) (take (turn .servers) (now reserves)) processor tick ⌝ }
+    requires { ⌜ tick ≡ untilBefore (turn .slot) (take (turn .servers) (now reserves)) processor tick ⌝ }
+    ensures { λ r. ⌜ r ≡ whoOf (turn .slot) (take (turn .servers) (now (reserves .entry))) processor (record { 0 = tick }) ⌝ }
+{
+    if tick == 0 {
+        return who(reserves, turn.servers, turn.slot, processor, Tick(0));
+    }
+    stand_after(reserves, turn.servers, turn.slot, turn.idle, before)
+}
+
+// Writes the lines of a tick, and carries every processor past it.
+fn put_tick(
+    out: &mut [u8],
+    at: usize,
+    servers: &mut [u64],
+    until: &mut [u64],
+    reserves: &[u64],
+    turn: Turn,
+    tick: u64,
+) -> Next
+    requires { ⌜ Laid turn (now reserves) × (tick < turn .ring * turn .slot) ⌝ }
+    requires { ⌜ Carried (turn .slot) (take (turn .servers) (now reserves)) tick 0 (turn .ring) (now servers) (now until) ⌝ }
+    requires { ⌜ at + count (switchLines (switchesAt (turn .slot) (take (turn .servers) (now reserves)) tick (turn .ring))) ≤ count (now out) ⌝ }
+    ensures { λ r. ⌜ r ≡ record { at = at + count (switchLines (switchesAt (turn .slot) (take (turn .servers) (now (reserves .entry))) tick (turn .ring))); tick = leastOf (λ p. untilBefore (turn .slot) (take (turn .servers) (now (reserves .entry))) p (suc tick)) (turn .ring * turn .slot) (turn .ring) } ⌝ }
+    ensures { λ r. ⌜ now (out .exit) ≡ stored (now (out .entry)) at (switchLines (switchesAt (turn .slot) (take (turn .servers) (now (reserves .entry))) tick (turn .ring))) ⌝ }
+    ensures { λ r. ⌜ Carried (turn .slot) (take (turn .servers) (now (reserves .entry))) (suc tick) 0 (turn .ring) (now (servers .exit)) (now (until .exit)) ⌝ }
+{
+    let bytes = length(Frame::Switch) + 1;
+    let ring = turn.ring as usize;
+    let mut next = at;
+    let mut least = turn.ring * turn.slot;
+    let mut i = 0;
+    while i < ring {
+        if until[i] == tick {
+            let processor = i as u64 + 1;
+            let stand = begun(reserves, turn, processor, tick, servers[i]);
+            let figures = [tick, processor, stand.server];
+            put_line(out, next, Frame::Switch, &figures);
+            next += bytes;
+            servers[i] = stand.server;
+            until[i] = tick + stand.left;
+        }
+        if until[i] < least {
+            least = until[i];
+        }
+        i += 1;
+    }
+    Next {
+        at: next,
+        tick: least,
+    }
+}
+
+// Writes the lines of a turn.
+pub fn put_turn(out: &mut [u8], reserves: &[u64], turn: Turn)
+    requires { ⌜ Laid turn (now reserves) ⌝ }
+    requires { ⌜ count (switchText (turn .slot) (take (turn .servers) (now reserves))) ≤ count (now out) ⌝ }
+    ensures { λ r. ⌜ now (out .exit) ≡ stored (now (out .entry)) 0 (switchText (turn .slot) (take (turn .servers) (now (reserves .entry)))) ⌝ }
+{
+    let end = turn.ring * turn.slot;
+    let mut servers = [0u64; TaskSet::MOST_PROCESSORS as usize];
+    let mut until = [0u64; TaskSet::MOST_PROCESSORS as usize];
+    let mut at = 0;
+    let mut tick = 0;
+    while tick < end {
+        let next = put_tick(out, at, &mut servers, &mut until, reserves, turn, tick);
+        at = next.at;
+        tick = next.tick;
+    }
+}
