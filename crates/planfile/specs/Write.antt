@@ -2,15 +2,12 @@
 -- Document 01, rows 11 and 12 of the refusals.
 use Prim.Native.Nat.{ℕ}
 use mathlib.Core.List.{List}
-use mathlib.Core.Bool.{cond}
-use Rattle.refusals.specs.declared.Refusal.the-variants.{Ask}
 use Rattle.refusals.specs.declared.Written.{Written}
-use Rattle.refusals.specs.declared.Written.the-variants.{Refused}
 use Rattle.tasks.specs.declared.set.TaskSet.{TaskSet}
 use Rattle.plan.specs.declared.plan.Plan.{Plan}
 use Rattle.plancheck.specs.Agrees.{makes}
 use Rattle.plantext.specs.Text.{planText}
-use Rattle.plantext.specs.Fit.{fitted}
+use Rattle.plantext.specs.Fit.{writeOf}
 
-unfoldable pub writePlan : TaskSet → Plan → (buffer : List ℕ) → Written
-writePlan set plan buffer = cond (makes set plan) (fitted buffer (planText set plan)) (Refused Ask)
+abbrev pub writePlan : TaskSet → Plan → (buffer : List ℕ) → Written
+writePlan set plan buffer = writeOf (makes set plan) buffer (planText set plan)

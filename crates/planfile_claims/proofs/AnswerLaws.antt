@@ -1,10 +1,11 @@
--- What writing a plan answers, by two tests: whether the planner makes it, and whether the buffer is too short for its text.
+-- What writing a text of a plan answers, by two tests: whether the planner makes the plan, and whether the buffer is too short for its text.
 -- Assumes nothing.
 use Prim.Native.Nat.{ℕ, _≤_, _<_}
 use mathlib.Core.Path.{_≡_, refl, sym, _∙_, ap}
 use mathlib.Core.List.{List}
 use mathlib.Core.Bool.{Bool, true, false, cond}
 use mathlib.Core.Logic.{_⊎_, inl, inr}
+use native.Mathlib.Omega.{arith}
 use lib.Dec.{ltb}
 use lib.ListN.{length}
 use borrow.Author.Tests.{ltb-true, ltb-false}
@@ -13,13 +14,9 @@ use Rattle.refusals.specs.declared.Refusal.{Refusal}
 use Rattle.refusals.specs.declared.Refusal.the-variants.{Ask, Room}
 use Rattle.refusals.specs.declared.Written.{Written}
 use Rattle.refusals.specs.declared.Written.the-variants.{Bytes, Refused}
-use Rattle.tasks.specs.declared.set.TaskSet.{TaskSet}
-use Rattle.plan.specs.declared.plan.Plan.{Plan}
-use Rattle.plancheck.specs.Agrees.{makes}
-use Rattle.plantext.specs.Text.{planText}
-use Rattle.plantext.specs.Fit.{fitted}
+use Rattle.plantext.specs.Fit.{fitted, writeOf}
 use Rattle.plantext.proofs.FitLaws.{fitted-room, fitted-bytes}
-use Rattle.planfile.specs.Write.{writePlan}
+use Rattle.planfile_claims.specs.Claims.{RowsExactly}
 
 -- what the writer answers, by whether the planner makes the plan and whether the buffer is too short for n bytes
 abbrev by-tests : (made short : Bool) (n : ℕ) → Written
@@ -45,45 +42,55 @@ two-only true true n r e = inr (cc)
 two-only true false n r e = clash (cc)
 two-only false t n r e = inl (cc)
 
-module _ (set : TaskSet) (plan : Plan) (buffer : List ℕ) where
-  made : Bool
-  made = makes set plan
-
-  size : ℕ
-  size = length (planText set plan)
-
+module _ (made : Bool) (buffer text : List ℕ) where
   short : Bool
-  short = ltb (length buffer) size
+  short = ltb (length buffer) (length text)
 
-  write-is : writePlan set plan buffer ≡ by-tests made short size
-  unfolding writePlan fitted made short size
+  write-is : writeOf made buffer text ≡ by-tests made short (length text)
+  unfolding writeOf fitted short
   write-is = refl
 
   -- each answer tells what holds
-  pub ask-tells : writePlan set plan buffer ≡ Refused Ask → makes set plan ≡ false
-  unfolding made
-  ask-tells e = ask-only made short size (sym write-is ∙ e)
+  ask-tells : writeOf made buffer text ≡ Refused Ask → made ≡ false
+  ask-tells e = ask-only made short (length text) (sym write-is ∙ e)
 
-  pub room-tells : writePlan set plan buffer ≡ Refused Room → (makes set plan ≡ true) × (length buffer < length (planText set plan))
-  unfolding made size short
-  room-tells e = let only = short-only made short size (sym write-is ∙ e) in (only .0, ltb-true (length buffer) size (only .1))
+  room-tells : writeOf made buffer text ≡ Refused Room → (made ≡ true) × (length buffer < length text)
+  unfolding short
+  room-tells e = let only = short-only made short (length text) (sym write-is ∙ e) in (only .0, ltb-true (length buffer) (length text) (only .1))
 
-  pub bytes-tell : (n : ℕ) → writePlan set plan buffer ≡ Bytes n → (makes set plan ≡ true) × ((length (planText set plan) ≤ length buffer) × (n ≡ length (planText set plan)))
-  unfolding made size short
-  bytes-tell n e = let only = bytes-only made short size n (sym write-is ∙ e) in (only .0, (ltb-false (length buffer) size (only .1 .0), only .1 .1))
+  bytes-tell : (n : ℕ) → writeOf made buffer text ≡ Bytes n → (made ≡ true) × ((length text ≤ length buffer) × (n ≡ length text))
+  unfolding short
+  bytes-tell n e =
+      let only = bytes-only made short (length text) n (sym write-is ∙ e) in
+      (only .0, (ltb-false (length buffer) (length text) (only .1 .0), only .1 .1))
 
-  pub no-others : (r : Refusal) → writePlan set plan buffer ≡ Refused r → (r ≡ Ask) ⊎ (r ≡ Room)
-  no-others r e = two-only made short size r (sym write-is ∙ e)
+  no-others : (r : Refusal) → writeOf made buffer text ≡ Refused r → (r ≡ Ask) ⊎ (r ≡ Room)
+  no-others r e = two-only made short (length text) r (sym write-is ∙ e)
 
   -- and what holds gives the answer
-  pub ask-given : makes set plan ≡ false → writePlan set plan buffer ≡ Refused Ask
-  unfolding writePlan
+  ask-given : made ≡ false → writeOf made buffer text ≡ Refused Ask
+  unfolding writeOf
   ask-given m = rw m
 
-  pub room-given : makes set plan ≡ true → length buffer < length (planText set plan) → writePlan set plan buffer ≡ Refused Room
-  unfolding writePlan
-  room-given m h = rw m (fitted-room buffer (planText set plan) h)
+  room-given : made ≡ true → length buffer < length text → writeOf made buffer text ≡ Refused Room
+  unfolding writeOf
+  room-given m h = rw m (fitted-room buffer text h)
 
-  pub bytes-given : (n : ℕ) → makes set plan ≡ true → length (planText set plan) ≤ length buffer → n ≡ length (planText set plan) → writePlan set plan buffer ≡ Bytes n
-  unfolding writePlan
-  bytes-given n m h e = rw m (fitted-bytes buffer (planText set plan) h ∙ ap Bytes (sym e))
+  bytes-given : (n : ℕ) → made ≡ true → length text ≤ length buffer → n ≡ length text → writeOf made buffer text ≡ Bytes n
+  unfolding writeOf
+  bytes-given n m h e = rw m (fitted-bytes buffer text h ∙ ap Bytes (sym e))
+
+  pub rows-exactly : RowsExactly made buffer text (writeOf made buffer text)
+  rows-exactly =
+      record {
+        ask = (ask-tells, ask-given);
+        room = (
+          λ e. let told = room-tells e in (told .0, omega (arith, told .1)),
+          λ h. room-given (h .0) (omega (arith, h .1)),
+        );
+        bytes = λ n. (
+          λ e. let told = bytes-tell n e in (told .0, (omega (arith, told .1 .0), omega (arith, told .1 .1))),
+          λ h. bytes-given n (h .0) (omega (arith, h .1 .0)) (omega (arith, h .1 .1)),
+        );
+        others = no-others;
+      }

@@ -36,7 +36,7 @@ use Rattle.planfile.specs.File.{unless, refusedFile, plannedSet, filedOf}
 use Rattle.planfile.specs.Tool.{printed, answered}
 use Rattle.planfile.specs.OfFile.{whoOfFile, passOfFile, whoIn, passIn}
 use Rattle.planfile_claims.specs.Claims.{Determined, TextExact, WriteExactly, RefusedStoresNothing, PrefixEnough, AnsweredShort, SamePrinted, TextTells, TextTellsPlan, NothingCutOff, PlacesFit}
-use Rattle.planfile_claims.proofs.AnswerLaws.{ask-tells, room-tells, bytes-tell, no-others, ask-given, room-given, bytes-given}
+use Rattle.planfile_claims.proofs.AnswerLaws.{rows-exactly}
 use Rattle.planfile_claims.proofs.TellLaws.{same-count, told}
 use Rattle.planfile_claims.proofs.FieldLaws.{front-long, places-at, cache-at, fit-fields}
 use Rattle.planfile_claims.proofs.PlaceLaws.{read-few, plan-few}
@@ -71,19 +71,7 @@ text-exact =
     }
 
 pub write-exactly : WriteExactly
-write-exactly =
-    record {
-      ask = λ set plan buffer. (ask-tells set plan buffer, ask-given set plan buffer);
-      room = λ set plan buffer. (
-        λ e. let told = room-tells set plan buffer e in (told .0, omega (arith, told .1)),
-        λ h. room-given set plan buffer (h .0) (omega (arith, h .1)),
-      );
-      bytes = λ set plan buffer n. (
-        λ e. let told = bytes-tell set plan buffer n e in (told .0, (omega (arith, told .1 .0), omega (arith, told .1 .1))),
-        λ h. bytes-given set plan buffer n (h .0) (omega (arith, h .1 .0)) (omega (arith, h .1 .1)),
-      );
-      others = no-others;
-    }
+write-exactly set plan buffer = rows-exactly (makes set plan) buffer (planText set plan)
 
 pub refused-stores-nothing : RefusedStoresNothing
 refused-stores-nothing =

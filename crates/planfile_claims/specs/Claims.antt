@@ -2,7 +2,7 @@
 -- Document 01, "Lines of hexadecimal", rows 11 and 12 of the refusals and "How tight each promise is".
 use Prim.Native.Nat.{ℕ, _+_, _^_, _≤_, _<_}
 use mathlib.Core.List.{List, _++_}
-use mathlib.Core.Bool.{true, false}
+use mathlib.Core.Bool.{Bool, true, false}
 use mathlib.Core.Logic.{_↔_, _⊎_}
 use mathlib.Core.Path.{_≡_}
 use lib.ListN.{length, take, drop, getD}
@@ -55,15 +55,16 @@ pub record TextExact : Type 0 where
   pub room : (buffer text : List ℕ) → length buffer < length text → fitted buffer text ≡ Refused Room
   pub room-only : (buffer text : List ℕ) (r : Refusal) → fitted buffer text ≡ Refused r → (r ≡ Room) × (length buffer < length text)
 
--- Writing a plan: row 11 exactly where the planner does not make that plan of that set; row 12 exactly where it does and the buffer is
--- shorter than the text. A number of bytes exactly where neither holds, and it is the text's length. No other refusal is given.
-pub record WriteExactly : Type 0 where
-  pub ask : (set : TaskSet) (plan : Plan) (buffer : List ℕ) → (writePlan set plan buffer ≡ Refused Ask) ↔ (makes set plan ≡ false)
-  pub room : (set : TaskSet) (plan : Plan) (buffer : List ℕ) →
-      (writePlan set plan buffer ≡ Refused Room) ↔ ((makes set plan ≡ true) × (length buffer < length (planText set plan)))
-  pub bytes : (set : TaskSet) (plan : Plan) (buffer : List ℕ) (n : ℕ) →
-      (writePlan set plan buffer ≡ Bytes n) ↔ ((makes set plan ≡ true) × ((length (planText set plan) ≤ length buffer) × (n ≡ length (planText set plan))))
-  pub others : (set : TaskSet) (plan : Plan) (buffer : List ℕ) (r : Refusal) → writePlan set plan buffer ≡ Refused r → (r ≡ Ask) ⊎ (r ≡ Room)
+-- Writing a text of a plan: row 11 exactly where the planner does not make that plan of that set; row 12 exactly where it does and the
+-- buffer is shorter than the text. A number of bytes exactly where neither holds, and it is the text's length. No other refusal is given.
+pub record RowsExactly (made : Bool) (buffer text : List ℕ) (answer : Written) : Type 0 where
+  pub ask : (answer ≡ Refused Ask) ↔ (made ≡ false)
+  pub room : (answer ≡ Refused Room) ↔ ((made ≡ true) × (length buffer < length text))
+  pub bytes : (n : ℕ) → (answer ≡ Bytes n) ↔ ((made ≡ true) × ((length text ≤ length buffer) × (n ≡ length text)))
+  pub others : (r : Refusal) → answer ≡ Refused r → (r ≡ Ask) ⊎ (r ≡ Room)
+
+abbrev pub WriteExactly : Type 0
+WriteExactly = (set : TaskSet) (plan : Plan) (buffer : List ℕ) → RowsExactly (makes set plan) buffer (planText set plan) (writePlan set plan buffer)
 
 -- A refused write stores nothing.
 pub record RefusedStoresNothing : Type 0 where

@@ -3,14 +3,15 @@
 use Prim.Native.Nat.{ℕ, _≤_, _<_}
 use mathlib.Core.Path.{_≡_, refl, sym, _∙_, ap, subst}
 use mathlib.Core.List.{List}
+use mathlib.Core.Bool.{Bool, true, false}
 use lib.ListN.{length}
 use borrow.Author.Tests.{lt-ltb, le-ltb}
 use Rattle.digits.specs.Stored.{stored}
-use Rattle.refusals.specs.declared.Refusal.the-variants.{Room}
+use Rattle.refusals.specs.declared.Refusal.the-variants.{Ask, Room}
 use Rattle.refusals.specs.declared.Written.{Written}
 use Rattle.refusals.specs.declared.Written.the-variants.{Bytes, Refused}
 use Rattle.refusals.specs.Leaves.{leaves}
-use Rattle.plantext.specs.Fit.{fitted, Fits}
+use Rattle.plantext.specs.Fit.{fitted, writeOf, Fits}
 
 module _ (buffer text : List ℕ) where
   pub fitted-room : length buffer < length text → fitted buffer text ≡ Refused Room
@@ -36,3 +37,14 @@ module _ (buffer text : List ℕ) where
 -- a text by another name
 pub fits-as : {buffer text other : List ℕ} {w : Written} {left : List ℕ} → text ≡ other → Fits buffer text w left → Fits buffer other w left
 fits-as {buffer} {text} {other} {w} {left} e f = subst (λ (t : List ℕ). Fits buffer t w left) e f
+
+-- a text of a plan that the planner makes is written as it fits, that of another is refused
+module _ {made : Bool} (buffer text : List ℕ) where
+  pub write-fits : {w : Written} {left : List ℕ} → made ≡ true → Fits buffer text w left →
+      (w ≡ writeOf made buffer text) × (left ≡ leaves (writeOf made buffer text) buffer text)
+  unfolding writeOf
+  write-fits m f = (rw m (f .answered), rw m (f .holds))
+
+  pub write-asks : made ≡ false → (Refused Ask ≡ writeOf made buffer text) × (buffer ≡ leaves (writeOf made buffer text) buffer text)
+  unfolding writeOf
+  write-asks m = (rw m, rw m)

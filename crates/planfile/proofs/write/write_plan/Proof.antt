@@ -1,7 +1,8 @@
 -- Row 11 unless the planner makes the plan, then the text as it fits.
 -- Assumes nothing.
 use mathlib.Core.Path.{sym, _∙_}
-use Rattle.planfile.proofs.WriteLaws.{write-fits, write-asks}
+use Rattle.plantext.specs.Text.{planText}
+use Rattle.plantext.proofs.FitLaws.{write-fits, write-asks}
 use Rattle.planfile.proofs.AcceptLaws.{makes-counted}
 use borrow.Author.Tests.{not-true, not-false}
 use borrow.Author.Needs.{needs}
@@ -11,7 +12,7 @@ use Rattle.planfile.proofs.write.write_plan.Tie as tie
 returns : tie.Need-returns
 returns c =
     let a = c .before .before .before .args in
-    write-asks (a .set) (a .plan) (a .out .now) (sym (c .before .makes-plan .ensures) ∙ not-true _ (c .if1 .taken))
+    write-asks (a .out .now) (planText (a .set) (a .plan)) (sym (c .before .makes-plan .ensures) ∙ not-true _ (c .if1 .taken))
 
 fit-plan-requires : tie.Need-fit-plan-requires
 fit-plan-requires c κs =
@@ -21,7 +22,7 @@ fit-plan-requires c κs =
 returns-2 : tie.Need-returns-2
 returns-2 c =
     let a = c .before .before .before .before .before .before .before .args in
-    write-fits (a .set) (a .plan) (a .out .now) (sym (c .before .before .before .before .before .makes-plan .ensures) ∙ not-false _ (c .before .before .before .before .if1 .left)) (c .before .before .fit-plan .ensures)
+    write-fits (a .out .now) (planText (a .set) (a .plan)) (sym (c .before .before .before .before .before .makes-plan .ensures) ∙ not-false _ (c .before .before .before .before .if1 .left)) (c .before .before .fit-plan .ensures)
 
 pub write-plan-spec : {M : Type 1} → statement M
 write-plan-spec =
