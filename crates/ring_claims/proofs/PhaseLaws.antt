@@ -10,15 +10,17 @@ use Rattle.ring.specs.Phase.{phase}
 use Rattle.ring_claims.specs.Held.{later}
 use Rattle.ring_claims.proofs.TurnLaws.{since, since-below, since-back, turn-once}
 
--- until the ring's end a processor moves one position a tick
-pub phase-later : (S r p j : ℕ) (x : Tick) → phase S r p x .0 + j < r * S → phase S r p (later x j) ≡ record { 0 = phase S r p x .0 + j }
+-- j ticks later a processor is j positions on, and from the ring's end at position 0
+pub phase-on : (S r p j : ℕ) (x : Tick) → phase S r p (later x j) ≡ record { 0 = (phase S r p x .0 + j) % (r * S) }
 unfolding phase
-phase-later S r p j x l =
-    rw
-    (sum (x .0) ((p - 1) * S), ← (mod-add-mod (x .0 + (p - 1) * S) (r * S) j), mod-eq-of-lt l)
+phase-on S r p j x = rw (sum (x .0) ((p - 1) * S), ← (mod-add-mod (x .0 + (p - 1) * S) (r * S) j))
   where
     sum : (a b : ℕ) → a + j + b ≡ a + b + j
     sum a b = omega arith
+
+-- until the ring's end it moves one position a tick
+pub phase-later : (S r p j : ℕ) (x : Tick) → phase S r p x .0 + j < r * S → phase S r p (later x j) ≡ record { 0 = phase S r p x .0 + j }
+phase-later S r p j x l = phase-on S r p j x ∙ ap (λ (n : ℕ). record { 0 = n }) (mod-eq-of-lt l)
 
 module _ (S r : ℕ) (h : 1 ≤ S) where
   -- a position by its slot of the ring and its place in the slot

@@ -29,6 +29,7 @@ use Rattle.ring.proofs.CoverLaws.{Covers, covers-there, covers-before, no-overl
 use Rattle.ring.proofs.StandLaws.{stand-covered, stand-idle}
 use Rattle.ring.proofs.PhaseLaws.{phase-below}
 use Rattle.ring.proofs.WhoLaws.{who-ring, who-whole, first-who}
+use Rattle.ring_claims.proofs.PhaseLaws.{phase-on}
 use Rattle.ring_claims.proofs.ServeLaws.{stand-cases, stays}
 
 module _ (S : ℕ) (rs : List ℕ) (res : Slotted S rs) (plan : Printed) (prints : PrintsRing S rs plan) where
@@ -140,14 +141,6 @@ module _ (S : ℕ) (rs : List ℕ) (res : Slotted S rs) (plan : Printed) (prints
 
   -- ---- a tick of a ring processor
 
-  -- one position on, and from the ring's end to position 0
-  phase-next : (p : ℕ) (x : Tick) → phase S r p (later x 1) ≡ record { 0 = (phase S r p x .0 + 1) % ringLength S rs }
-  unfolding phase
-  phase-next p x = rw (sum (x .0) ((p - 1) * S), ← (mod-add-mod (x .0 + (p - 1) * S) (r * S) 1))
-    where
-      sum : (a b : ℕ) → a + 1 + b ≡ a + b + 1
-      sum a b = omega arith
-
   -- the end of some reserves, or of the ring
   end-stands : (E k : ℕ) → E ≡ ringTicks S (take k rs) → beginsAt plan (E % ringLength S rs) ≡ standAt S rs (record { 0 = E % ringLength S rs })
   end-stands E k e =
@@ -175,7 +168,7 @@ module _ (S : ℕ) (rs : List ℕ) (res : Slotted S rs) (plan : Printed) (prints
       let el : standAt S rs (phase S r p x) .left ≡ r * S - phase S r p x .0 = ap (λ (s : Stand). s .left) e in
       let end : phase S r p x .0 + 1 ≡ ringLength S rs = omega arith in
       ap (λ (s : Stand). beginsAt plan (endsAt plan (s .server))) e ∙ ends-idle ∙
-      sym (ap (standAt S rs) (phase-next p x) ∙ rw (end, mod-self (ringLength S rs))))
+      sym (ap (standAt S rs) (phase-on S r p 1 x) ∙ rw (end, mod-self (ringLength S rs))))
       (λ (f : (j : ℕ) × Covers S rs (suc j) (phase S r p x .0)).
       let j : ℕ = f .0 in
       let c = f .1 in
@@ -187,7 +180,7 @@ module _ (S : ℕ) (rs : List ℕ) (res : Slotted S rs) (plan : Printed) (prints
       ap (λ (s : Stand). beginsAt plan (endsAt plan (s .server))) e ∙
       ap (beginsAt plan) (ends-server j (record { some = omega arith; there = there; ring = c .ring })) ∙
       end-stands E (suc j) (sym (ring-more S rs j there (c .ring))) ∙
-      sym (ap (standAt S rs) (phase-next p x) ∙ rw end))
+      sym (ap (standAt S rs) (phase-on S r p 1 x) ∙ rw end))
       (stand-cases S rs (phase S r p x .0))
 
   -- ---- a tick of any processor
