@@ -1,16 +1,14 @@
 -- What is promised of the switch list of a plan and of a task file, in the words of document 02, Req 01.
 -- The proofs stand in proofs/Claims.antt, one for each claim.
-use Prim.Native.Nat.{ℕ, _*_, _%_, _≤_, _<_}
+use Prim.Native.Nat.{ℕ, _*_, _%_, _≤_}
 use mathlib.Core.Path.{_≡_}
 use mathlib.Core.List.{List, []}
-use mathlib.Core.Bool.{true, false}
-use mathlib.Core.Logic.{_↔_}
+use mathlib.Core.Bool.{true}
 use lib.ListN.{length}
-use Rattle.refusals.specs.declared.Refusal.the-variants.{Ask, Room}
+use Rattle.refusals.specs.declared.Refusal.the-variants.{Room}
 use Rattle.refusals.specs.declared.Outcome.the-variants.{Done}
 use Rattle.refusals.specs.declared.Written.the-variants.{Bytes, Refused}
 use Rattle.tasks.specs.declared.set.TaskSet.{TaskSet}
-use Rattle.ring.specs.declared.clock.Tick.{Tick}
 use Rattle.turn.specs.Switches.{turnSwitches}
 use Rattle.turn.specs.Count.{longestSwitches}
 use Rattle.turn_claims.specs.List.{named}
@@ -20,19 +18,14 @@ use Rattle.plancheck.specs.Agrees.{makes}
 use Rattle.whoruns.specs.WhoRuns.{whoRuns}
 use Rattle.planfile.specs.File.{filedOf}
 use Rattle.planfile.specs.OfFile.{whoIn}
+use Rattle.planfile_claims.specs.Claims.{RowsExactly}
 use Rattle.switchlist.specs.Write.{planSwitches, writeSwitches}
 use Rattle.switchfile.specs.OfFile.{listed}
 
--- rows 11 and 12, exactly: ASK where the planner does not make the plan of the set; ROOM where it does and the buffer is shorter than the
--- text; else the text's length
-pub record WritesSwitches (set : TaskSet) (plan : Plan) (buffer : List ℕ) : Type 0 where
-  pub ask : (writeSwitches set plan buffer ≡ Refused Ask) ↔ (makes set plan ≡ false)
-  pub room : (writeSwitches set plan buffer ≡ Refused Room) ↔ ((makes set plan ≡ true) × (length buffer < length (planSwitches plan)))
-  pub bytes : (n : ℕ) → (writeSwitches set plan buffer ≡ Bytes n) ↔
-      ((makes set plan ≡ true) × (length (planSwitches plan) ≤ length buffer) × (length (planSwitches plan) ≡ n))
-
+-- rows 11 and 12 as for the plan writer, exactly
 abbrev pub SwitchesWritten : Type 0
-SwitchesWritten = (set : TaskSet) (plan : Plan) (buffer : List ℕ) → WritesSwitches set plan buffer
+SwitchesWritten =
+    (set : TaskSet) (plan : Plan) (buffer : List ℕ) → RowsExactly (makes set plan) buffer (planSwitches plan) (writeSwitches set plan buffer)
 
 -- a plan with r = 0 gives no lines, and that is no refusal
 abbrev pub NoRingNoLines : Type 0
