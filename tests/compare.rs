@@ -1,5 +1,6 @@
 // The proved tool, through its C interface, held to the independent account on many files, good and damaged.
 // Each test prints its name; the last line counts them.
+mod counted;
 mod files;
 mod oracle;
 mod random;
@@ -203,7 +204,7 @@ fn one_processor_a_server() {
 }
 
 fn main() {
-    let tests: [(&str, fn()); 9] = [
+    counted::run(&[
         ("examples", examples),
         ("good files", good_files),
         ("damaged files", damaged_files),
@@ -213,13 +214,5 @@ fn main() {
         ("who runs", who_runs),
         ("does it pass", does_pass),
         ("one processor a server", one_processor_a_server),
-    ];
-    let mut failed = 0;
-    for (name, test) in tests.iter() {
-        let ok = std::panic::catch_unwind(test).is_ok();
-        failed += !ok as u32;
-        println!("{}: {}", name, if ok { "ok" } else { "FAILED" });
-    }
-    println!("{} passed, {} failed", tests.len() as u32 - failed, failed);
-    std::process::exit((failed > 0) as i32);
+    ]);
 }

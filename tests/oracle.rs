@@ -297,6 +297,27 @@ pub fn text(set: &Set, plan: &Plan) -> String {
     out
 }
 
+// The switches of one turn: at every tick every ring processor is asked whom it runs now, and whom it ran a tick before.
+pub fn switches(set: &Set, plan: &Plan) -> String {
+    let turn = plan.ring.len() as u64;
+    let runs = |p: u64, x: u64| plan.ring[((x + (p - 1) * set.s) % turn) as usize];
+    let mut out = String::new();
+    for x in 0..turn {
+        for p in 1..=plan.r as u64 {
+            if x == 0 || runs(p, x) != runs(p, x - 1) {
+                out += &format!("21{:08X}{:02X}{:02X}\n", x, p, runs(p, x));
+            }
+        }
+    }
+    out
+}
+
+// From the bytes of a task file to its switch list, or the refusal.
+pub fn switch_list(bytes: &[u8]) -> Result<String, Refusal> {
+    let set = read(bytes)?;
+    Ok(switches(&set, &plan(&set)?))
+}
+
 // From the bytes of a task file to the bytes that rota prints.
 pub fn rota(bytes: &[u8]) -> String {
     match read(bytes).and_then(|set| plan(&set).map(|p| text(&set, &p))) {
