@@ -59,7 +59,12 @@ module _ (S : ℕ) (rs : List ℕ) where
   length-before (suc x) =
       length-append (switchesBefore S rs x) (switchesAt S rs x r) ∙ omega (arith, length-before x, length-at x r)
 
-  -- ---- the processors that start amid a reserve
+  -- ---- the stretches, and the processors that start amid one
+
+  -- at most one for each server, and the idle one
+  pub stretches-few : stretches S rs ≤ length rs + 1
+  unfolding stretches
+  stretches-few = omega (arith, at-most-one (ltb 0 (idlePositions S rs)))
 
   pub amid-suc : (n : ℕ) → amid S rs (suc n) ≡ amid S rs n + amidAt S rs (suc n)
   unfolding amid
@@ -138,10 +143,6 @@ module _ (S : ℕ) (rs : List ℕ) where
     pub amid-few : (n : ℕ) → suc n ≤ r → amid S rs (suc n) ≤ n
     amid-few zero l = omega (arith, amid-zero, amid-suc 0, amid-first S rs (res .slot-some) l)
     amid-few (suc n) l = omega (arith, amid-suc (suc n), amid-few n (omega arith), amid-at-most S rs (suc (suc n)))
-
-    stretches-few : stretches S rs ≤ length rs + 1
-    unfolding stretches
-    stretches-few = omega (arith, at-most-one (ltb 0 (idlePositions S rs)))
 
     pub ring-few : r ≤ length rs
     ring-few = ceiling-least (ringTicks S rs) S (res .slot-some) .least (length rs) (ring-below S rs)
