@@ -1,6 +1,7 @@
 -- Each claim of specs/Claims.antt, proved.
 -- Assumes nothing.
 use mathlib.Core.Path.{ap}
+use native.Mathlib.Omega.{arith}
 use Rattle.turn.specs.Switches.{switchLines, switchText}
 use Rattle.turn.proofs.NextLaws as next
 use Rattle.turn.proofs.CountLaws.{turn-count}
@@ -32,4 +33,4 @@ pub switches-fit : SwitchesFit
 switches-fit S rs res few = text-fits res few
 
 pub switches-whole : SwitchesWhole
-switches-whole S rs s res slot few b = begun-fits res slot few b
+switches-whole S rs s res slot few b = begun-fits res (omega (arith, slot)) few b

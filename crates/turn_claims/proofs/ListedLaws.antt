@@ -156,22 +156,22 @@ module _ (S : ℕ) (rs : List ℕ) where
       let f = before-told (ringLength S rs) i in
       let l = f .1 in
       record {
-        turn = f .0;
-        from-one = l .from-one;
-        on-ring = l .there;
+        turn = omega (arith, f .0);
+        from-one = omega (arith, l .from-one);
+        on-ring = omega (arith, l .there);
         names = l .server;
-        begun = λ x k e. switches-told (s .processor) (s .tick) (l .switching) x k (e ∙ sym (l .server));
+        begun = λ x k e. switches-told (s .processor) (s .tick) (l .switching) x (omega (arith, k)) (e ∙ sym (l .server));
       }
 
   pub turn-stands : {s : Switch} → Begins S rs s → StandsIn s (turnSwitches S rs)
   unfolding turnSwitches
   turn-stands {s} b =
-      before-stands (ringLength S rs) (b .turn)
+      before-stands (ringLength S rs) (omega (arith, b .turn))
       (record {
         tick = refl;
-        from-one = b .from-one;
-        there = b .on-ring;
-        switching = switches-is (s .processor) (s .tick) (λ y k e. b .begun y k (e ∙ b .names));
+        from-one = omega (arith, b .from-one);
+        there = omega (arith, b .on-ring);
+        switching = switches-is (s .processor) (s .tick) (λ y k e. b .begun y (omega (arith, k)) (e ∙ b .names));
         server = b .names;
       })
 

@@ -25,18 +25,19 @@ use Rattle.turn_claims.proofs.ListedLaws.{entries, entries-told, at-nex
 named-both : (last : ℕ) (a b : List Switch) (p x : ℕ) → namedFrom last (a ++ b) p x ≡ namedFrom (namedFrom last a p x) b p x
 unfolding namedFrom
 named-both last [] b p x = refl
-named-both last (s ∷ a) b p x = named-both (cond (eqb (s .processor) p && leb (s .tick) x) (s .server) last) a b p x
+named-both last (s ∷ a) b p x = named-both _ a b p x
 
 -- a list without an entry of p at or before x changes nothing
-named-other : (last : ℕ) (list : List Switch) (p x : ℕ) → ((s : Switch) → StandsIn s list → s .processor ≡ p → s .tick ≤ x → ⊥) → namedFrom last list p x ≡ last
+named-other : (last : ℕ) (list : List Switch) (p x : ℕ) → ((s : Switch) → StandsIn s list → s .processor ≡ p → s .tick ≤ x → ⊥) →
+    namedFrom last list p x ≡ last
 unfolding namedFrom
 named-other last [] p x none = refl
 named-other last (s ∷ list) p x none =
+    let own : Bool = eqb (s .processor) p in
+    let come : Bool = leb (s .tick) x in
     ap (λ (t : Bool). namedFrom (cond t (s .server) last) list p x)
-    (never-true (eqb (s .processor) p && leb (s .tick) x)
-    (λ e.
-    none s (0, omega arith, refl) (eqb-true _ _ (and-left (eqb (s .processor) p) (leb (s .tick) x) e))
-    (leb-true _ _ (and-right (eqb (s .processor) p) (leb (s .tick) x) e)))) ∙
+    (never-true (own && come)
+    (λ e. none s (0, omega arith, refl) (eqb-true _ _ (and-left own come e)) (leb-true _ _ (and-right own come e)))) ∙
     named-other last list p x (λ t i. none t (suc (i .0), omega (arith, i .1), i .2))
 
 module _ (S : ℕ) (rs : List ℕ) where
