@@ -71,6 +71,10 @@ module _ {S : ℕ} {rs : List ℕ} (res : Slotted S rs) {x n : ℕ} (few : n ≤
   pub until-here : getD untils i 0 ≡ untilBefore S rs (suc i) x
   until-here = walked .ahead .until i (omega arith) h
 
+  -- its time is not over before the tick
+  pub until-reached : x ≤ getD untils i 0
+  until-reached = rw until-here (until-ahead res (suc i) (omega arith) (omega arith) x)
+
   pub server-here : getD servers i 0 ≡ serverBefore S rs (suc i) x
   server-here = walked .ahead .server i (omega arith) h
 
@@ -149,7 +153,7 @@ module _ {S : ℕ} {rs : List ℕ} (res : Slotted S rs) {x n : ℕ} (few : n ≤
       later =
           elim (decLt x (untilBefore S rs (suc i) x)) [
             | yes below ↦ below
-            | no past ↦ absurd (not (until-here ∙ omega (arith, past, until-ahead res (suc i) (omega arith) (omega arith) x)))
+            | no past ↦ absurd (not (omega (arith, past, until-here, until-reached)))
           ]
 
       none : switchesAt S rs x i ≡ switchesAt S rs x (suc i)

@@ -17,7 +17,7 @@ use Rattle.turn.specs.Stretch.{Laid}
 use Rattle.walk.specs.Walk.{serverBefore, untilBefore, leastOf}
 use Rattle.walk.proofs.LaidLaws.{laid-slotted, laid-length, laid-room, left-within}
 use Rattle.walk.proofs.LeastLaws.{least-none, least-next}
-use Rattle.walk.proofs.TickLaws.{Walked, walked-none, walked-room, walked-over, walked-on, walked-all, servers-there, untils-there, until-here, server-here}
+use Rattle.walk.proofs.TickLaws.{Walked, walked-none, walked-room, walked-over, walked-on, walked-all, servers-there, untils-there, until-here, until-reached, server-here}
 use Rattle.walk.proofs.put_tick.Statement.{statement}
 use Rattle.walk.proofs.put_tick.Tie as tie
 
@@ -65,6 +65,10 @@ module _ (c : tie.In-loop Inv-loop μ-loop) where
   until-placed : c .before .loop .i < length (c .before .loop .until)
   until-placed = untils-there (laid-slotted laid) few (c .before .loop .inv .0) below
 
+  -- its time is not over before the tick
+  ahead : start .args .tick ≤ getD (c .before .loop .until) (c .before .loop .i) 0
+  ahead = until-reached (laid-slotted laid) few (c .before .loop .inv .0) below
+
   server-placed : c .before .loop .i < length (c .before .loop .servers)
   server-placed = servers-there (laid-slotted laid) few (c .before .loop .inv .0) below
 
@@ -83,16 +87,19 @@ mul-begun c = omega (arith, small (c .before .before))
 slice-read-begun : tie.Need-slice-read-begun Inv-loop μ-loop
 slice-read-begun c = server-placed (c .before .before .before)
 
+-- where it begins, its time is over
+over : (c : tie.Then1 Inv-loop μ-loop) → getD (c .before .before .before .loop .until) (c .before .before .before .loop .i) 0 ≡ start (c .before .before) .args .tick
+over c = omega (arith, c .if1 .taken, ahead (c .before .before))
+
 begun-requires : tie.Need-begun-requires Inv-loop μ-loop
 begun-requires c κs =
     let l = c .before .before .before in
     let i = l .before .loop .i in
-    let w = l .before .loop .inv .0 in
-    let over : getD (l .before .loop .until) i 0 ≡ start l .args .tick = omega (arith, c .before .if1 .taken) in (
+    let w = l .before .loop .inv .0 in (
       (laid l, omega arith, omega (arith, below l)),
       (
         server-here (laid-slotted (laid l)) (few l) w (below l) ∙ ap (λ (p : ℕ). serverBefore (slot l) (rs l) p (start l .args .tick)) (sym (add-one i)),
-        sym over ∙ until-here (laid-slotted (laid l)) (few l) w (below l) ∙ ap (λ (p : ℕ). untilBefore (slot l) (rs l) p (start l .args .tick)) (sym (add-one i)),
+        sym (over (c .before)) ∙ until-here (laid-slotted (laid l)) (few l) w (below l) ∙ ap (λ (p : ℕ). untilBefore (slot l) (rs l) p (start l .args .tick)) (sym (add-one i)),
       ),
     )
 
@@ -100,8 +107,7 @@ begun-requires c κs =
 room : (c : tie.Then1 Inv-loop μ-loop) → c .before .before .before .loop .next + (lengthOf Frame.Switch + 1) ≤ length (start (c .before .before) .args .out .now)
 room c =
     let l = c .before .before in
-    let over : getD (l .before .loop .until) (l .before .loop .i) 0 ≡ start l .args .tick = omega (arith, c .if1 .taken) in
-    walked-room (laid-slotted (laid l)) (few l) (l .before .loop .inv .0) (below l) over (start l .pre .1 .1)
+    walked-room (laid-slotted (laid l)) (few l) (l .before .loop .inv .0) (below l) (over c) (start l .pre .1 .1)
 
 -- the figures of a line are all there
 figures-there : fieldsIn Frame.Switch ≤ 3
@@ -111,7 +117,7 @@ figures-there = omega arith
 put-line-requires : tie.Need-put-line-requires Inv-loop μ-loop
 put-line-requires c κs =
     let t = c .before .before .before .before in
-    (figures-there, omega (arith, room t, t .before .before .before .loop .inv .0 .same))
+    (figures-there, omega (arith, room t, t .before .before .before .loop .inv .0 .same, t .before .before .before .loop .inv .0 .there))
 
 add-next : tie.Need-add-next Inv-loop μ-loop
 add-next c =
@@ -155,10 +161,9 @@ passed c =
     let slotted = laid-slotted (laid l) in
     ⊎-elim
     (λ w.
-    let over : getD (now .until) (now .i) 0 ≡ start l .args .tick = omega (arith, w .0 .taken) in
     let bytes : l .before .before .before .length .result + 1 ≡ lengthOf Frame.Switch + 1 = omega (arith, l .before .before .before .length .ensures) in
     rw (w .9, w .10, w .11, w .12, bytes)
-    (walked-over slotted (few l) (now .inv .0) (below l) over (start l .pre .1 .1) (add-one (now .i)) (w .2 .ensures) (w .5 .ensures) (w .5 .kept .0)))
+    (walked-over slotted (few l) (now .inv .0) (below l) (over (record { before = c .before; if1 = w .0 })) (start l .pre .1 .1) (add-one (now .i)) (w .2 .ensures) (w .5 .ensures) (w .5 .kept .0)))
     (λ w.
     let on : getD (now .until) (now .i) 0 ≡ start l .args .tick → ⊥ = λ (e : getD (now .until) (now .i) 0 ≡ start l .args .tick). omega (arith, w .0 .left) in
     rw (w .1, w .2, w .3, w .4) (walked-on slotted (few l) (now .inv .0) (below l) on))
