@@ -2,6 +2,7 @@
 -- The measure is what is left of the turn. Assumes nothing.
 use Prim.Native.Nat.{_-_, _*_, _<_}
 use mathlib.Core.Path.{_≡_, refl, sym, ap, _∙_}
+use native.Mathlib.Nat.{mul-le-mul-left}
 use native.Mathlib.Omega.{arith}
 use lib.ListN.{length, take}
 use Rattle.tasks.specs.Set.{mostProcessors}
@@ -21,7 +22,7 @@ abbrev μ-loop : tie.MeasureT-loop
 μ-loop out₀ reserves turn end servers₀ until₀ at₀ tick₀ out servers until at tick = end - tick
 
 mul-end : tie.Need-mul-end Inv-loop μ-loop
-mul-end c = omega (arith, laid-room (c .before .before .before .pre .0))
+mul-end c = omega (arith, laid-room (c .before .before .before .pre .0), c .before .before .before .pre .0 .few)
 
 loop-holds : tie.Need-loop-holds Inv-loop μ-loop
 loop-holds c = (turned-none _ _ {m = mostProcessors} _ (c .before .before .before .pre .0 .few), refl, refl)
@@ -41,7 +42,7 @@ module _ (c : tie.In-loop Inv-loop μ-loop) where
   laid = start .pre .0
 
   below : c .before .loop .tick < start .args .turn .ring * start .args .turn .slot
-  below = omega (arith, c .loop-test .taken)
+  below = omega (arith, c .loop-test .taken, mul-le-mul-left (start .args .turn .ring) (laid .slotted .slot-some))
 
 put-tick-requires : tie.Need-put-tick-requires Inv-loop μ-loop
 put-tick-requires c κs =
@@ -58,7 +59,7 @@ later c =
     omega (arith, ap (λ (n : Next). n .tick) (c .put-tick .ensures .0), next-later (laid-slotted (laid l)) (laid l .ring) (l .before .loop .inv .0) (below l))
 
 loop-less : tie.Need-loop-less Inv-loop μ-loop
-loop-less c = omega (arith, later (c .before .before .before .before), below (c .before .before .before .before .before .before .before .before))
+loop-less c = omega (arith, later (c .before .before .before .before), c .before .before .before .before .before .before .before .before .loop-test .taken)
 
 loop-again : tie.Need-loop-again Inv-loop μ-loop
 loop-again c =
