@@ -17,6 +17,7 @@ use Rattle.turn.specs.declared.Turn.{Turn}
 use Rattle.turn.specs.Stretch.{Laid}
 use Rattle.turn.specs.Switches.{switchLines, turnSwitches, switchText}
 use Rattle.turn.specs.Count.{switchCount, mostSwitches}
+use Rattle.walk.proofs.LaidLaws.{slotted-taken}
 use Rattle.turn.proofs.TextLaws.{lines-length}
 use Rattle.turn.proofs.CountLaws.{turn-count, count-most}
 use Rattle.ring_claims.specs.Slotted.{Slotted}
@@ -72,9 +73,9 @@ module _ (set : TaskSet) (full : length (set .tasks) ≡ mostTasks) (plan : Plan
         }
 
 -- the list of a row that is laid: how many lines, how many bytes
-module _ {plan : Plan} {row : List ℕ} (laid : Laid (turnOf plan) row) (front : take (plan .servers) row ≡ reservesIn plan) (few : plan .servers ≤ mostTasks) where
+module _ (plan : Plan) {row : List ℕ} (laid : Laid (turnOf plan) row) (front : take (plan .servers) row ≡ reservesIn plan) (few : plan .servers ≤ mostTasks) where
   slotted : Slotted (plan .slot) (take (plan .servers) row)
-  slotted = slotted-front (laid .slotted)
+  slotted = slotted-taken (laid .slotted)
 
   pub count-few : {n : ℕ} → n ≡ switchCount (plan .slot) (take (plan .servers) row) → n ≤ mostSwitches
   count-few e =

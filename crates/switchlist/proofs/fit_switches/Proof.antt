@@ -39,14 +39,14 @@ lines-length-requires : tie.Need-lines-length-requires
 lines-length-requires c κs =
     let s = c .before .before .before .before in
     let counted = makes-counted (s .args .set) (s .args .plan) (s .pre) in
-    omega (arith, count-few (laid (c .before .before)) (front (c .before .before)) (counted .servers) (c .switch-count .ensures))
+    omega (arith, count-few (s .args .plan) (laid (c .before .before)) (front (c .before .before)) (counted .servers) (c .switch-count .ensures))
 
 -- the bytes that are needed
 bytes : (c : tie.After-lines-length) → c .lines-length .result ≡ length (planSwitches (c .before .before .before .before .before .args .plan))
 bytes c =
     let s = c .before .before .before .before .before in
     let counted = makes-counted (s .args .set) (s .args .plan) (s .pre) in
-    list-bytes (laid (c .before .before .before)) (front (c .before .before .before)) (counted .servers) (c .before .switch-count .ensures) (c .lines-length .ensures)
+    list-bytes (s .args .plan) (laid (c .before .before .before)) (front (c .before .before .before)) (counted .servers) (c .before .switch-count .ensures) (c .lines-length .ensures)
 
 returns : tie.Need-returns
 returns c =
