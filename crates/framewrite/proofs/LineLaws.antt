@@ -13,7 +13,7 @@ use Rattle.frames.specs.declared.table.Frame.{Frame}
 use Rattle.frames.specs.declared.table.Row.{Row}
 use Rattle.frames.specs.Table.{kindOf, widthsOf, fieldsIn, mostFields, lengthOf, sum, rowOf, LF}
 use Rattle.framewrite.specs.Line.{fields, rowWidths, lineBy, lineOf}
-use Rattle.frames.proofs.Tables.{kind-length, fields-most}
+use Rattle.frames.proofs.Tables.{kind-length, kinds-differ, fields-most}
 use Rattle.framewrite.proofs.Fields.{fields-length}
 
 -- the bytes of a line, its LF too
@@ -22,24 +22,35 @@ unfolding lineOf
 line-length frame values = simp length-append (omega (arith, kind-length frame, fields-length (widthsOf frame) values))
 
 -- the widths of a frame's row are the frame's
-pub row-widths : (frame : Frame) → rowWidths (rowOf frame) ≡ widthsOf frame
+row-widths : (frame : Frame) → rowWidths (rowOf frame) ≡ widthsOf frame
 unfolding rowOf
 row-widths frame =
     take-take (fieldsIn frame) mostFields (widthsOf frame ++ replicate mostFields 0) (fields-most frame)
     ∙ take-append-seam (widthsOf frame) (replicate mostFields 0)
 
--- the line of a frame's row is the frame's
-pub line-row : (frame : Frame) (values : List ℕ) → lineBy (rowOf frame) values ≡ lineOf frame values
+frame-line : (frame : Frame) (values : List ℕ) → lineBy (rowOf frame) values ≡ lineOf frame values
 unfolding lineBy lineOf rowOf
-line-row frame values = ap (λ (ws : List ℕ). kindOf frame ++ (fields ws values ++ (LF ∷ []))) (row-widths frame)
+frame-line frame values = ap (λ (ws : List ℕ). kindOf frame ++ (fields ws values ++ (LF ∷ []))) (row-widths frame)
 
--- the fields and the digits of a frame's row are the frame's
-pub row-fields : (frame : Frame) → rowOf frame .fields ≡ fieldsIn frame
+frame-fields : (frame : Frame) → rowOf frame .fields ≡ fieldsIn frame
 unfolding rowOf
-row-fields frame = refl
+frame-fields frame = refl
 
-pub row-digits : (frame : Frame) → 2 + sum (rowWidths (rowOf frame)) ≡ lengthOf frame
-row-digits frame = ap (λ (ws : List ℕ). 2 + sum ws) (row-widths frame)
+-- the row of a frame has its fields, its digits and its line
+module _ (frame : Frame) {row : Row} (e : row ≡ rowOf frame) where
+  pub row-fields : row .fields ≡ fieldsIn frame
+  row-fields = ap (λ (r : Row). r .fields) e ∙ frame-fields frame
+
+  pub row-digits : 2 + sum (rowWidths row) ≡ lengthOf frame
+  row-digits = ap (λ (r : Row). 2 + sum (rowWidths r)) e ∙ ap (λ (ws : List ℕ). 2 + sum ws) (row-widths frame)
+
+  pub row-line : (values : List ℕ) → lineBy row values ≡ lineOf frame values
+  row-line values = ap (λ (r : Row). lineBy r values) e ∙ frame-line frame values
+
+-- frames of one row are one frame
+pub row-one : (f g : Frame) → rowOf f ≡ rowOf g → f ≡ g
+unfolding rowOf
+row-one f g e = kinds-differ f g (ap (λ (r : Row). r .kind) e)
 
 -- a kind and the fields stored one behind the other, and an LF set behind them, are the line of a row
 pub row-put : (b : List ℕ) (at : ℕ) (row : Row) (vs : List ℕ) (n : ℕ) {kinded filled : List ℕ} → length (row .kind) ≡ 2

@@ -3,10 +3,8 @@
 use mathlib.Core.Path.{_∙_, ap}
 use native.Mathlib.Omega.{arith}
 use Rattle.digits.specs.Stored.{stored}
-use Rattle.frames.specs.declared.table.Row.{Row}
 use Rattle.frames.proofs.Tables.{fields-most}
-use Rattle.framewrite.specs.Line.{lineBy}
-use Rattle.framewrite.proofs.LineLaws.{line-row, row-fields, row-digits}
+use Rattle.framewrite.proofs.LineLaws.{row-fields, row-digits, row-line}
 use borrow.Author.Needs.{needs}
 use Rattle.framewrite.proofs.put_line.Statement.{statement}
 use Rattle.framewrite.proofs.put_line.Tie as tie
@@ -15,9 +13,9 @@ put-row-requires : tie.Need-put-row-requires
 put-row-requires c κs =
     let s = c .before .before .before .before in
     let frame = s .args .frame in
-    rw (c .before .row-of .ensures) (
-      (omega (arith, row-fields frame, fields-most frame), omega (arith, row-fields frame, s .pre .0)),
-      omega (arith, row-digits frame, s .pre .1),
+    let row = c .before .row-of .ensures in (
+      (omega (arith, row-fields frame row, fields-most frame), omega (arith, row-fields frame row, s .pre .0)),
+      omega (arith, row-digits frame row, s .pre .1),
     )
 
 same-length : tie.Need-same-length
@@ -25,11 +23,9 @@ same-length c = c .before .before .put-row .kept .0
 
 returns : tie.Need-returns
 returns c =
-    let s = c .before .before .before .before .before .before .before in
-    let a = s .args in
+    let a = c .before .before .before .before .before .before .before .args in
     c .before .before .put-row .ensures
-    ∙ ap (λ (r : Row). stored (a .out .now) (a .at) (lineBy r (a .values .now))) (c .before .before .before .before .row-of .ensures)
-    ∙ ap (stored (a .out .now) (a .at)) (line-row (a .frame) (a .values .now))
+    ∙ ap (stored (a .out .now) (a .at)) (row-line (a .frame) (c .before .before .before .before .row-of .ensures) (a .values .now))
 
 pub put-line-spec : {M : Type 1} → statement M
 put-line-spec = tie.close (tie.spec (λ c κs. search needs) put-row-requires same-length returns)
