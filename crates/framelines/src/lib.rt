@@ -19,14 +19,12 @@ pub fn put_lines(out: &mut [u8], at: usize, frame: Frame, values: &[u64], n: usi
     ensures { λ r. ⌜ now (out .exit) ≡ stored (now (out .entry)) at (linesOf frame (now (values .entry)) n) ⌝ }
 {
     let row = row_of(frame);
-    let each = length(frame) + 1;
     let fields = row.fields;
     let mut next = at;
     let mut from = 0;
     let mut done = 0;
     while done < n {
-        put_row(out, next, row, &values[from..]);
-        next += each;
+        next = put_row(out, next, row, &values[from..]);
         from += fields;
         done += 1;
     }

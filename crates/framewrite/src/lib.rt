@@ -72,16 +72,18 @@ fn put_fields(out: &mut [u8], at: usize, row: Row, values: &[u64]) -> usize
     start
 }
 
-// Writes a line with its LF, by its row of the table: whoever writes many lines of a frame takes the row once.
-pub fn put_row(out: &mut [u8], at: usize, row: Row, values: &[u64])
+// Writes a line with its LF, by its row of the table, and says where it ends. Whoever writes many lines of a frame takes the row once.
+pub fn put_row(out: &mut [u8], at: usize, row: Row, values: &[u64]) -> usize
     requires { ⌜ (row .fields ≤ mostFields) × (row .fields ≤ count (now values)) ⌝ }
     requires { ⌜ at + 2 + sum (rowWidths row) + 1 ≤ count (now out) ⌝ }
+    ensures { λ r. ⌜ r ≡ at + 2 + sum (rowWidths row) + 1 ⌝ }
     ensures { λ r. ⌜ now (out .exit) ≡ stored (now (out .entry)) at (lineBy row (now (values .entry))) ⌝ }
 {
     let kind = row.kind;
     put_bytes(out, at, &kind);
     let end = put_fields(out, at + 2, row, values);
     out[end] = b'\n';
+    end + 1
 }
 
 // Writes a line of a frame with its LF.

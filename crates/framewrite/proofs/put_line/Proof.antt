@@ -24,7 +24,7 @@ same-length c = c .before .before .put-row .kept .0
 returns : tie.Need-returns
 returns c =
     let a = c .before .before .before .before .before .before .before .args in
-    c .before .before .put-row .ensures
+    c .before .before .put-row .ensures .1
     ∙ ap (stored (a .out .now) (a .at)) (row-line (a .frame) (c .before .before .before .before .row-of .ensures) (a .values .now))
 
 pub put-line-spec : {M : Type 1} → statement M

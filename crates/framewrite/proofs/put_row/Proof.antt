@@ -32,6 +32,11 @@ slice-write-out c =
     let put = c .before .before in
     omega (arith, put .put-fields .ensures .0, s .pre .1, same put)
 
+add-result : tie.Need-add-result
+add-result c =
+    let s = c .before .before .before .before .before .before .before .before .before .before .before .before in
+    omega (arith, c .before .before .put-fields .ensures .0, s .pre .1, s .good)
+
 same-length : tie.Need-same-length
 same-length c = simp length-set (same (c .before .before))
 
@@ -39,8 +44,10 @@ returns : tie.Need-returns
 returns c =
     let s = c .before .before .before .before .before .before .before .before .before .before .before .before in
     let a = s .args in
-    let put = c .before .before .put-fields in
-    row-put (a .out .now) (a .at) (a .row) (a .values .now) (put .result) (two s) (put .ensures .0) (s .pre .1) (c .before .before .before .before .before .before .put-bytes .ensures) (put .ensures .1)
+    let put = c .before .before .put-fields in (
+      omega (arith, put .ensures .0),
+      row-put (a .out .now) (a .at) (a .row) (a .values .now) (put .result) (two s) (put .ensures .0) (s .pre .1) (c .before .before .before .before .before .before .put-bytes .ensures) (put .ensures .1),
+    )
 
 pub put-row-spec : {M : Type 1} → statement M
 put-row-spec =
@@ -51,5 +58,6 @@ put-row-spec =
     (λ c. search needs)
     put-fields-requires
     slice-write-out
+    add-result
     same-length
     returns)
