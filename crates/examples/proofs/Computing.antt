@@ -23,7 +23,7 @@ use Rattle.demand.specs.Demand.{jobs, demand}
 use Rattle.demand.specs.Passes.{fake}
 use Rattle.demand.specs.Supply.{gap, supplyPast, supply}
 use Rattle.verdict.specs.Reserve.{enough, smallestReserve}
-use Rattle.verdict.specs.Search.{lastUpTo, firstUpTo, firstAfter, short}
+use Rattle.search.specs.Search.{lastUpTo, firstUpTo, firstAfter, short}
 use Rattle.verdict.specs.Verdict.{failing, ownHorizon, firstFailing, verdictAt, verdictOf, passing}
 use Rattle.places.specs.Places.{placesFrom, chosen}
 use Rattle.members.specs.Charge.{cacheOf, chargedIn, serverLoads, serverLoss}

@@ -10,7 +10,7 @@ use lib.Seq.{take-at, getD-at, append-snoc}
 use Rattle.laws.proofs.Tests.{true-false}
 use Rattle.demand.specs.Load.{Load, Every}
 use Rattle.demand.proofs.Demand.{every-front, every-last}
-use Rattle.verdict.specs.Search.{NoneIn, Next}
+use Rattle.search.specs.Search.{NoneIn, Next}
 use Rattle.tasks.specs.declared.set.Header.{Header}
 use Rattle.places.specs.Places.{chosen}
 use Rattle.members.specs.Charge.{Member}

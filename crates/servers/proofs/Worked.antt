@@ -7,7 +7,7 @@ use Rattle.wholes.specs.Multiple.{leastMultiple, leastMultipleOf}
 use Rattle.demand.specs.Charging.{effectiveDeadline, effectiveCost, entryLoss}
 use Rattle.demand.specs.Demand.{jobs, demand}
 use Rattle.demand.specs.Supply.{supplyPast, supply}
-use Rattle.verdict.specs.Search.{firstUpTo, firstAfter}
+use Rattle.search.specs.Search.{firstUpTo, firstAfter}
 use Rattle.verdict.specs.Verdict.{failing, ownHorizon, firstFailing, verdictAt, verdictOf, passing}
 use Rattle.places.specs.Places.{chosen}
 use Rattle.members.specs.Charge.{cacheOf, chargedIn, serverLoads, serverLoss}

@@ -5,7 +5,7 @@ use Prim.Native.Nat.{ℕ, suc, max}
 use mathlib.Core.List.{List, [], _∷_, _++_}
 use mathlib.Core.Bool.{Bool}
 use Rattle.demand.specs.Load.{Load}
-use Rattle.verdict.specs.Search.{firstAfter, orElse}
+use Rattle.search.specs.Search.{firstAfter, orElse}
 use Rattle.tasks.specs.declared.set.Header.{Header}
 use Rattle.places.specs.Padded.{padded}
 use Rattle.places.specs.Places.{chosen}

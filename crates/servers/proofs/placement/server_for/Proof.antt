@@ -12,8 +12,8 @@ use lib.ListN.{take, getD}
 use Rattle.laws.proofs.Orders.{le-or-lt}
 use Rattle.demand.specs.Load.{Load, Every, loadAt, loadsOf}
 use Rattle.demand.proofs.Demand.{loads-next}
-use Rattle.verdict.specs.Search.{NoneIn, Next}
-use Rattle.verdict.proofs.Bounded.{none-less}
+use Rattle.search.specs.Search.{NoneIn, Next}
+use Rattle.search.proofs.Bounded.{none-less}
 use Rattle.tasks.specs.declared.set.Header.{Header}
 use Rattle.tasks.specs.Set.{mostTasks}
 use Rattle.places.specs.Places.{chosen}

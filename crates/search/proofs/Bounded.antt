@@ -10,7 +10,7 @@ use lib.Dec.{ltb}
 use borrow.Author.Tests.{lt-ltb, le-ltb, ltb-true}
 use Rattle.laws.proofs.Tests.{and-parts, and-both}
 use Rattle.laws.proofs.Orders.{le-or-lt}
-use Rattle.verdict.specs.Search.{lastUpTo, firstUpTo, firstAfter, orElse, NoneIn, Last, First, Next}
+use Rattle.search.specs.Search.{lastUpTo, firstUpTo, firstAfter, orElse, NoneIn, Last, First, Next}
 
 -- a stretch without p, grown by one number without p at its top
 pub none-more : {p : ℕ → Bool} {a n : ℕ} → NoneIn p a n → p (suc n) ≡ false → NoneIn p a (suc n)

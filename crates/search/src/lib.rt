@@ -3,7 +3,7 @@
 ghost use mathlib.Core.Path.{_≡_};
 ghost use Rattle.demand.specs.Load.{Loaded, loadsOf};
 ghost use Rattle.demand.specs.Demand.{demand};
-ghost use Rattle.verdict.specs.Search.{Searched, lastUpTo, firstAfter, short};
+ghost use Rattle.search.specs.Search.{Searched, lastUpTo, firstAfter, short};
 
 // From hi down. Where the demand w at t is covered, so is every length up to t whose supply reaches w: the search goes on at
 // the last length whose supply is w - 1. Either that length is short, or its demand is below w, so that a step lies between

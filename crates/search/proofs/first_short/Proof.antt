@@ -5,10 +5,10 @@ use mathlib.Core.Bool.{Bool}
 use native.Mathlib.Omega.{arith}
 use Rattle.demand.specs.Load.{loadsOf}
 use Rattle.demand.specs.Demand.{demand}
-use Rattle.verdict.specs.Search.{short}
-use Rattle.verdict.proofs.Halving.{Halved, halving-starts, halving-none, halving-up, halving-down, halving-ends}
-use Rattle.verdict.proofs.search.first_short.Statement.{statement}
-use Rattle.verdict.proofs.search.first_short.Tie as tie
+use Rattle.search.specs.Search.{short}
+use Rattle.search.proofs.Halving.{Halved, halving-starts, halving-none, halving-up, halving-down, halving-ends}
+use Rattle.search.proofs.first_short.Statement.{statement}
+use Rattle.search.proofs.first_short.Tie as tie
 
 abbrev Inv-loop : tie.InvT-loop
 Inv-loop loads n slot gap extra lo hi low₀ top₀ low top = Halved (short (demand (loadsOf loads n)) slot gap extra) lo hi low top

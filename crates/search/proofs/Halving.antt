@@ -5,8 +5,8 @@ use mathlib.Core.Path.{_≡_, sym}
 use mathlib.Core.Logic.{⊎-elim}
 use mathlib.Core.Bool.{Bool, true}
 use Rattle.laws.proofs.Orders.{le-or-lt}
-use Rattle.verdict.specs.Search.{lastUpTo, firstAfter, NoneIn, Last}
-use Rattle.verdict.proofs.Bounded.{none-has, last-past, last-found, after-none, after-is}
+use Rattle.search.specs.Search.{lastUpTo, firstAfter, NoneIn, Last}
+use Rattle.search.proofs.Bounded.{none-has, last-past, last-found, after-none, after-is}
 
 -- none above lo, up to low, has p, and top has it
 pub record Halved (p : ℕ → Bool) (lo hi low top : ℕ) : Type 0 where

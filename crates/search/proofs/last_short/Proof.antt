@@ -8,10 +8,10 @@ use Rattle.demand.specs.Demand.{demand}
 use Rattle.demand.specs.Lawful.{Rising}
 use Rattle.demand.proofs.Demand.{demand-room}
 use Rattle.demand.proofs.Claims.{loads-lawful}
-use Rattle.verdict.proofs.Reach.{lastWith}
-use Rattle.verdict.proofs.Descent.{Descended, descent-starts, descent-finds, descent-ends, descent-clears, descent-next}
-use Rattle.verdict.proofs.search.last_short.Statement.{statement}
-use Rattle.verdict.proofs.search.last_short.Tie as tie
+use Rattle.search.proofs.Reach.{lastWith}
+use Rattle.search.proofs.Descent.{Descended, descent-starts, descent-finds, descent-ends, descent-clears, descent-next}
+use Rattle.search.proofs.last_short.Statement.{statement}
+use Rattle.search.proofs.last_short.Tie as tie
 
 abbrev Inv-loop : tie.InvT-loop
 Inv-loop loads n slot gap extra hi usable t₀ supply₀ t supply = Descended (demand (loadsOf loads n)) slot gap extra hi t supply

@@ -9,9 +9,9 @@ use borrow.Author.Tests.{le-ltb, lt-ltb}
 use Rattle.demand.specs.Lawful.{Rising}
 use Rattle.demand.specs.Supply.{supplyPast}
 use Rattle.demand.proofs.Supply.{supply-mono}
-use Rattle.verdict.specs.Search.{short, lastUpTo, NoneIn}
-use Rattle.verdict.proofs.Bounded.{none-join, last-none, last-is}
-use Rattle.verdict.proofs.Reach.{lastWith, past-last, supply-at-last}
+use Rattle.search.specs.Search.{short, lastUpTo, NoneIn}
+use Rattle.search.proofs.Bounded.{none-join, last-none, last-is}
+use Rattle.search.proofs.Reach.{lastWith, past-last, supply-at-last}
 
 -- over any demand g that on 1..t is at most g t: past the last length with supply v, up to t, nothing falls short of v + 1 = g t
 pub descend : (g : ℕ → ℕ) (S f t v : ℕ) → f < S → ((x : ℕ) → x ≤ t → g x ≤ g t) → g t ≡ suc v
