@@ -19,7 +19,7 @@ use Rattle.verdict.specs.declared.answer.Verdict.{Verdict}
 use Rattle.places.specs.Places.{placesIn, chosen}
 use Rattle.places.proofs.PaddedLaws.{padded-take}
 use Rattle.places.proofs.PlacesLaws.{places-most, places-below}
-use Rattle.members.specs.Charge.{cacheOf, serverLoss, membersAt}
+use Rattle.loads.specs.Charge.{cacheOf, serverLoss, membersAt}
 use Rattle.members.specs.Server.{verdictFor}
 use Rattle.members.proofs.FiledLaws.{Below, placed-chosen}
 use Rattle.judging.specs.Served.{Served}

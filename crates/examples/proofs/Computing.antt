@@ -26,7 +26,7 @@ use Rattle.verdict.specs.Reserve.{enough, smallestReserve}
 use Rattle.search.specs.Search.{lastUpTo, firstUpTo, firstAfter, short}
 use Rattle.verdict.specs.Verdict.{failing, ownHorizon, firstFailing, verdictAt, verdictOf, passing}
 use Rattle.places.specs.Places.{placesFrom, chosen}
-use Rattle.members.specs.Charge.{cacheOf, chargedIn, serverLoads, serverLoss}
+use Rattle.loads.specs.Charge.{cacheOf, chargedIn, serverLoads, serverLoss}
 use Rattle.members.specs.Server.{passesWith, fits, reserveFor, verdictFor}
 use Rattle.servers.specs.Placement.{serversIn, takes, join, fit, placeBy, placementOf}
 use Rattle.sizing.specs.Reserve.{reservesOf}

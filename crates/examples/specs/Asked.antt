@@ -13,7 +13,7 @@ use Rattle.taskread.specs.declared.read.ReadAnswer.{ReadAnswer}
 use Rattle.taskread.specs.Read.{readOf}
 use Rattle.ring.specs.declared.clock.Tick.{Tick}
 use Rattle.places.specs.Places.{chosen}
-use Rattle.members.specs.Charge.{serverLoss}
+use Rattle.loads.specs.Charge.{serverLoss}
 use Rattle.members.specs.Server.{serverDemand}
 use Rattle.rows.specs.Figures.{setFigures}
 use Rattle.rows.specs.Rows.{horizonOf, chargedOutcome}

@@ -13,7 +13,7 @@ use Rattle.laws.proofs.Tests.{and-left, and-right}
 use Rattle.demand.specs.Load.{Load}
 use Rattle.demand.specs.Lawful.{Lawful}
 use Rattle.verdict.proofs.Claims.{verdict-means}
-use Rattle.members.specs.Charge.{serverLoss, Member}
+use Rattle.loads.specs.Charge.{serverLoss, Member}
 use Rattle.members.specs.Server.{serverDemand, serverHorizon, verdictFor}
 use Rattle.members.proofs.ServerLaws.{server-lawful}
 use Rattle.servers.specs.Fitting.{Fitting}

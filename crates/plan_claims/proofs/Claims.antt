@@ -16,7 +16,7 @@ use Rattle.ring.specs.declared.cover.Stand.{Stand}
 use Rattle.verdict.specs.declared.answer.Verdict.{Verdict}
 use Rattle.tasks.specs.declared.set.TaskSet.{TaskSet}
 use Rattle.demand.specs.Load.{Load}
-use Rattle.members.specs.Charge.{serverLoss}
+use Rattle.loads.specs.Charge.{serverLoss}
 use Rattle.plan.specs.declared.plan.Plan.{Plan}
 use Rattle.plan.specs.Plan.{planMade, zeroPlan}
 use Rattle.planner.specs.Planner.{planOutcome, answer, planOf}

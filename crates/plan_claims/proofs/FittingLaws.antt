@@ -13,7 +13,7 @@ use Rattle.tasks.specs.declared.set.TaskSet.{TaskSet}
 use Rattle.verdict.specs.Reserve.{Smallest}
 use Rattle.places.specs.Places.{placesIn, chosen}
 use Rattle.places.proofs.PaddedLaws.{padded-take}
-use Rattle.members.specs.Charge.{cacheOf, serverLoss}
+use Rattle.loads.specs.Charge.{cacheOf, serverLoss}
 use Rattle.members.specs.Server.{serverDemand}
 use Rattle.servers.specs.Placement.{serversIn}
 use Rattle.servers.specs.Fitting.{Fitting}

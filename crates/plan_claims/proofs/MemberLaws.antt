@@ -12,7 +12,7 @@ use Rattle.tasks.specs.declared.set.TaskSet.{TaskSet}
 use Rattle.tasks.specs.Set.{members}
 use Rattle.places.specs.Padded.{padded}
 use Rattle.places.specs.Places.{keep, chosen}
-use Rattle.members.specs.Charge.{figuresOf}
+use Rattle.loads.specs.Charge.{figuresOf}
 use Rattle.servers.proofs.PlacementLaws.{placement-length}
 use Rattle.rows.specs.Figures.{setFigures}
 use Rattle.plan.specs.declared.plan.Plan.{Plan}

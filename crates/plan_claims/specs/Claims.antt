@@ -17,7 +17,7 @@ use Rattle.verdict.specs.Reserve.{Smallest}
 use Rattle.verdict.specs.Claims.{FailsFirst}
 use Rattle.demand.specs.Load.{Load}
 use Rattle.places.specs.Places.{placesIn, chosen}
-use Rattle.members.specs.Charge.{cacheOf, serverLoss}
+use Rattle.loads.specs.Charge.{cacheOf, serverLoss}
 use Rattle.members.specs.Server.{serverDemand}
 use Rattle.servers.specs.Fitting.{PassesWhole, Fitting}
 use Rattle.ring.specs.declared.clock.Tick.{Tick}

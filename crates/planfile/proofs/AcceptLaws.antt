@@ -21,7 +21,7 @@ use Rattle.sizing.proofs.Claims.{reserves-count}
 use Rattle.servers.proofs.Claims.{servers-few}
 use Rattle.plan.specs.declared.plan.Plan.{Plan}
 use Rattle.planner.specs.declared.PlanAnswer.{PlanAnswer}
-use Rattle.members.specs.Charge.{figuresOf}
+use Rattle.loads.specs.Charge.{figuresOf}
 use Rattle.rows.specs.Figures.{setFigures}
 use Rattle.rows.specs.Rows.{RowsClear}
 use Rattle.plan.specs.Plan.{planMade, planWith, laidOut, reservesWith, setPlacement}

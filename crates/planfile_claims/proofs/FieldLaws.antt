@@ -19,7 +19,7 @@ use Rattle.taskask.proofs.Carried.{ask-header, header-fits}
 use Rattle.places.specs.Places.{placesIn}
 use Rattle.places.proofs.PaddedLaws.{padded-take}
 use Rattle.places.proofs.PlacesLaws.{places-few}
-use Rattle.members.specs.Charge.{serverLoss}
+use Rattle.loads.specs.Charge.{serverLoss}
 use Rattle.sizing.proofs.Claims.{allowed-range}
 use Rattle.reserves.specs.Reserves.{reserveOf, wholes, startOf, ringProcessors, ringLength, processorsOf}
 use Rattle.reserves.proofs.Starts.{ring-part, ring-holds}

@@ -26,7 +26,7 @@ use Rattle.taskread.specs.Read.{readOf}
 use Rattle.tasks_claims.specs.Claims.{LineRow, LINE, ORDER, COUNT, TWICE, holdsAt, FirstAt, FirstRange, Shaped, linesTo, tasksIn}
 use Rattle.tasks_claims.proofs.Claims.{read-exactly-line, read-exactly-range, read-refuses}
 use Rattle.tasks_claims.proofs.ShapedLaws.{lines-some, shaped-none, shaped-more, shaped-count, shaped-all}
-use Rattle.members.specs.Charge.{figuresOf}
+use Rattle.loads.specs.Charge.{figuresOf}
 use Rattle.rows.specs.Figures.{setFigures}
 use Rattle.rows.proofs.Clears.{board-slot}
 use Rattle.servers.specs.Placement.{placementOf}

@@ -12,7 +12,7 @@ use Rattle.refusals.specs.declared.Refusal.the-variants.{Full, Ask}
 use Rattle.refusals.specs.declared.Outcome.{Outcome}
 use Rattle.refusals.specs.declared.Outcome.the-variants.{Done, Refused}
 use Rattle.demand.specs.Load.{Load, Every, loadsOf}
-use Rattle.members.specs.Charge.{Member}
+use Rattle.loads.specs.Charge.{Member}
 use Rattle.members.specs.Server.{Filed}
 use Rattle.servers.specs.Placement.{serversIn}
 use Rattle.sizing.specs.Reserve.{serversOf}

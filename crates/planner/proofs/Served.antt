@@ -10,7 +10,7 @@ use Rattle.demand.specs.Load.{Load, Every}
 use Rattle.tasks.specs.declared.set.Header.{Header}
 use Rattle.tasks.specs.Set.{mostTasks}
 use Rattle.places.specs.Padded.{padded}
-use Rattle.members.specs.Charge.{Member}
+use Rattle.loads.specs.Charge.{Member}
 use Rattle.servers.specs.Placement.{serversIn, placementOf}
 use Rattle.sizing.specs.Reserve.{reservesOf, sized, serversOf}
 use Rattle.servers.specs.Claims.{FitAlone}

@@ -15,7 +15,7 @@ use Rattle.verdict.specs.Verdict.{failing, ownHorizon, firstFailing, verdictAt,
 use Rattle.verdict.specs.Reserve.{enough, smallestReserve}
 use Rattle.places.specs.Padded.{upTo}
 use Rattle.places.specs.Places.{chosen}
-use Rattle.members.specs.Charge.{cacheOf, chargedIn, serverLoads, serverLoss}
+use Rattle.loads.specs.Charge.{cacheOf, chargedIn, serverLoads, serverLoss}
 use Rattle.members.specs.Server.{passesWith, fits, reserveFor}
 use Rattle.servers.specs.Placement.{serversIn, takes, join, placeBy, fit, placementOf}
 use Rattle.sizing.specs.Reserve.{reservesOf}

@@ -34,8 +34,8 @@ use Rattle.taskrows.specs.Rows.{boardRow, rangeRow, figuresOutcome}
 use Rattle.taskask.specs.Ask.{askRow}
 use Rattle.tasks.proofs.FirstLaws.{first-none}
 use Rattle.tasks.proofs.Firsts.{at-some}
-use Rattle.members.specs.Charge.{figuresOf, chargedIn, Member, Overheads, Timed}
-use Rattle.members.specs.Server.{fits, Filed}
+use Rattle.loads.specs.Charge.{figuresOf, chargedIn, Member, Overheads}
+use Rattle.members.specs.Server.{Timed, fits, Filed}
 use Rattle.members.proofs.HorizonLaws.{slot-divides}
 use Rattle.members.proofs.ServerLaws.{alone-fits}
 use Rattle.rows.specs.Figures.{setFigures, figureNumbers}

@@ -13,8 +13,8 @@ use Rattle.tasks.specs.declared.set.Task.{Task}
 use Rattle.tasks.specs.declared.set.TaskSet.{TaskSet}
 use Rattle.tasks.specs.Set.{mostTasks, members, zeroTask}
 use Rattle.tasks.proofs.SetLaws.{members-length}
-use Rattle.members.specs.Charge.{figuresOf, numbersOf}
-use Rattle.members.proofs.NumberLaws.{numbers-length, put-numbers, loads-stored, taken-length, taken-more}
+use Rattle.loads.specs.Charge.{figuresOf, numbersOf}
+use Rattle.loads.proofs.NumberLaws.{numbers-length, put-numbers, loads-stored, taken-length, taken-more}
 use Rattle.rows.specs.Figures.{setFigures, figureNumbers}
 
 -- the figures of the first i tasks, the rest at zero

@@ -7,7 +7,7 @@ use Rattle.digits.specs.Stored.{stored}
 use Rattle.demand.specs.Load.{Load}
 use Rattle.tasks.specs.declared.set.TaskSet.{TaskSet}
 use Rattle.tasks.specs.Set.{mostTasks, members}
-use Rattle.members.specs.Charge.{figuresOf, numbersOf}
+use Rattle.loads.specs.Charge.{figuresOf, numbersOf}
 
 unfoldable pub setFigures : TaskSet → List Load
 setFigures set = map figuresOf (members set)

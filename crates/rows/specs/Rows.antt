@@ -16,7 +16,7 @@ use Rattle.tasks.specs.Set.{mostTasks, members, longestHorizon}
 use Rattle.refusals.specs.First.{firstOf, when}
 use Rattle.tasks.specs.Search.{firstTask, atTask}
 use Rattle.taskrows.specs.Rows.{boardRow, rangeRow, figuresOutcome}
-use Rattle.members.specs.Charge.{figuresOf, chargedIn}
+use Rattle.loads.specs.Charge.{figuresOf, chargedIn}
 use Rattle.rows.specs.declared.rows.TaskRow.{TaskRow}
 use Rattle.rows.specs.declared.rows.Rows.{Rows}
 use Rattle.rows.specs.declared.rows.Rows.the-variants.{Clear}

@@ -27,8 +27,8 @@ use Rattle.tasks.specs.declared.set.Header.{Header}
 use Rattle.tasks.specs.Set.{mostTasks}
 use Rattle.places.specs.Places.{keep, placesFrom, placesIn, chosen}
 use Rattle.places.proofs.PlacesLaws.{in-more, places-more, places-few, places-below}
-use Rattle.members.specs.Charge.{numbersOf, cacheOf, chargedIn, serverLoads, serverLoss, membersAt, Member, Overheads, Charging, Timed}
-use Rattle.members.specs.Server.{serverDemand, serverHorizon, fits, passesWith, Filed}
+use Rattle.loads.specs.Charge.{numbersOf, cacheOf, chargedIn, serverLoads, serverLoss, membersAt, Member, Overheads, Charging}
+use Rattle.members.specs.Server.{Timed, serverDemand, serverHorizon, fits, passesWith, Filed}
 use Rattle.members.proofs.ServerLaws.{server-lawful}
 use Rattle.members.proofs.FiledLaws.{Below, placed-members, placed-periods, placed-charging, placed-testable, left-loads, left-loaded, left-timed, left-horizon}
 

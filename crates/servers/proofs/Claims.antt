@@ -13,7 +13,7 @@ use Rattle.demand.proofs.Demand.{every-front, every-last}
 use Rattle.search.specs.Search.{NoneIn, Next}
 use Rattle.tasks.specs.declared.set.Header.{Header}
 use Rattle.places.specs.Places.{chosen}
-use Rattle.members.specs.Charge.{Member}
+use Rattle.loads.specs.Charge.{Member}
 use Rattle.members.specs.Server.{fits}
 use Rattle.servers.specs.Placement.{serversIn, takes, firstFit, fit, placementOf}
 use Rattle.servers.specs.Fitting.{Fitting}

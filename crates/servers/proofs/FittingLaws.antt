@@ -15,7 +15,7 @@ use Rattle.demand.proofs.Demand.{every-snoc, every-front, every-last}
 use Rattle.tasks.specs.declared.set.Header.{Header}
 use Rattle.places.specs.Places.{keep, chosen}
 use Rattle.places.proofs.PlacesLaws.{in-joined, in-apart}
-use Rattle.members.specs.Charge.{Member}
+use Rattle.loads.specs.Charge.{Member}
 use Rattle.members.specs.Server.{fits}
 use Rattle.servers.specs.Placement.{serversIn, takes}
 use Rattle.servers.specs.Fitting.{Parted, PassesWhole, Fitting}

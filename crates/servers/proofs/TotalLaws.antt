@@ -16,7 +16,7 @@ use Rattle.tasks.specs.declared.set.Header.{Header}
 use Rattle.tasks.specs.Set.{mostTasks}
 use Rattle.places.specs.Places.{chosen}
 use Rattle.places.proofs.PlacesLaws.{in-joined, in-apart}
-use Rattle.members.specs.Charge.{cacheOf, chargedIn, serverLoads, Member}
+use Rattle.loads.specs.Charge.{cacheOf, chargedIn, serverLoads, Member}
 use Rattle.members.specs.Server.{fits, totalOf}
 use Rattle.servers.specs.Placement.{serversIn, takes}
 use Rattle.servers.specs.Totals.{totalIn, Totals}

@@ -10,7 +10,7 @@ use Rattle.demand.specs.Supply.{supplyPast, supply}
 use Rattle.search.specs.Search.{firstUpTo, firstAfter}
 use Rattle.verdict.specs.Verdict.{failing, ownHorizon, firstFailing, verdictAt, verdictOf, passing}
 use Rattle.places.specs.Places.{chosen}
-use Rattle.members.specs.Charge.{cacheOf, chargedIn, serverLoads, serverLoss}
+use Rattle.loads.specs.Charge.{cacheOf, chargedIn, serverLoads, serverLoss}
 use Rattle.members.specs.Server.{passesWith, fits}
 use Rattle.servers.specs.Placement.{serversIn, takes, join, placeBy, fit, placementOf}
 

@@ -8,7 +8,7 @@ use Rattle.demand.specs.Load.{Load}
 use Rattle.tasks.specs.declared.set.Header.{Header}
 use Rattle.tasks.specs.Set.{mostTasks}
 use Rattle.places.specs.Places.{chosen}
-use Rattle.members.specs.Charge.{serverLoads}
+use Rattle.loads.specs.Charge.{serverLoads}
 use Rattle.members.specs.Server.{totalOf}
 
 -- the total of a server of these members

@@ -1,6 +1,6 @@
 // Placing by first fit in file order: whether a server takes a task, the server for a task, and the servers of all tasks.
 // What they mean stands in specs/Placement.antt. The server of each task stands in a slice, of which the first i are placed.
-use members::charge;
+use loads::charge;
 use members::horizon_of;
 use places::places_of;
 use tasks::set::Header;

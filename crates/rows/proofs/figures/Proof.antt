@@ -7,7 +7,7 @@ use native.Mathlib.Omega.{arith}
 use lib.ListN.{length, length-map}
 use Rattle.digits.proofs.Stored.{stored-nil}
 use Rattle.tasks.specs.Set.{mostTasks}
-use Rattle.members.specs.Charge.{numbersOf}
+use Rattle.loads.specs.Charge.{numbersOf}
 use Rattle.rows.specs.Figures.{setFigures, figureNumbers}
 use Rattle.rows.proofs.FigureLaws.{figuresTo, figures-next}
 use Rattle.rows.proofs.figures.Statement.{statement}

@@ -2,7 +2,7 @@
 -- Assumes nothing.
 use borrow.Author.Needs.{needs}
 use borrow.Author.Tests.{le-leb, lt-leb}
-use Rattle.members.specs.Charge.{chargedIn}
+use Rattle.loads.specs.Charge.{chargedIn}
 use Rattle.rows.specs.Rows.{tightRow}
 use Rattle.rows.proofs.rows.breaks_tight.Statement.{statement}
 use Rattle.rows.proofs.rows.breaks_tight.Tie as tie

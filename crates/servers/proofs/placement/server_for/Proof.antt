@@ -17,7 +17,7 @@ use Rattle.search.proofs.Bounded.{none-less}
 use Rattle.tasks.specs.declared.set.Header.{Header}
 use Rattle.tasks.specs.Set.{mostTasks}
 use Rattle.places.specs.Places.{chosen}
-use Rattle.members.specs.Charge.{Member}
+use Rattle.loads.specs.Charge.{Member}
 use Rattle.members.specs.Server.{Filed}
 use Rattle.servers.specs.Placement.{takes, firstFit, join}
 use Rattle.servers.specs.Totals.{totalIn, Totals}

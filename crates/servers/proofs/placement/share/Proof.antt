@@ -9,7 +9,7 @@ use Rattle.demand.specs.Load.{Load, loadAt}
 use Rattle.demand.specs.Charging.{effectiveCost}
 use Rattle.demand.proofs.Demand.{every-at}
 use Rattle.tasks.specs.declared.set.Header.{Header}
-use Rattle.members.specs.Charge.{cacheOf, chargedIn, serverLoads, Member}
+use Rattle.loads.specs.Charge.{cacheOf, chargedIn, serverLoads, Member}
 use Rattle.members.specs.Server.{totalOf}
 use Rattle.servers.specs.Totals.{totalIn}
 use Rattle.servers.proofs.placement.share.Statement.{statement}

@@ -16,7 +16,7 @@ use Rattle.demand.proofs.Demand.{loads-next}
 use Rattle.verdict.specs.Verdict.{ownHorizon, passing}
 use Rattle.tasks.specs.Set.{mostTasks}
 use Rattle.places.specs.Places.{chosen}
-use Rattle.members.specs.Charge.{serverLoads, Overheads}
+use Rattle.loads.specs.Charge.{serverLoads, Overheads}
 use Rattle.members.specs.Server.{serverHorizon}
 use Rattle.servers.specs.Placement.{takes}
 use Rattle.servers.proofs.FittingLaws.{members-with}

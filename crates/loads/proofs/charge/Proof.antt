@@ -8,10 +8,10 @@ use lib.ListN.{length, getD, length-set}
 use Rattle.digits.specs.Stored.{stored}
 use Rattle.digits.proofs.Stored.{stored-nil}
 use Rattle.demand.specs.Load.{loadAt}
-use Rattle.members.specs.Charge.{numbersOf, Member}
-use Rattle.members.proofs.ChargeLaws.{chargedTo, charge-step}
-use Rattle.members.proofs.charge.Statement.{statement}
-use Rattle.members.proofs.charge.Tie as tie
+use Rattle.loads.specs.Charge.{numbersOf, Member}
+use Rattle.loads.proofs.ChargeLaws.{chargedTo, charge-step}
+use Rattle.loads.proofs.charge.Statement.{statement}
+use Rattle.loads.proofs.charge.Tie as tie
 
 abbrev Inv-loop : tie.InvT-loop
 Inv-loop header cache figures places n loads₀ i₀ loads i =

@@ -8,10 +8,10 @@ use mathlib.Core.List.{List, [], _∷_, _++_, map, map-append, append-assoc}
 use lib.ListN.{length, set, take, drop, getD, length-append, length-map}
 use lib.Seq.{take-suc, length-take-le}
 use Rattle.digits.specs.Stored.{stored}
-use Rattle.digits.proofs.Stored.{stored-byte, stored-length}
+use Rattle.digits.proofs.Stored.{stored-byte}
 use Rattle.demand.specs.Load.{Load, loadAt, loadsOf}
 use Rattle.demand.proofs.Slices.{putLoad}
-use Rattle.members.specs.Charge.{numbersIn, numbersOf}
+use Rattle.loads.specs.Charge.{numbersIn, numbersOf}
 
 -- three for each load
 pub numbers-length : (ls : List Load) → length (numbersOf ls) ≡ 3 * length ls

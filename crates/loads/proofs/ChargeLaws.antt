@@ -1,16 +1,16 @@
 -- Charged members: they are sound and small, as many as the members, and of the same periods; one place more is charged.
 -- Assumes nothing.
-use Prim.Native.Nat.{ℕ, zero, suc, _+_, _*_, _^_, _≤_, _<_, _∣_}
+use Prim.Native.Nat.{ℕ, _+_, _*_, _^_, _≤_, _<_}
 use native.Mathlib.Omega.{arith}
-use mathlib.Core.Path.{_≡_, refl, sym, ap, ap₂, _∙_}
+use mathlib.Core.Path.{_≡_, sym, ap, _∙_}
 use mathlib.Core.List.{List, [], _∷_, _++_, map, map-append}
 use lib.ListN.{length, set, take, getD, length-map}
 use Rattle.digits.specs.Stored.{stored}
 use Rattle.demand.specs.Charging.{effectiveDeadline, effectiveCost, entryLoss}
 use Rattle.demand.specs.Load.{Load, Sound, Small, Every, loadAt}
 use Rattle.tasks.specs.declared.set.Header.{Header}
-use Rattle.members.specs.Charge.{numbersOf, cacheOf, chargedIn, serverLoads, serverLoss, membersAt, Member, Overheads, Charging}
-use Rattle.members.proofs.NumberLaws.{put-numbers, taken-length, taken-more}
+use Rattle.loads.specs.Charge.{numbersOf, cacheOf, chargedIn, serverLoads, serverLoss, membersAt, Member, Overheads}
+use Rattle.loads.proofs.NumberLaws.{put-numbers, taken-length, taken-more}
 
 -- what follows for each from what holds of each
 pub every-map : (P Q : Load → Type 0) (f : Load → Load) (ls : List Load) → ((l : Load) → P l → Q (f l)) → Every P ls → Every Q (map f ls)

@@ -1,10 +1,10 @@
 -- A server's loads and its entry loss, from the header and its members: house charging applied to the members' own figures.
 -- Document 01, "The numbers of a task set". Members are loads of own figures, C, D and T; charged they are c, d and T.
-use Prim.Native.Nat.{ℕ, zero, suc, _+_, _*_, _^_, _≤_, _<_}
+use Prim.Native.Nat.{ℕ, _+_, _*_, _^_, _≤_, _<_}
 use mathlib.Core.List.{List, [], _∷_, map}
 use lib.ListN.{length, getD}
 use Rattle.demand.specs.Charging.{effectiveDeadline, effectiveCost, entryLoss}
-use Rattle.demand.specs.Load.{Load, Sound, Every, loadAt, loadsOf}
+use Rattle.demand.specs.Load.{Load, loadAt}
 use Rattle.tasks.specs.declared.set.Header.{Header}
 use Rattle.tasks.specs.declared.set.Task.{Task}
 use Rattle.tasks.specs.Set.{longestPeriod}
@@ -68,9 +68,3 @@ pub record Charging (h : Header) (cache : ℕ) (figures places : List ℕ) (n : 
   pub cache-small : cache < 2 ^ 32
   pub there : (i : ℕ) → i < n → 3 * getD places i 0 + 2 < length figures
   pub members : (i : ℕ) → i < n → Member h (loadAt figures (getD places i 0))
-
--- what the horizon of the first n loads asks: a slot, and sound loads
-pub record Timed (numbers : List ℕ) (n S : ℕ) : Type 0 where
-  pub there : 3 * n ≤ length numbers
-  pub slot : 1 ≤ S
-  pub sound : Every Sound (loadsOf numbers n)
