@@ -18,7 +18,7 @@ use Rattle.members.specs.Server.{serverDemand, serverHorizon, verdictFor}
 use Rattle.members.proofs.ServerLaws.{server-lawful}
 use Rattle.servers.specs.Fitting.{Fitting}
 use Rattle.servers.proofs.Claims.{planner-fits}
-use Rattle.servers.proofs.FittingLaws.{every-chosen}
+use Rattle.members.proofs.FiledLaws.{every-chosen}
 use Rattle.ring.specs.declared.clock.Tick.{Tick}
 use Rattle.ring.specs.Who.{whoOf}
 use Rattle.reserves.specs.Reserves.{processorsOf}

@@ -18,7 +18,7 @@ use Rattle.members.specs.Server.{serverDemand, serverHorizon, reserveFor}
 use Rattle.members.proofs.ServerLaws.{server-lawful}
 use Rattle.servers.specs.Placement.{serversIn}
 use Rattle.servers.specs.Fitting.{PassesWhole, Fitting}
-use Rattle.servers.proofs.FittingLaws.{every-chosen}
+use Rattle.members.proofs.FiledLaws.{every-chosen}
 use Rattle.sizing.specs.Reserve.{reserveIn, reservesOf}
 use Rattle.sizing.specs.Claims.{SmallestReserves}
 

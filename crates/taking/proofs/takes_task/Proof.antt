@@ -18,11 +18,10 @@ use Rattle.tasks.specs.Set.{mostTasks}
 use Rattle.places.specs.Places.{chosen}
 use Rattle.loads.specs.Charge.{serverLoads, Overheads}
 use Rattle.members.specs.Server.{serverHorizon}
-use Rattle.servers.specs.Placement.{takes}
-use Rattle.servers.proofs.FittingLaws.{members-with}
-use Rattle.servers.proofs.ChargedLaws.{Standing, standing-joined, place-free, may-charge, whole-testable, charged-loads, charged-loaded, charged-timed, horizon-found, horizon-not-past, fits-whole}
-use Rattle.servers.proofs.placement.takes_task.Statement.{statement}
-use Rattle.servers.proofs.placement.takes_task.Tie as tie
+use Rattle.taking.specs.Takes.{takes}
+use Rattle.taking.proofs.ChargedLaws.{members-with, Standing, standing-joined, place-free, may-charge, whole-testable, charged-loads, charged-loaded, charged-timed, horizon-found, horizon-not-past, fits-whole}
+use Rattle.taking.proofs.takes_task.Statement.{statement}
+use Rattle.taking.proofs.takes_task.Tie as tie
 
 -- the header's overheads are numbers of two bytes
 overheads : (s : tie.Start) → Overheads (s .args .header)

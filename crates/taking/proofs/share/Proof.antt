@@ -1,7 +1,7 @@
 -- `share` meets its contract: the charged cost, as often as the task's period goes into the horizon. Assumes nothing.
 use Prim.Native.Nat.{ℕ, _+_, _*_, _/_, _^_, _≤_, _<_}
-use mathlib.Core.Path.{_≡_, sym, ap, _∙_}
-use mathlib.Core.List.{List, [], _∷_}
+use mathlib.Core.Path.{_≡_, ap, _∙_}
+use mathlib.Core.List.{[], _∷_}
 use borrow.Author.Needs.{needs}
 use native.Mathlib.Nat.{div-le-self, mul-le-mul}
 use native.Mathlib.Omega.{arith}
@@ -11,9 +11,9 @@ use Rattle.demand.proofs.Demand.{every-at}
 use Rattle.tasks.specs.declared.set.Header.{Header}
 use Rattle.loads.specs.Charge.{cacheOf, chargedIn, serverLoads, Member}
 use Rattle.members.specs.Server.{totalOf}
-use Rattle.servers.specs.Totals.{totalIn}
-use Rattle.servers.proofs.placement.share.Statement.{statement}
-use Rattle.servers.proofs.placement.share.Tie as tie
+use Rattle.taking.specs.Totals.{totalIn}
+use Rattle.taking.proofs.share.Statement.{statement}
+use Rattle.taking.proofs.share.Tie as tie
 
 -- the task may be charged
 member : (c : tie.Start) → Member (c .args .header) (loadAt (c .args .figures .now) (c .args .i))

@@ -19,7 +19,7 @@ use Rattle.wholes.specs.declared.Multiple.the-variants.{Within, Past}
 use Rattle.demand.specs.Load.{Load, Every, Loaded, loadAt, loadsOf}
 use Rattle.demand.specs.Lawful.{Lawful}
 use Rattle.demand.specs.Passes.{Passes}
-use Rattle.demand.proofs.Demand.{loads-length}
+use Rattle.demand.proofs.Demand.{loads-length, every-snoc, every-front, every-last}
 use Rattle.demand.proofs.Supply.{supply-all}
 use Rattle.verdict.specs.Verdict.{ownHorizon, passing, Testable}
 use Rattle.verdict.proofs.Verdict.{passing-passes, passes-passing}
@@ -30,7 +30,7 @@ use Rattle.places.proofs.PlacesLaws.{in-more, places-more, places-few, places-b
 use Rattle.loads.specs.Charge.{numbersOf, cacheOf, chargedIn, serverLoads, serverLoss, membersAt, Member, Overheads, Charging}
 use Rattle.members.specs.Server.{Timed, serverDemand, serverHorizon, fits, passesWith, Filed}
 use Rattle.members.proofs.ServerLaws.{server-lawful}
-use Rattle.members.proofs.FiledLaws.{Below, placed-members, placed-periods, placed-charging, placed-testable, left-loads, left-loaded, left-timed, left-horizon}
+use Rattle.members.proofs.FiledLaws.{Below, every-chosen, placed-members, placed-periods, placed-charging, placed-testable, left-loads, left-loaded, left-timed, left-horizon}
 
 -- ---- the places of a server's tasks
 
@@ -224,3 +224,12 @@ pub fits-whole : (h : Header) (members : List Load) → Every (Member h) members
 unfolding fits passesWith
 fits-whole h members ok some =
     same-whole (serverDemand h members) (serverHorizon h members) (h .slot) 0 (serverLoss h members) (server-lawful h members ok some) some
+
+-- ---- a server with a task more
+
+-- the members of a server with the task
+pub members-with : (h : Header) (done : List Load) (placement : List ℕ) (l : Load) → Every (Member h) (done ++ (l ∷ [])) →
+    (q : ℕ) → Every (Member h) (chosen done placement q ++ (l ∷ []))
+members-with h done placement l members q =
+    every-snoc (Member h) (chosen done placement q) l
+    (every-chosen (Member h) done placement q (every-front (Member h) done l members)) (every-last (Member h) done l members)
