@@ -27,9 +27,9 @@ use Rattle.judging.proofs.ServedLaws.{filed-served}
 use Rattle.tasks.specs.declared.set.TaskSet.{TaskSet}
 use Rattle.plan.specs.declared.plan.Plan.{Plan}
 use Rattle.plan.specs.declared.server.Server.{Server}
-use Rattle.rows.specs.Figures.{figureNumbers}
+use Rattle.setfigures.specs.Figures.{figureNumbers}
 use Rattle.rows.specs.Rows.{horizonOf}
-use Rattle.rows.proofs.FigureLaws.{figures-back}
+use Rattle.setfigures.proofs.FigureLaws.{figures-back}
 use Rattle.rows.proofs.Clears.{set-overheads}
 use Rattle.plan.specs.Plan.{noServer, serverOf, laidOut, reservesWith, planWith, setPlacement, setReserves, planMade}
 use Rattle.plan.proofs.LaidLaws.{laid-server}

@@ -14,7 +14,7 @@ use Rattle.places.specs.Places.{chosen}
 use Rattle.loads.specs.Charge.{serverLoss}
 use Rattle.members.specs.Server.{verdictFor}
 use Rattle.tasks.specs.declared.set.TaskSet.{TaskSet}
-use Rattle.rows.specs.Figures.{setFigures}
+use Rattle.setfigures.specs.Figures.{setFigures}
 use Rattle.plan.specs.declared.plan.Plan.{Plan}
 use Rattle.plan.specs.Plan.{setPlacement}
 use Rattle.plancheck.specs.Agrees.{makes}

@@ -36,8 +36,9 @@ use Rattle.ring.specs.Phase.{phase}
 use Rattle.reserves.specs.Reserves.{ringTicks, wholes}
 use Rattle.reserves.specs.Whole.{wholeFrom}
 use Rattle.ring.specs.Who.{whoOf, firstReserve}
-use Rattle.rows.specs.Figures.{setFigures}
-use Rattle.rows.specs.Rows.{slotRow, tightRow, horizonOf, horizonRow, chargedOutcome}
+use Rattle.setfigures.specs.Figures.{setFigures}
+use Rattle.tightrows.specs.Rows.{slotRow, tightRow}
+use Rattle.rows.specs.Rows.{horizonOf, horizonRow, chargedOutcome}
 use Rattle.places.specs.Padded.{upTo}
 use Rattle.plan.specs.Plan.{laidOut, reservesWith, planWith, setPlacement, setReserves, planMade}
 use Rattle.plancheck.specs.Agrees.{alike, sameFigures, sameServer, sameServers, sameProcessors, agrees, makes}

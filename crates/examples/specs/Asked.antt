@@ -15,7 +15,7 @@ use Rattle.ring.specs.declared.clock.Tick.{Tick}
 use Rattle.places.specs.Places.{chosen}
 use Rattle.loads.specs.Charge.{serverLoss}
 use Rattle.members.specs.Server.{serverDemand}
-use Rattle.rows.specs.Figures.{setFigures}
+use Rattle.setfigures.specs.Figures.{setFigures}
 use Rattle.rows.specs.Rows.{horizonOf, chargedOutcome}
 use Rattle.plan.specs.Plan.{setPlacement}
 use Rattle.planner.specs.Planner.{needed, fullRow}

@@ -22,7 +22,7 @@ use Rattle.servers.specs.Placement.{serversIn}
 use Rattle.servers.specs.Fitting.{Fitting}
 use Rattle.sizing.specs.Reserve.{reservesOf}
 use Rattle.sizing.proofs.Claims.{smallest-reserves}
-use Rattle.rows.specs.Figures.{setFigures}
+use Rattle.setfigures.specs.Figures.{setFigures}
 use Rattle.rows.specs.Rows.{Chargeable}
 use Rattle.rows.proofs.Clears.{board-slot, figures-members}
 use Rattle.rotas.specs.Rota.{IsServer, StandingServer, Standing}

@@ -7,7 +7,7 @@ use Rattle.places.specs.Places.{chosen}
 use Rattle.loads.specs.Charge.{serverLoss}
 use Rattle.members.specs.Server.{serverDemand}
 use Rattle.sizing.specs.Reserve.{reservesOf}
-use Rattle.rows.specs.Figures.{setFigures}
+use Rattle.setfigures.specs.Figures.{setFigures}
 use Rattle.rotas.specs.Rota.{Rota}
 
 abbrev pub rotaOf : TaskSet → (placement : List ℕ) → Rota

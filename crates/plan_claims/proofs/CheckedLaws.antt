@@ -24,7 +24,7 @@ use Rattle.ring.specs.Who.{whoOf}
 use Rattle.reserves.specs.Reserves.{processorsOf}
 use Rattle.ring_claims.proofs.Claims.{who-serves, who-stays}
 use Rattle.tasks.specs.declared.set.TaskSet.{TaskSet}
-use Rattle.rows.specs.Figures.{setFigures}
+use Rattle.setfigures.specs.Figures.{setFigures}
 use Rattle.plan.specs.declared.plan.Plan.{Plan}
 use Rattle.plan.specs.Plan.{setPlacement, setReserves, planMade}
 use Rattle.planner.specs.Planner.{needed, fullRow}

@@ -19,8 +19,8 @@ use Rattle.servers.specs.Placement.{serversIn}
 use Rattle.servers.specs.Fitting.{Fitting}
 use Rattle.sizing.proofs.Claims.{smallest-reserves, reserves-count}
 use Rattle.reserves.specs.Reserves.{ringProcessors, wholes}
-use Rattle.rows.specs.Figures.{setFigures}
-use Rattle.rows.proofs.FigureLaws.{figures-length}
+use Rattle.setfigures.specs.Figures.{setFigures}
+use Rattle.setfigures.proofs.FigureLaws.{figures-length}
 use Rattle.plan.specs.declared.plan.Plan.{Plan}
 use Rattle.plan.specs.declared.server.Server.{Server}
 use Rattle.plan.specs.Plan.{noServer, serverAt, ringStart, serverOf, reservesIn, laidOut, reservesWith, planWith}

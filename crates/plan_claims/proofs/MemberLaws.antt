@@ -14,7 +14,7 @@ use Rattle.places.specs.Padded.{padded}
 use Rattle.places.specs.Places.{keep, chosen}
 use Rattle.loads.specs.Charge.{figuresOf}
 use Rattle.servers.proofs.PlacementLaws.{placement-length}
-use Rattle.rows.specs.Figures.{setFigures}
+use Rattle.setfigures.specs.Figures.{setFigures}
 use Rattle.plan.specs.declared.plan.Plan.{Plan}
 use Rattle.plan.specs.Plan.{laidOut, planWith, setPlacement, planMade}
 use Rattle.plancheck.specs.Agrees.{makes}

@@ -33,8 +33,9 @@ use Rattle.plan.specs.declared.plan.Plan.{Plan}
 use Rattle.planner.specs.declared.PlanAnswer.{PlanAnswer}
 use Rattle.whoruns.specs.declared.WhoAnswer.{WhoAnswer}
 use Rattle.doespass.specs.declared.PassAnswer.{PassAnswer}
-use Rattle.rows.specs.Figures.{setFigures}
-use Rattle.rows.specs.Rows.{slotRow, tightRow, horizonRow}
+use Rattle.setfigures.specs.Figures.{setFigures}
+use Rattle.tightrows.specs.Rows.{slotRow, tightRow}
+use Rattle.rows.specs.Rows.{horizonRow}
 use Rattle.plan.specs.Plan.{zeroPlan, serverAt, ringStart, reservesIn, planWith, planMade}
 use Rattle.planner.specs.Planner.{Clear, needed, fullRow, planOf}
 use Rattle.plancheck.specs.Agrees.{SamePlan, makes}

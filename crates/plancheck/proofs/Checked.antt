@@ -18,14 +18,14 @@ use Rattle.servers.proofs.PlacementLaws.{placement-length}
 use Rattle.reserves.specs.Slotted.{SlottedFirst}
 use Rattle.tasks.specs.declared.set.TaskSet.{TaskSet}
 use Rattle.plan.specs.declared.plan.Plan.{Plan}
-use Rattle.rows.specs.Figures.{setFigures}
+use Rattle.setfigures.specs.Figures.{setFigures}
 use Rattle.plan.specs.declared.server.Server.{Server}
 use Rattle.plan.specs.Plan.{noServer, reservesIn, laidOut, reservesWith, planWith, setPlacement, setReserves, planMade}
 use Rattle.plan.proofs.LaidLaws.{take-map, laid-reserves, laid-count}
 use Rattle.plancheck.specs.Agrees.{used, agrees, SamePlan, InRoom, isDone, makes}
 use Rattle.planner.specs.Planner.{Clear, needed, planOutcome, planOf}
 use Rattle.plancheck.proofs.AgreeLaws.{agree-same}
-use Rattle.rows.proofs.FigureLaws.{figures-length}
+use Rattle.setfigures.proofs.FigureLaws.{figures-length}
 use Rattle.planner.proofs.Served.{laid-by}
 use Rattle.planner.proofs.Made.{fits, count-most, few-figures, members, alone, slot-some, slot-below, set-count, needed-few, made-servers, made-needs, plan-outcome, outcome-clear}
 

@@ -22,7 +22,7 @@ use Rattle.servers.proofs.Claims.{servers-few}
 use Rattle.plan.specs.declared.plan.Plan.{Plan}
 use Rattle.planner.specs.declared.PlanAnswer.{PlanAnswer}
 use Rattle.loads.specs.Charge.{figuresOf}
-use Rattle.rows.specs.Figures.{setFigures}
+use Rattle.setfigures.specs.Figures.{setFigures}
 use Rattle.rows.specs.Rows.{RowsClear}
 use Rattle.plan.specs.Plan.{planMade, planWith, laidOut, reservesWith, setPlacement}
 use Rattle.plancheck.specs.Agrees.{makes}

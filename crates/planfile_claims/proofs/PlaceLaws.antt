@@ -27,7 +27,7 @@ use Rattle.tasks_claims.specs.Claims.{LineRow, LINE, ORDER, COUNT, TWICE, holds
 use Rattle.tasks_claims.proofs.Claims.{read-exactly-line, read-exactly-range, read-refuses}
 use Rattle.tasks_claims.proofs.ShapedLaws.{lines-some, shaped-none, shaped-more, shaped-count, shaped-all}
 use Rattle.loads.specs.Charge.{figuresOf}
-use Rattle.rows.specs.Figures.{setFigures}
+use Rattle.setfigures.specs.Figures.{setFigures}
 use Rattle.rows.proofs.Clears.{board-slot}
 use Rattle.servers.specs.Placement.{placementOf}
 use Rattle.servers.proofs.Claims.{servers-few}

@@ -24,13 +24,13 @@ use Rattle.refusals.specs.First.{firstOf, when}
 use Rattle.taskask.specs.Ask.{askRow}
 use Rattle.taskask.proofs.Carried.{count-within, ask-count}
 use Rattle.plan.specs.declared.plan.Plan.{Plan}
-use Rattle.rows.specs.Figures.{setFigures, figureNumbers}
+use Rattle.setfigures.specs.Figures.{setFigures, figureNumbers}
 use Rattle.rows.specs.Rows.{chargedOutcome, horizonOf, Chargeable, RowsClear}
 use Rattle.plan.specs.Plan.{laidOut, reservesWith, planWith, setPlacement, setReserves, planMade, zeroPlan}
 use Rattle.planner.specs.Planner.{Clear, needed, fullRow, planOutcome, answer, planOf}
 use Rattle.plan.specs.Layable.{Layable}
 use Rattle.refusals.proofs.FirstLaws.{first-done, when-done}
-use Rattle.rows.proofs.FigureLaws.{figures-length, figures-back}
+use Rattle.setfigures.proofs.FigureLaws.{figures-length, figures-back}
 use Rattle.rows.proofs.Clears.{board-slot, charged-clear, figures-members, figures-alone, slot-small, set-filed}
 use Rattle.plan.proofs.Layouts.{processors-few}
 use Rattle.planner.proofs.Served.{count-few, reserves-count, layable, laid-is}

@@ -30,8 +30,9 @@ use Rattle.frames.specs.Table.{widthsOf}
 use Rattle.framesizes.specs.Overflow.{lineOverflows, someTooLarge}
 use Rattle.taskask.specs.Ask.{countRow, twiceRow, headerOverflows, taskOverflows, askRow}
 use Rattle.taskrows.specs.Rows.{boardRow, rangeRow, figuresOutcome}
-use Rattle.rows.specs.Figures.{setFigures}
-use Rattle.rows.specs.Rows.{slotRow, tightRow, horizonOf, horizonRow, chargedOutcome}
+use Rattle.setfigures.specs.Figures.{setFigures}
+use Rattle.tightrows.specs.Rows.{slotRow, tightRow}
+use Rattle.rows.specs.Rows.{horizonOf, horizonRow, chargedOutcome}
 use Rattle.plan.specs.Plan.{reservesWith, setPlacement, setReserves}
 use Rattle.planner.specs.Planner.{needed, fullRow, planOutcome, planOf}
 use Rattle.fitting_rotas.specs.Rota.{rotaOf}

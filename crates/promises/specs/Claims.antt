@@ -11,7 +11,7 @@ use Rattle.tasks.specs.Set.{mostTasks}
 use Rattle.ring.specs.Who.{whoOf}
 use Rattle.ring_claims.specs.Rota.{unrolled}
 use Rattle.servers.specs.Fitting.{Fitting}
-use Rattle.rows.specs.Figures.{setFigures}
+use Rattle.setfigures.specs.Figures.{setFigures}
 use Rattle.plan.specs.declared.plan.Plan.{Plan}
 use Rattle.plan.specs.Plan.{reservesIn, planWith, setPlacement}
 use Rattle.planner.specs.Planner.{planOf}

@@ -1,12 +1,11 @@
--- `rows::breaks` meets its contract: the row that is named is tried.
+-- `breaks` meets its contract: the row that is named is tried.
 -- Assumes nothing.
 use borrow.Author.Needs.{needs}
-use mathlib.Core.Path.{_≡_, refl, sym, ap, _∙_}
-use mathlib.Core.Bool.{Bool}
-use Rattle.rows.specs.declared.rows.TaskRow.{TaskRow}
-use Rattle.rows.specs.Rows.{slotRow, rowOf}
-use Rattle.rows.proofs.rows.breaks.Statement.{statement}
-use Rattle.rows.proofs.rows.breaks.Tie as tie
+use mathlib.Core.Path.{sym, ap, _∙_}
+use Rattle.tightrows.specs.declared.TaskRow.{TaskRow}
+use Rattle.tightrows.specs.Rows.{slotRow, rowOf}
+use Rattle.tightrows.proofs.breaks.Statement.{statement}
+use Rattle.tightrows.proofs.breaks.Tie as tie
 
 returns : tie.Need-returns
 unfolding slotRow

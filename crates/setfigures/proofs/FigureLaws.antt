@@ -15,7 +15,7 @@ use Rattle.tasks.specs.Set.{mostTasks, members, zeroTask}
 use Rattle.tasks.proofs.SetLaws.{members-length}
 use Rattle.loads.specs.Charge.{figuresOf, numbersOf}
 use Rattle.loads.proofs.NumberLaws.{numbers-length, put-numbers, loads-stored, taken-length, taken-more}
-use Rattle.rows.specs.Figures.{setFigures, figureNumbers}
+use Rattle.setfigures.specs.Figures.{setFigures, figureNumbers}
 
 -- the figures of the first i tasks, the rest at zero
 abbrev pub figuresTo : List Task → ℕ → List ℕ

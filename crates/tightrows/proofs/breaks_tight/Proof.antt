@@ -1,11 +1,11 @@
--- `rows::breaks_tight` meets its contract: the two tests are the definition's, in order.
+-- `breaks_tight` meets its contract: the two tests are the definition's, in order.
 -- Assumes nothing.
 use borrow.Author.Needs.{needs}
 use borrow.Author.Tests.{le-leb, lt-leb}
 use Rattle.loads.specs.Charge.{chargedIn}
-use Rattle.rows.specs.Rows.{tightRow}
-use Rattle.rows.proofs.rows.breaks_tight.Statement.{statement}
-use Rattle.rows.proofs.rows.breaks_tight.Tie as tie
+use Rattle.tightrows.specs.Rows.{tightRow}
+use Rattle.tightrows.proofs.breaks_tight.Statement.{statement}
+use Rattle.tightrows.proofs.breaks_tight.Tie as tie
 
 returns : tie.Need-returns
 unfolding tightRow

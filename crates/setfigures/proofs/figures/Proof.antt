@@ -1,17 +1,17 @@
 -- `figures` meets its contract. The loop's invariant: the figures of the tasks passed are filled in.
 -- The measure is what is left of the count. Assumes nothing.
-use Prim.Native.Nat.{ℕ, _+_, _*_, _-_, _≤_, _<_}
-use mathlib.Core.Path.{_≡_, refl, sym, ap, _∙_}
+use Prim.Native.Nat.{_-_, _≤_, _<_}
+use mathlib.Core.Path.{_≡_, sym, ap, _∙_}
 use borrow.Author.Needs.{needs}
 use native.Mathlib.Omega.{arith}
 use lib.ListN.{length, length-map}
 use Rattle.digits.proofs.Stored.{stored-nil}
 use Rattle.tasks.specs.Set.{mostTasks}
 use Rattle.loads.specs.Charge.{numbersOf}
-use Rattle.rows.specs.Figures.{setFigures, figureNumbers}
-use Rattle.rows.proofs.FigureLaws.{figuresTo, figures-next}
-use Rattle.rows.proofs.figures.Statement.{statement}
-use Rattle.rows.proofs.figures.Tie as tie
+use Rattle.setfigures.specs.Figures.{setFigures, figureNumbers}
+use Rattle.setfigures.proofs.FigureLaws.{figuresTo, figures-next}
+use Rattle.setfigures.proofs.figures.Statement.{statement}
+use Rattle.setfigures.proofs.figures.Tie as tie
 
 abbrev Inv-loop : tie.InvT-loop
 Inv-loop set count numbers₀ i₀ numbers i = (i ≤ count) × (numbers ≡ figuresTo (set .tasks) i)

@@ -1,4 +1,4 @@
--- `rows::first_broken` meets its contract. The loop's invariant: no task before task i breaks the row.
+-- `first_broken` meets its contract. The loop's invariant: no task before task i breaks the row.
 -- The measure is what is left of the count. Assumes nothing.
 use Prim.Native.Nat.{_-_}
 use mathlib.Core.Path.{_≡_, sym, _∙_}
@@ -7,9 +7,9 @@ use borrow.Author.Needs.{needs}
 use lib.ListN.{length, length-map}
 use Rattle.tasks.specs.Set.{mostTasks, zeroTask}
 use Rattle.tasks.proofs.SearchLaws.{Passed, passed-none, passed-next, found-first, all-first}
-use Rattle.rows.specs.Rows.{rowOf}
-use Rattle.rows.proofs.rows.first_broken.Statement.{statement}
-use Rattle.rows.proofs.rows.first_broken.Tie as tie
+use Rattle.tightrows.specs.Rows.{rowOf}
+use Rattle.tightrows.proofs.first_broken.Statement.{statement}
+use Rattle.tightrows.proofs.first_broken.Tie as tie
 
 abbrev Inv-loop : tie.InvT-loop
 Inv-loop row set header count i₀ i = Passed (rowOf row header) zeroTask (set .tasks) count i
