@@ -44,7 +44,8 @@ use Rattle.plan.specs.Plan.{laidOut, reservesWith, planWith, setPlacement, setR
 use Rattle.plancheck.specs.Agrees.{alike, sameFigures, sameServer, sameServers, sameProcessors, agrees, makes}
 use Rattle.planner.specs.Planner.{needed, fullRow, planOutcome, planOf}
 use Rattle.whoruns.specs.WhoRuns.{isProcessor, whoRuns}
-use Rattle.doespass.specs.DoesPass.{allowed, isServer, doesPass}
+use Rattle.planserver.specs.Named.{allowed, isServer}
+use Rattle.doespass.specs.DoesPass.{doesPass}
 use Rattle.planfigures.specs.Figures.{serverFigures, placedFigures, processorFigures}
 use Rattle.plantext.specs.Text.{planLine, serverLine, placedLine, processorLine, planText, refusalText}
 use Rattle.planfile.specs.File.{plannedSet, filedOf}

@@ -33,7 +33,8 @@ use Rattle.plancheck.specs.Agrees.{makes}
 use Rattle.plancheck.proofs.Checked.{OfSet, of-set, same-made, makes-done}
 use Rattle.whoruns.specs.WhoRuns.{isProcessor, whoAnswer, whoRuns}
 use Rattle.doespass.specs.declared.PassAnswer.{PassAnswer}
-use Rattle.doespass.specs.DoesPass.{allowed, isServer, serverMembers, passAnswer, doesPass}
+use Rattle.planserver.specs.Named.{allowed, isServer, serverMembers}
+use Rattle.doespass.specs.DoesPass.{passAnswer, doesPass}
 use Rattle.plan_claims.specs.Claims.{membersIn, FittingPlan, CheckedPlan, WhoTells, PassTells}
 use Rattle.plan_claims.proofs.MemberLaws.{members-made}
 use Rattle.plan_claims.proofs.FittingLaws.{Holds, holds-same, fitting-plan, with-holds}

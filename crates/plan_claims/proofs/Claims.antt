@@ -23,7 +23,8 @@ use Rattle.planner.specs.Planner.{planOutcome, answer, planOf}
 use Rattle.planner.proofs.Made.{plan-outcome, plan-is}
 use Rattle.plancheck.specs.Agrees.{makes}
 use Rattle.whoruns.specs.WhoRuns.{isProcessor, whoAnswer, refusedWho, whoRuns}
-use Rattle.doespass.specs.DoesPass.{allowed, isServer, allowedTo, passAnswer, refusedPass, doesPass}
+use Rattle.planserver.specs.Named.{allowed, isServer, allowedTo}
+use Rattle.doespass.specs.DoesPass.{passAnswer, refusedPass, doesPass}
 use Rattle.plancheck.proofs.AgreeLaws.{agree-same, agree-self}
 use Rattle.plancheck.proofs.Checked.{makes-done, makes-agrees}
 use Rattle.plan_claims.specs.Claims.{PlannerRow, turn, refusalOf, membersIn, NotHeld, FirstHolds, PlanExactly, PlanDone, PlanOnly, PlanGiven, PlanDetermined, RoomIgnored, MakesOwn, PlanFitting, PlanChecked, WhoAnswers, PassAnswers, AsksElse, allowedIn, WhoExactly, PassExactly}

@@ -20,7 +20,7 @@ use Rattle.plan.specs.Plan.{laidOut, planWith, setPlacement, planMade}
 use Rattle.plancheck.specs.Agrees.{makes}
 use Rattle.plancheck.proofs.AgreeLaws.{agree-same}
 use Rattle.plancheck.proofs.Checked.{makes-agrees}
-use Rattle.doespass.specs.DoesPass.{serverMembers}
+use Rattle.planserver.specs.Named.{serverMembers}
 use Rattle.plan_claims.specs.Claims.{membersIn}
 
 -- what stands past the last element has no part in it

@@ -12,7 +12,8 @@ use Rattle.plan.specs.Plan.{reservesWith, planWith, setPlacement, setReserves, 
 use Rattle.planner.specs.Planner.{needed, fullRow, planOutcome, planOf}
 use Rattle.plancheck.specs.Agrees.{isDone, makes, SamePlan}
 use Rattle.whoruns.specs.WhoRuns.{isProcessor, whoRuns}
-use Rattle.doespass.specs.DoesPass.{isServer, doesPass}
+use Rattle.planserver.specs.Named.{isServer}
+use Rattle.doespass.specs.DoesPass.{doesPass}
 use Rattle.plan_claims.specs.Claims.{SameSet, SetRoomIgnored, PlanRoomIgnored}
 use Rattle.plancheck.proofs.AgreeLaws.{agree-alike}
 

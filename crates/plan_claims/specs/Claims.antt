@@ -40,7 +40,8 @@ use Rattle.plan.specs.Plan.{zeroPlan, serverAt, ringStart, reservesIn, planWith
 use Rattle.planner.specs.Planner.{Clear, needed, fullRow, planOf}
 use Rattle.plancheck.specs.Agrees.{SamePlan, makes}
 use Rattle.whoruns.specs.WhoRuns.{isProcessor, whoRuns}
-use Rattle.doespass.specs.DoesPass.{allowed, isServer, doesPass}
+use Rattle.planserver.specs.Named.{allowed, isServer}
+use Rattle.doespass.specs.DoesPass.{doesPass}
 
 -- ---- each refusal exactly when its row says
 

@@ -37,7 +37,7 @@ use Rattle.planner.specs.Planner.{Clear}
 use Rattle.planner.proofs.Made.{count-most, fits, set-few, filed}
 use Rattle.plancheck.specs.Agrees.{used, usedServers, makes}
 use Rattle.plancheck.proofs.Checked.{of-set, same-made, placement-count}
-use Rattle.doespass.specs.DoesPass.{isServer, allowed, allowedTo, serverMembers}
+use Rattle.planserver.specs.Named.{isServer, allowed, allowedTo, serverMembers}
 
 -- the test of a reserve says that it is allowed
 module _ (S L R : ℕ) where

@@ -9,9 +9,9 @@ use Rattle.tasks.specs.Set.{mostTasks}
 use Rattle.planner.specs.Planner.{Clear}
 use Rattle.planner.proofs.Made.{rows-clear, may-charge, count-most}
 use Rattle.plancheck.proofs.Checked.{of-set}
-use Rattle.doespass.proofs.Judging.{server-within, server-below, own-served, own-allowed, own-verdict}
-use Rattle.doespass.proofs.pass_judged.Statement.{statement}
-use Rattle.doespass.proofs.pass_judged.Tie as tie
+use Rattle.planserver.proofs.Judging.{server-within, server-below, own-served, own-allowed, own-verdict}
+use Rattle.planserver.proofs.pass_judged.Statement.{statement}
+use Rattle.planserver.proofs.pass_judged.Tie as tie
 
 module _ (s : tie.Start) where
   -- a set's tasks have their places

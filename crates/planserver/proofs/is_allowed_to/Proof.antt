@@ -6,10 +6,10 @@ use mathlib.Core.Path.{_≡_, sym, ap, _∙_}
 use native.Mathlib.Omega.{arith}
 use lib.ListN.{length, length-map}
 use Rattle.tasks.specs.Set.{mostTasks}
-use Rattle.doespass.specs.DoesPass.{allowed}
-use Rattle.doespass.proofs.Judging.{server-within, server-below, cache-small, own-loss}
-use Rattle.doespass.proofs.is_allowed_to.Statement.{statement}
-use Rattle.doespass.proofs.is_allowed_to.Tie as tie
+use Rattle.planserver.specs.Named.{allowed}
+use Rattle.planserver.proofs.Judging.{server-within, server-below, cache-small, own-loss}
+use Rattle.planserver.proofs.is_allowed_to.Statement.{statement}
+use Rattle.planserver.proofs.is_allowed_to.Tie as tie
 
 module _ (s : tie.Start) where
   -- a set's tasks have their places
