@@ -3,7 +3,7 @@
 use libc::STDOUT_FILENO;
 use planfile::of_file::pass_in;
 use planfile::of_file::who_in;
-use plantext::fit::fit_refusal;
+use planfit::fit_refusal;
 use refusals::Outcome;
 use refusals::Refusal;
 use refusals::Written;

@@ -47,7 +47,8 @@ use Rattle.whoruns.specs.WhoRuns.{isProcessor, whoRuns}
 use Rattle.planserver.specs.Named.{allowed, isServer}
 use Rattle.doespass.specs.DoesPass.{doesPass}
 use Rattle.planfigures.specs.Figures.{serverFigures, placedFigures, processorFigures}
-use Rattle.plantext.specs.Text.{planLine, serverLine, placedLine, processorLine, planText, refusalText}
+use Rattle.planlines.specs.Line.{planLine, serverLine, placedLine, processorLine, refusalText}
+use Rattle.plantext.specs.Text.{planText}
 use Rattle.planfile.specs.File.{plannedSet, filedOf}
 use Rattle.planfile.specs.Tool.{answered}
 use Rattle.planfile.specs.OfFile.{whoIn, passIn}

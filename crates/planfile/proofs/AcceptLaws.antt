@@ -31,7 +31,7 @@ use Rattle.plancheck.proofs.AgreeLaws.{agree-same, agree-self}
 use Rattle.plancheck.proofs.Checked.{makes-done, makes-agrees}
 use Rattle.rows.proofs.Clears.{charged-clear}
 use Rattle.planner.proofs.Made.{plan-outcome, plan-is, outcome-clear, made-needs}
-use Rattle.plantext.specs.Fit.{CountsFit}
+use Rattle.plantext.specs.Counts.{CountsFit}
 
 module _ (set : TaskSet) (done : planOutcome set ≡ Done) where
   clear : Clear set

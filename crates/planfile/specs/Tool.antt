@@ -2,7 +2,8 @@
 -- Document 01, "Lines of hexadecimal".
 use Prim.Native.Nat.{ℕ}
 use mathlib.Core.List.{List}
-use Rattle.plantext.specs.Text.{planText, refusalText}
+use Rattle.plantext.specs.Text.{planText}
+use Rattle.planlines.specs.Line.{refusalText}
 use Rattle.planfile.specs.declared.file.FileAnswer.{FileAnswer}
 use Rattle.planfile.specs.File.{unless, filedOf}
 

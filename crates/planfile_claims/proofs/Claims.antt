@@ -30,7 +30,7 @@ use Rattle.plancheck.specs.Agrees.{makes}
 use Rattle.plantext.specs.Text.{planText, longestText}
 use Rattle.frames.specs.Table.{widthsOf, sum}
 use Rattle.taskread.specs.Read.{furthest, readOf}
-use Rattle.plantext.specs.Fit.{fitted}
+use Rattle.planfit.specs.Fit.{fitted}
 use Rattle.planfile.specs.declared.file.FileAnswer.{FileAnswer}
 use Rattle.planfile.specs.File.{unless, refusedFile, plannedSet, filedOf}
 use Rattle.planfile.specs.Tool.{printed, answered}
@@ -41,9 +41,9 @@ use Rattle.planfile_claims.proofs.TellLaws.{same-count, told}
 use Rattle.planfile_claims.proofs.FieldLaws.{front-long, places-at, cache-at, fit-fields}
 use Rattle.planfile_claims.proofs.PlaceLaws.{read-few, plan-few}
 use Rattle.planfile_claims.proofs.CutLaws.{plan-whole, server-whole, placed-whole, processor-whole}
-use Rattle.plantext.proofs.LineLaws.{refusal-bytes}
+use Rattle.planlines.proofs.LineLaws.{refusal-bytes}
 use Rattle.plantext.proofs.TextLaws.{text-short}
-use Rattle.plantext.proofs.FitLaws.{fitted-room, fitted-bytes}
+use Rattle.planfit.proofs.FitLaws.{fitted-room, fitted-bytes}
 use Rattle.planfile.proofs.AcceptLaws.{makes-counted}
 use Rattle.planfile.proofs.FileLaws.{filed-makes}
 

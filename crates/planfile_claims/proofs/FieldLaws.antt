@@ -39,7 +39,7 @@ use Rattle.plancheck.proofs.Checked.{OfSet, of-set, makes-agrees, placement-cou
 use Rattle.plan_claims.specs.Claims.{membersIn}
 use Rattle.plan_claims.proofs.CheckedLaws.{checked-holds}
 use Rattle.plan_claims.proofs.Claims.{plan-checked}
-use Rattle.plantext.specs.Fit.{CountsFit}
+use Rattle.plantext.specs.Counts.{CountsFit}
 use Rattle.planfile.proofs.AcceptLaws.{makes-counted}
 use Rattle.planfile_claims.specs.Claims.{serverIn, firstIn, placesOf, FitFields}
 

@@ -27,8 +27,9 @@ use Rattle.doespass.specs.declared.PassAnswer.{PassAnswer}
 use Rattle.plancheck.specs.Agrees.{makes}
 use Rattle.taskread.specs.Read.{furthest}
 use Rattle.planfigures.specs.Figures.{serverFigures, placedFigures, processorFigures}
-use Rattle.plantext.specs.Text.{planFigures, planText, longestText}
-use Rattle.plantext.specs.Fit.{fitted, Fits}
+use Rattle.planlines.specs.Line.{planFigures}
+use Rattle.plantext.specs.Text.{planText, longestText}
+use Rattle.planfit.specs.Fit.{fitted, Fits}
 use Rattle.planfile.specs.Write.{writePlan}
 use Rattle.planfile.specs.File.{filedOf}
 use Rattle.planfile.specs.Tool.{answered}

@@ -7,7 +7,7 @@ use Rattle.refusals.specs.declared.Written.{Written}
 use Rattle.refusals.specs.declared.Written.the-variants.{Bytes, Refused as NotWritten}
 use Rattle.refusals.specs.Leaves.{leaves}
 use Rattle.told.specs.Told.{toldOf, verdictNumbers}
-use Rattle.plantext.specs.Fit.{fitted}
+use Rattle.planfit.specs.Fit.{fitted}
 use Rattle.planfile.specs.Tool.{answered}
 use Rattle.planfile.specs.OfFile.{whoIn, passIn}
 

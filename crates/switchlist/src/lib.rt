@@ -15,7 +15,7 @@ ghost use mathlib.Core.Path.{_≡_};
 ghost use mathlib.Core.Bool.{true};
 ghost use Rattle.refusals.specs.Leaves.{leaves};
 ghost use Rattle.plancheck.specs.Agrees.{makes};
-ghost use Rattle.plantext.specs.Fit.{Fits};
+ghost use Rattle.planfit.specs.Fit.{Fits};
 ghost use Rattle.switchlist.specs.Write.{planSwitches, writeSwitches};
 
 // The list of a plan that is checked already.

@@ -1,7 +1,8 @@
 -- A file's answer taken apart: the text of its plan, or its refusal's line.
 -- Assumes nothing.
-use Rattle.plantext.specs.Text.{planText, refusalText}
-use Rattle.plantext.proofs.FitLaws.{fits-as}
+use Rattle.plantext.specs.Text.{planText}
+use Rattle.planlines.specs.Line.{refusalText}
+use Rattle.planfit.proofs.FitLaws.{fits-as}
 use Rattle.planfile.specs.declared.file.FileAnswer.{FileAnswer}
 use Rattle.planfile.specs.Tool.{answered}
 use Rattle.planfile.proofs.AcceptLaws.{makes-counted}
