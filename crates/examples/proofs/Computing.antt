@@ -49,9 +49,9 @@ use Rattle.doespass.specs.DoesPass.{doesPass}
 use Rattle.planfigures.specs.Figures.{serverFigures, placedFigures, processorFigures}
 use Rattle.planlines.specs.Line.{planLine, serverLine, placedLine, processorLine, refusalText}
 use Rattle.plantext.specs.Text.{planText}
-use Rattle.planfile.specs.File.{plannedSet, filedOf}
+use Rattle.taskplan.specs.File.{plannedSet, filedOf}
 use Rattle.planfile.specs.Tool.{answered}
-use Rattle.planfile.specs.OfFile.{whoIn, passIn}
+use Rattle.askfile.specs.OfFile.{whoIn, passIn}
 
 unfoldable pub computing : Unit {0}
 unfolding legal valueOf digitOf allLegal numberFrom hex kindOf widthsOf sum line after closed same formed fieldOf fields lineOf setOf some firstFrom countRow twiceRow boardRow rangeRow figuresOutcome headerOverflows taskOverflows lineOverflows someTooLarge askRow past tasksAmong lineRow orderRow countLineRow twiceLineRow lineOutcome till headerAt taskAt fileSet readOutcome readOf ceilingOf measureIn commonMeasure leastMultiple leastMultipleOf effectiveDeadline effectiveCost entryLoss jobs demand fake gap supplyPast supply enough smallestReserve lastUpTo firstUpTo firstAfter short failing ownHorizon firstFailing verdictAt verdictOf passing placesFrom chosen cacheOf chargedIn serverLoads serverLoss passesWith fits reserveFor verdictFor serversIn takes join fit placeBy placementOf reservesOf covers covererUpTo standAt phase ringTicks wholes wholeFrom whoOf firstReserve setFigures slotRow tightRow horizonOf horizonRow chargedOutcome upTo laidOut reservesWith planWith setPlacement setReserves planMade alike sameFigures sameServer sameServers sameProcessors agrees needed fullRow planOutcome planOf makes allowed isProcessor isServer whoRuns doesPass joined serverFigures placedFigures processorFigures planLine serverLine placedLine processorLine planText refusalText plannedSet filedOf answered whoIn passIn

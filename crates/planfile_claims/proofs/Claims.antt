@@ -31,10 +31,10 @@ use Rattle.plantext.specs.Text.{planText, longestText}
 use Rattle.frames.specs.Table.{widthsOf, sum}
 use Rattle.taskread.specs.Read.{furthest, readOf}
 use Rattle.planfit.specs.Fit.{fitted}
-use Rattle.planfile.specs.declared.file.FileAnswer.{FileAnswer}
-use Rattle.planfile.specs.File.{unless, refusedFile, plannedSet, filedOf}
+use Rattle.taskplan.specs.declared.FileAnswer.{FileAnswer}
+use Rattle.taskplan.specs.File.{unless, refusedFile, plannedSet, filedOf}
 use Rattle.planfile.specs.Tool.{printed, answered}
-use Rattle.planfile.specs.OfFile.{whoOfFile, passOfFile, whoIn, passIn}
+use Rattle.askfile.specs.OfFile.{whoOfFile, passOfFile, whoIn, passIn}
 use Rattle.planfile_claims.specs.Claims.{Determined, TextExact, WriteExactly, RefusedStoresNothing, PrefixEnough, AnsweredShort, SamePrinted, TextTells, TextTellsPlan, NothingCutOff, PlacesFit}
 use Rattle.planfile_claims.proofs.AnswerLaws.{rows-exactly}
 use Rattle.planfile_claims.proofs.TellLaws.{same-count, told}
@@ -45,7 +45,7 @@ use Rattle.planlines.proofs.LineLaws.{refusal-bytes}
 use Rattle.plantext.proofs.TextLaws.{text-short}
 use Rattle.planfit.proofs.FitLaws.{fitted-room, fitted-bytes}
 use Rattle.planfile.proofs.AcceptLaws.{makes-counted}
-use Rattle.planfile.proofs.FileLaws.{filed-makes}
+use Rattle.taskplan.proofs.FileLaws.{filed-makes}
 
 pub determined : Determined
 determined =

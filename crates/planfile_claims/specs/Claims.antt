@@ -31,9 +31,9 @@ use Rattle.planlines.specs.Line.{planFigures}
 use Rattle.plantext.specs.Text.{planText, longestText}
 use Rattle.planfit.specs.Fit.{fitted, Fits}
 use Rattle.planfile.specs.Write.{writePlan}
-use Rattle.planfile.specs.File.{filedOf}
+use Rattle.taskplan.specs.File.{filedOf}
 use Rattle.planfile.specs.Tool.{answered}
-use Rattle.planfile.specs.OfFile.{whoIn, passIn}
+use Rattle.askfile.specs.OfFile.{whoIn, passIn}
 
 -- what the plan writer's contract says of its answer and of the buffer
 abbrev pub Writes : TaskSet → Plan → (buffer : List ℕ) → Written → (left : List ℕ) → Type 0

@@ -9,7 +9,7 @@ use Rattle.refusals.specs.Leaves.{leaves}
 use Rattle.told.specs.Told.{toldOf, verdictNumbers}
 use Rattle.planfit.specs.Fit.{fitted}
 use Rattle.planfile.specs.Tool.{answered}
-use Rattle.planfile.specs.OfFile.{whoIn, passIn}
+use Rattle.askfile.specs.OfFile.{whoIn, passIn}
 
 -- the bytes that were written
 abbrev pub bytesOf : Written → ℕ

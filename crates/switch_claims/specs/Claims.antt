@@ -16,8 +16,8 @@ use Rattle.plan.specs.declared.plan.Plan.{Plan}
 use Rattle.plan.specs.Plan.{reservesIn}
 use Rattle.plancheck.specs.Agrees.{makes}
 use Rattle.whoruns.specs.WhoRuns.{whoRuns}
-use Rattle.planfile.specs.File.{filedOf}
-use Rattle.planfile.specs.OfFile.{whoIn}
+use Rattle.taskplan.specs.File.{filedOf}
+use Rattle.askfile.specs.OfFile.{whoIn}
 use Rattle.planfile_claims.specs.Claims.{RowsExactly}
 use Rattle.switchlist.specs.Write.{planSwitches, writeSwitches}
 use Rattle.switchfile.specs.OfFile.{listed}

@@ -7,8 +7,8 @@ use Rattle.whoruns.specs.declared.WhoAnswer.{WhoAnswer}
 use Rattle.doespass.specs.declared.PassAnswer.{PassAnswer}
 use Rattle.whoruns.specs.WhoRuns.{whoRuns, refusedWho}
 use Rattle.doespass.specs.DoesPass.{doesPass, refusedPass}
-use Rattle.planfile.specs.declared.file.FileAnswer.{FileAnswer}
-use Rattle.planfile.specs.File.{unless, filedOf}
+use Rattle.taskplan.specs.declared.FileAnswer.{FileAnswer}
+use Rattle.taskplan.specs.File.{unless, filedOf}
 
 -- who runs on processor p at tick x, by the plan of a file
 abbrev pub whoOfFile : (p : ℕ) → Tick → FileAnswer → WhoAnswer

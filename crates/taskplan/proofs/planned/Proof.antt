@@ -3,11 +3,11 @@
 use mathlib.Core.Path.{_∙_}
 use Rattle.refusals.specs.declared.Outcome.the-variants.{Done}
 use Rattle.planner.specs.declared.PlanAnswer.{PlanAnswer}
-use Rattle.planfile.specs.File.{refusedFile, plannedSet}
-use Rattle.planfile.proofs.FileLaws.{when-done, when-refused}
+use Rattle.taskplan.specs.File.{refusedFile, plannedSet}
+use Rattle.taskplan.proofs.FileLaws.{when-done, when-refused}
 use borrow.Author.Needs.{needs}
-use Rattle.planfile.proofs.file.planned.Statement.{statement}
-use Rattle.planfile.proofs.file.planned.Tie as tie
+use Rattle.taskplan.proofs.planned.Statement.{statement}
+use Rattle.taskplan.proofs.planned.Tie as tie
 
 returns : tie.Need-returns
 unfolding plannedSet

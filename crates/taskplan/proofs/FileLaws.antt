@@ -9,14 +9,26 @@ use Rattle.refusals.specs.declared.Refusal.{Refusal}
 use Rattle.refusals.specs.declared.Outcome.{Outcome}
 use Rattle.refusals.specs.declared.Outcome.the-variants.{Done, Refused}
 use Rattle.tasks.specs.declared.set.TaskSet.{TaskSet}
-use Rattle.taskread.specs.declared.read.ReadAnswer.{ReadAnswer}
 use Rattle.taskread.specs.Read.{readOf}
 use Rattle.planner.specs.declared.PlanAnswer.{PlanAnswer}
-use Rattle.planner.specs.Planner.{planOf}
+use Rattle.plan.specs.Plan.{planMade}
+use Rattle.planner.specs.Planner.{planOutcome, planOf}
+use Rattle.planner.proofs.Made.{plan-outcome, plan-is}
 use Rattle.plancheck.specs.Agrees.{makes}
-use Rattle.planfile.specs.declared.file.FileAnswer.{FileAnswer}
-use Rattle.planfile.specs.File.{unless, refusedFile, plannedSet, filedOf}
-use Rattle.planfile.proofs.AcceptLaws.{answer-makes}
+use Rattle.plancheck.proofs.AgreeLaws.{agree-self}
+use Rattle.taskplan.specs.declared.FileAnswer.{FileAnswer}
+use Rattle.taskplan.specs.File.{unless, refusedFile, plannedSet, filedOf}
+
+-- the planner makes the plan that it answers
+pub answer-makes : (set : TaskSet) (a : PlanAnswer) → a ≡ planOf set → a .outcome ≡ Done → makes set (a .plan) ≡ true
+unfolding makes
+answer-makes set a made done = rw (outcome, plan) (agree-self (set .count) (planMade set))
+  where
+    outcome : planOutcome set ≡ Done
+    outcome = sym (plan-outcome set) ∙ sym (ap (λ (b : PlanAnswer). b .outcome) made) ∙ done
+
+    plan : a .plan ≡ planMade set
+    plan = ap (λ (b : PlanAnswer). b .plan) made ∙ plan-is set outcome
 
 -- what is made of an answer a, known to be b: done, or its refusal is handed on
 module _ {A B : Type 0} (refused : Refusal → A) (outcome : B → Outcome) (f : B → A) {a b : B} (e : a ≡ b) where

@@ -6,13 +6,11 @@ use Rattle.refusals.specs.declared.Refusal.{Refusal}
 use Rattle.refusals.specs.declared.Outcome.{Outcome}
 use Rattle.refusals.specs.declared.Outcome.the-variants.{Done, Refused}
 use Rattle.tasks.specs.declared.set.TaskSet.{TaskSet}
-use Rattle.taskread.specs.declared.read.ReadAnswer.{ReadAnswer}
 use Rattle.tasks.specs.Set.{zeroSet}
 use Rattle.taskread.specs.Read.{readOf}
-use Rattle.planner.specs.declared.PlanAnswer.{PlanAnswer}
 use Rattle.plan.specs.Plan.{zeroPlan}
 use Rattle.planner.specs.Planner.{planOf}
-use Rattle.planfile.specs.declared.file.FileAnswer.{FileAnswer}
+use Rattle.taskplan.specs.declared.FileAnswer.{FileAnswer}
 
 -- what a refusal makes of it, unless the outcome is done
 abbrev pub unless : {A : Type 0} → (Refusal → A) → Outcome → A → A

@@ -1,16 +1,16 @@
 // The two questions of a task file. A file that is refused, or whose plan is, refuses the question as it was refused.
 // What is answered stands in specs/OfFile.antt.
-use crate::file::filed;
 use doespass::PassAnswer;
 use doespass::pass_made;
 use doespass::refused_pass;
 use refusals::Outcome;
 use ring::clock::Tick;
+use taskplan::filed;
 use whoruns::WhoAnswer;
 use whoruns::refused_who;
 use whoruns::who_made;
 ghost use mathlib.Core.Path.{_≡_};
-ghost use Rattle.planfile.specs.OfFile.{whoIn, passIn};
+ghost use Rattle.askfile.specs.OfFile.{whoIn, passIn};
 
 pub fn who_in(text: &[u8], processor: u64, tick: Tick) -> WhoAnswer
     ensures { λ r. ⌜ r ≡ whoIn (now (text .entry)) processor tick ⌝ }

@@ -2,11 +2,11 @@
 -- Assumes nothing.
 use mathlib.Core.Path.{_∙_}
 use Rattle.taskread.specs.declared.read.ReadAnswer.{ReadAnswer}
-use Rattle.planfile.specs.File.{refusedFile, plannedSet, filedOf}
-use Rattle.planfile.proofs.FileLaws.{when-done, when-refused}
+use Rattle.taskplan.specs.File.{refusedFile, plannedSet, filedOf}
+use Rattle.taskplan.proofs.FileLaws.{when-done, when-refused}
 use borrow.Author.Needs.{needs}
-use Rattle.planfile.proofs.file.filed.Statement.{statement}
-use Rattle.planfile.proofs.file.filed.Tie as tie
+use Rattle.taskplan.proofs.filed.Statement.{statement}
+use Rattle.taskplan.proofs.filed.Tie as tie
 
 returns : tie.Need-returns
 unfolding filedOf

@@ -7,7 +7,7 @@ use refusals::Refusal;
 use taskread::read::read;
 use tasks::set::TaskSet;
 ghost use mathlib.Core.Path.{_≡_};
-ghost use Rattle.planfile.specs.File.{refusedFile, plannedSet, filedOf};
+ghost use Rattle.taskplan.specs.File.{refusedFile, plannedSet, filedOf};
 
 pub struct FileAnswer {
     pub outcome: Outcome,
