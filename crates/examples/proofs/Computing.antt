@@ -40,7 +40,8 @@ use Rattle.setfigures.specs.Figures.{setFigures}
 use Rattle.tightrows.specs.Rows.{slotRow, tightRow}
 use Rattle.rows.specs.Rows.{horizonOf, horizonRow, chargedOutcome}
 use Rattle.places.specs.Padded.{upTo}
-use Rattle.plan.specs.Plan.{laidOut, reservesWith, planWith, setPlacement, setReserves, planMade}
+use Rattle.layout.specs.Layout.{laidOut}
+use Rattle.layout.specs.Made.{reservesWith, planWith, setPlacement, setReserves, planMade}
 use Rattle.plancheck.specs.Agrees.{alike, sameFigures, sameServer, sameServers, sameProcessors, agrees, makes}
 use Rattle.planner.specs.Planner.{needed, fullRow, planOutcome, planOf}
 use Rattle.whoruns.specs.WhoRuns.{isProcessor, whoRuns}

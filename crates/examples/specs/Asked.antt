@@ -17,7 +17,7 @@ use Rattle.loads.specs.Charge.{serverLoss}
 use Rattle.members.specs.Server.{serverDemand}
 use Rattle.setfigures.specs.Figures.{setFigures}
 use Rattle.rows.specs.Rows.{horizonOf, chargedOutcome}
-use Rattle.plan.specs.Plan.{setPlacement}
+use Rattle.layout.specs.Made.{setPlacement}
 use Rattle.planner.specs.Planner.{needed, fullRow}
 use Rattle.whoruns.specs.declared.WhoAnswer.{WhoAnswer}
 use Rattle.doespass.specs.declared.PassAnswer.{PassAnswer}

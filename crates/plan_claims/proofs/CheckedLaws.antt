@@ -26,7 +26,7 @@ use Rattle.ring_claims.proofs.Claims.{who-serves, who-stays}
 use Rattle.tasks.specs.declared.set.TaskSet.{TaskSet}
 use Rattle.setfigures.specs.Figures.{setFigures}
 use Rattle.plan.specs.declared.plan.Plan.{Plan}
-use Rattle.plan.specs.Plan.{setPlacement, setReserves, planMade}
+use Rattle.layout.specs.Made.{setPlacement, setReserves, planMade}
 use Rattle.planner.specs.Planner.{needed, fullRow}
 use Rattle.planner.proofs.Made.{members, alone, slot-some, outcome-clear}
 use Rattle.plancheck.specs.Agrees.{makes}

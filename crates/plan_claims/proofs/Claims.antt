@@ -18,7 +18,8 @@ use Rattle.tasks.specs.declared.set.TaskSet.{TaskSet}
 use Rattle.demand.specs.Load.{Load}
 use Rattle.loads.specs.Charge.{serverLoss}
 use Rattle.plan.specs.declared.plan.Plan.{Plan}
-use Rattle.plan.specs.Plan.{planMade, zeroPlan}
+use Rattle.layout.specs.Made.{planMade}
+use Rattle.plan.specs.Plan.{zeroPlan}
 use Rattle.planner.specs.Planner.{planOutcome, answer, planOf}
 use Rattle.planner.proofs.Made.{plan-outcome, plan-is}
 use Rattle.plancheck.specs.Agrees.{makes}

@@ -23,8 +23,10 @@ use Rattle.setfigures.specs.Figures.{setFigures}
 use Rattle.setfigures.proofs.FigureLaws.{figures-length}
 use Rattle.plan.specs.declared.plan.Plan.{Plan}
 use Rattle.plan.specs.declared.server.Server.{Server}
-use Rattle.plan.specs.Plan.{noServer, serverAt, ringStart, serverOf, reservesIn, laidOut, reservesWith, planWith}
-use Rattle.plan.proofs.LaidLaws.{laid-reserves, laid-server}
+use Rattle.plan.specs.Plan.{noServer, serverAt, reservesIn}
+use Rattle.layout.specs.Layout.{ringStart, serverOf, laidOut}
+use Rattle.layout.specs.Made.{reservesWith, planWith}
+use Rattle.layout.proofs.LaidLaws.{laid-reserves, laid-server}
 use Rattle.planner.specs.Planner.{Clear}
 use Rattle.planner.proofs.Made.{fits, members, slot-some}
 use Rattle.plancheck.specs.Agrees.{used, SamePlan}

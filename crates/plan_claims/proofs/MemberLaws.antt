@@ -16,7 +16,8 @@ use Rattle.loads.specs.Charge.{figuresOf}
 use Rattle.servers.proofs.PlacementLaws.{placement-length}
 use Rattle.setfigures.specs.Figures.{setFigures}
 use Rattle.plan.specs.declared.plan.Plan.{Plan}
-use Rattle.plan.specs.Plan.{laidOut, planWith, setPlacement, planMade}
+use Rattle.layout.specs.Layout.{laidOut}
+use Rattle.layout.specs.Made.{planWith, setPlacement, planMade}
 use Rattle.plancheck.specs.Agrees.{makes}
 use Rattle.plancheck.proofs.AgreeLaws.{agree-same}
 use Rattle.plancheck.proofs.Checked.{makes-agrees}

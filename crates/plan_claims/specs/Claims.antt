@@ -36,7 +36,9 @@ use Rattle.doespass.specs.declared.PassAnswer.{PassAnswer}
 use Rattle.setfigures.specs.Figures.{setFigures}
 use Rattle.tightrows.specs.Rows.{slotRow, tightRow}
 use Rattle.rows.specs.Rows.{horizonRow}
-use Rattle.plan.specs.Plan.{zeroPlan, serverAt, ringStart, reservesIn, planWith, planMade}
+use Rattle.plan.specs.Plan.{zeroPlan, serverAt, reservesIn}
+use Rattle.layout.specs.Layout.{ringStart}
+use Rattle.layout.specs.Made.{planWith, planMade}
 use Rattle.planner.specs.Planner.{Clear, needed, fullRow, planOf}
 use Rattle.plancheck.specs.Agrees.{SamePlan, makes}
 use Rattle.whoruns.specs.WhoRuns.{isProcessor, whoRuns}

@@ -20,8 +20,10 @@ use Rattle.tasks.specs.declared.set.TaskSet.{TaskSet}
 use Rattle.plan.specs.declared.plan.Plan.{Plan}
 use Rattle.setfigures.specs.Figures.{setFigures}
 use Rattle.plan.specs.declared.server.Server.{Server}
-use Rattle.plan.specs.Plan.{noServer, reservesIn, laidOut, reservesWith, planWith, setPlacement, setReserves, planMade}
-use Rattle.plan.proofs.LaidLaws.{take-map, laid-reserves, laid-count}
+use Rattle.plan.specs.Plan.{noServer, reservesIn}
+use Rattle.layout.specs.Layout.{laidOut}
+use Rattle.layout.specs.Made.{reservesWith, planWith, setPlacement, setReserves, planMade}
+use Rattle.layout.proofs.LaidLaws.{take-map, laid-reserves, laid-count}
 use Rattle.plancheck.specs.Agrees.{used, agrees, SamePlan, InRoom, isDone, makes}
 use Rattle.planner.specs.Planner.{Clear, needed, planOutcome, planOf}
 use Rattle.plancheck.proofs.AgreeLaws.{agree-same}

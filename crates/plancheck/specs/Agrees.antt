@@ -14,7 +14,8 @@ use Rattle.tasks.specs.Set.{mostTasks}
 use Rattle.ring.specs.declared.cover.Stand.{Stand}
 use Rattle.plan.specs.declared.plan.Plan.{Plan}
 use Rattle.plan.specs.declared.server.Server.{Server}
-use Rattle.plan.specs.Plan.{noServer, planMade}
+use Rattle.plan.specs.Plan.{noServer}
+use Rattle.layout.specs.Made.{planMade}
 use Rattle.planner.specs.Planner.{planOutcome}
 
 -- two lists are alike by a test: equally long, and the test passes at each place

@@ -20,7 +20,8 @@ use Rattle.servers.proofs.Claims.{servers-few}
 use Rattle.plan.specs.declared.plan.Plan.{Plan}
 use Rattle.loads.specs.Charge.{figuresOf}
 use Rattle.setfigures.specs.Figures.{setFigures}
-use Rattle.plan.specs.Plan.{planMade, planWith, laidOut, reservesWith, setPlacement}
+use Rattle.layout.specs.Made.{planMade, planWith, reservesWith, setPlacement}
+use Rattle.layout.specs.Layout.{laidOut}
 use Rattle.plancheck.specs.Agrees.{makes}
 use Rattle.planner.specs.Planner.{Clear, planOutcome, needed, fullRow}
 use Rattle.plancheck.proofs.AgreeLaws.{agree-same}

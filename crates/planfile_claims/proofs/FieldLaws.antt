@@ -30,8 +30,10 @@ use Rattle.ring_claims.proofs.Claims.{first-reserve}
 use Rattle.ring_claims.proofs.OwnLaws.{whole-at}
 use Rattle.plan.specs.declared.plan.Plan.{Plan}
 use Rattle.plan.specs.declared.server.Server.{Server}
-use Rattle.plan.specs.Plan.{zeroStand, serverAt, ringStart, serverOf, laidOut, planWith, setPlacement, setReserves, planMade}
-use Rattle.plan.proofs.LaidLaws.{laid-first}
+use Rattle.plan.specs.Plan.{zeroStand, serverAt}
+use Rattle.layout.specs.Layout.{ringStart, serverOf, laidOut}
+use Rattle.layout.specs.Made.{planWith, setPlacement, setReserves, planMade}
+use Rattle.layout.proofs.LaidLaws.{laid-first}
 use Rattle.planner.proofs.Made.{set-count, slot-some, count-most}
 use Rattle.plancheck.specs.Agrees.{used, makes, SamePlan}
 use Rattle.plancheck.proofs.AgreeLaws.{agree-same}

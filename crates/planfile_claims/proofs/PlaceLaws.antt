@@ -32,8 +32,8 @@ use Rattle.rows.proofs.Clears.{board-slot}
 use Rattle.servers.specs.Placement.{placementOf}
 use Rattle.servers.proofs.Claims.{servers-few}
 use Rattle.sizing.proofs.Claims.{reserves-count}
-use Rattle.plan.specs.Plan.{reservesWith, setPlacement, setReserves}
-use Rattle.plan.proofs.Layouts.{processors-few}
+use Rattle.layout.specs.Made.{reservesWith, setPlacement, setReserves}
+use Rattle.layout.proofs.Layouts.{processors-few}
 use Rattle.planner.specs.Planner.{needed, planOf}
 use Rattle.plan_claims.specs.Claims.{PlannerRow, ASK, BOARD, RANGE, SLOT, TIGHT, HORIZON, FULL, turn, refusalOf, FirstHolds}
 use Rattle.plan_claims.proofs.Claims.{plan-exactly, plan-only}

@@ -26,13 +26,15 @@ use Rattle.taskask.proofs.Carried.{count-within, ask-count}
 use Rattle.plan.specs.declared.plan.Plan.{Plan}
 use Rattle.setfigures.specs.Figures.{setFigures, figureNumbers}
 use Rattle.rows.specs.Rows.{chargedOutcome, horizonOf, Chargeable, RowsClear}
-use Rattle.plan.specs.Plan.{laidOut, reservesWith, planWith, setPlacement, setReserves, planMade, zeroPlan}
+use Rattle.layout.specs.Layout.{laidOut}
+use Rattle.layout.specs.Made.{reservesWith, planWith, setPlacement, setReserves, planMade}
+use Rattle.plan.specs.Plan.{zeroPlan}
 use Rattle.planner.specs.Planner.{Clear, needed, fullRow, planOutcome, answer, planOf}
-use Rattle.plan.specs.Layable.{Layable}
+use Rattle.layout.specs.Layable.{Layable}
 use Rattle.refusals.proofs.FirstLaws.{first-done, when-done}
 use Rattle.setfigures.proofs.FigureLaws.{figures-length, figures-back}
 use Rattle.rows.proofs.Clears.{board-slot, charged-clear, figures-members, figures-alone, slot-small, set-filed}
-use Rattle.plan.proofs.Layouts.{processors-few}
+use Rattle.layout.proofs.Layouts.{processors-few}
 use Rattle.planner.proofs.Served.{count-few, reserves-count, layable, laid-is}
 
 module _ (set : TaskSet) (full : length (set .tasks) ≡ mostTasks) (clear : Clear set) where

@@ -31,8 +31,10 @@ use Rattle.setfigures.specs.Figures.{figureNumbers}
 use Rattle.rows.specs.Rows.{horizonOf}
 use Rattle.setfigures.proofs.FigureLaws.{figures-back}
 use Rattle.rows.proofs.Clears.{set-overheads}
-use Rattle.plan.specs.Plan.{noServer, serverOf, laidOut, reservesWith, planWith, setPlacement, setReserves, planMade}
-use Rattle.plan.proofs.LaidLaws.{laid-server}
+use Rattle.plan.specs.Plan.{noServer}
+use Rattle.layout.specs.Layout.{serverOf, laidOut}
+use Rattle.layout.specs.Made.{reservesWith, planWith, setPlacement, setReserves, planMade}
+use Rattle.layout.proofs.LaidLaws.{laid-server}
 use Rattle.planner.specs.Planner.{Clear}
 use Rattle.planner.proofs.Made.{count-most, fits, set-few, filed}
 use Rattle.plancheck.specs.Agrees.{used, usedServers, makes}

@@ -10,7 +10,7 @@ use Rattle.loads.specs.Charge.{serverLoss}
 use Rattle.tasks.specs.declared.set.TaskSet.{TaskSet}
 use Rattle.setfigures.specs.Figures.{setFigures}
 use Rattle.plan.specs.declared.plan.Plan.{Plan}
-use Rattle.plan.specs.Plan.{setPlacement}
+use Rattle.layout.specs.Made.{setPlacement}
 
 -- L + 1 ≤ R ≤ S − 1, or R = S
 unfoldable pub allowed : (S L R : ℕ) → Bool

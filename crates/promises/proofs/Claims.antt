@@ -14,7 +14,8 @@ use Rattle.taskask.proofs.Carried.{count-within, ask-count}
 use Rattle.rows.specs.Rows.{Chargeable}
 use Rattle.rows.proofs.Clears.{charged-clear}
 use Rattle.plan.specs.declared.plan.Plan.{Plan}
-use Rattle.plan.specs.Plan.{reservesIn, reservesWith, planWith, setPlacement, planMade}
+use Rattle.plan.specs.Plan.{reservesIn}
+use Rattle.layout.specs.Made.{reservesWith, planWith, setPlacement, planMade}
 use Rattle.planner.specs.Planner.{Clear}
 use Rattle.planner.proofs.Made.{plan-outcome, outcome-clear}
 use Rattle.plancheck.specs.Agrees.{SamePlan}

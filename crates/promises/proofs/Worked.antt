@@ -33,7 +33,7 @@ use Rattle.taskrows.specs.Rows.{boardRow, rangeRow, figuresOutcome}
 use Rattle.setfigures.specs.Figures.{setFigures}
 use Rattle.tightrows.specs.Rows.{slotRow, tightRow}
 use Rattle.rows.specs.Rows.{horizonOf, horizonRow, chargedOutcome}
-use Rattle.plan.specs.Plan.{reservesWith, setPlacement, setReserves}
+use Rattle.layout.specs.Made.{reservesWith, setPlacement, setReserves}
 use Rattle.planner.specs.Planner.{needed, fullRow, planOutcome, planOf}
 use Rattle.fitting_rotas.specs.Rota.{rotaOf}
 use Rattle.promises.specs.Claims.{Accepted}

@@ -13,7 +13,8 @@ use Rattle.ring_claims.specs.Rota.{unrolled}
 use Rattle.servers.specs.Fitting.{Fitting}
 use Rattle.setfigures.specs.Figures.{setFigures}
 use Rattle.plan.specs.declared.plan.Plan.{Plan}
-use Rattle.plan.specs.Plan.{reservesIn, planWith, setPlacement}
+use Rattle.plan.specs.Plan.{reservesIn}
+use Rattle.layout.specs.Made.{planWith, setPlacement}
 use Rattle.planner.specs.Planner.{planOf}
 use Rattle.plancheck.specs.Agrees.{makes}
 use Rattle.rotas.specs.Rota.{Standing}

@@ -14,8 +14,10 @@ use Rattle.turn.specs.declared.Turn.{Turn}
 use Rattle.turn.specs.Stretch.{Laid}
 use Rattle.plan.specs.declared.plan.Plan.{Plan}
 use Rattle.plan.specs.declared.server.Server.{Server}
-use Rattle.plan.specs.Plan.{reservesIn, setReserves, setPlacement, reservesWith, laidOut, planWith, planMade}
-use Rattle.plan.proofs.LaidLaws.{take-map}
+use Rattle.plan.specs.Plan.{reservesIn}
+use Rattle.layout.specs.Made.{setReserves, setPlacement, reservesWith, planWith, planMade}
+use Rattle.layout.specs.Layout.{laidOut}
+use Rattle.layout.proofs.LaidLaws.{take-map}
 use Rattle.plancheck.specs.Agrees.{makes, SamePlan}
 use Rattle.plancheck.proofs.AgreeLaws.{agree-same}
 use Rattle.plancheck.proofs.Checked.{OfSet, of-set, laid-in, makes-agrees}

@@ -11,7 +11,7 @@ use Rattle.refusals.specs.declared.Outcome.the-variants.{Done, Refused}
 use Rattle.tasks.specs.declared.set.TaskSet.{TaskSet}
 use Rattle.taskread.specs.Read.{readOf}
 use Rattle.planner.specs.declared.PlanAnswer.{PlanAnswer}
-use Rattle.plan.specs.Plan.{planMade}
+use Rattle.layout.specs.Made.{planMade}
 use Rattle.planner.specs.Planner.{planOutcome, planOf}
 use Rattle.planner.proofs.Made.{plan-outcome, plan-is}
 use Rattle.plancheck.specs.Agrees.{makes}

@@ -17,9 +17,10 @@ use Rattle.tasks.specs.Set.{mostTasks}
 use Rattle.tasks.specs.declared.set.TaskSet.{TaskSet}
 use Rattle.plan.specs.declared.plan.Plan.{Plan}
 use Rattle.plan.specs.declared.server.Server.{Server}
-use Rattle.plan.specs.Plan.{reservesIn, setReserves}
+use Rattle.plan.specs.Plan.{reservesIn}
+use Rattle.layout.specs.Made.{setReserves}
 use Rattle.planner.specs.Planner.{needed}
-use Rattle.plan.proofs.LaidLaws.{take-map}
+use Rattle.layout.proofs.LaidLaws.{take-map}
 use Rattle.plancheck.specs.Agrees.{makes}
 use Rattle.plancheck.proofs.Checked.{OfSet, of-set, laid-in}
 use Rattle.whoruns.specs.WhoRuns.{isProcessor, Standing}

@@ -10,7 +10,7 @@ use Rattle.ring.specs.declared.cover.Stand.{Stand}
 use Rattle.ring.specs.Who.{whoOf}
 use Rattle.tasks.specs.declared.set.TaskSet.{TaskSet}
 use Rattle.plan.specs.declared.plan.Plan.{Plan}
-use Rattle.plan.specs.Plan.{setReserves}
+use Rattle.layout.specs.Made.{setReserves}
 use Rattle.plancheck.specs.Agrees.{makes}
 use Rattle.whoruns.specs.declared.WhoAnswer.{WhoAnswer}
 use Rattle.whoruns.specs.WhoRuns.{refusedWho, whoRuns, isProcessor}

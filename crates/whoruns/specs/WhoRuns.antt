@@ -15,7 +15,8 @@ use Rattle.ring.specs.Who.{whoOf}
 use Rattle.tasks.specs.declared.set.TaskSet.{TaskSet}
 use Rattle.plan.specs.declared.plan.Plan.{Plan}
 use Rattle.plan.specs.declared.server.Server.{Server}
-use Rattle.plan.specs.Plan.{reservesIn, setReserves}
+use Rattle.plan.specs.Plan.{reservesIn}
+use Rattle.layout.specs.Made.{setReserves}
 use Rattle.plancheck.specs.Agrees.{makes}
 use Rattle.whoruns.specs.declared.WhoAnswer.{WhoAnswer}
 

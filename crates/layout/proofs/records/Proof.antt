@@ -3,12 +3,12 @@
 use Prim.Native.Nat.{_-_, _≤_}
 use mathlib.Core.Path.{refl}
 use native.Mathlib.Omega.{arith}
-use borrow.Author.Needs.{needs}
 use lib.ListN.{take}
 use Rattle.places.proofs.PaddedLaws.{FilledWith, filled-none, filled-next, filled-all}
-use Rattle.plan.specs.Plan.{zeroServer, serverOf}
-use Rattle.plan.proofs.layout.records.Statement.{statement}
-use Rattle.plan.proofs.layout.records.Tie as tie
+use Rattle.plan.specs.Plan.{zeroServer}
+use Rattle.layout.specs.Layout.{serverOf}
+use Rattle.layout.proofs.records.Statement.{statement}
+use Rattle.layout.proofs.records.Tie as tie
 
 abbrev Inv-loop : tie.InvT-loop
 Inv-loop placement tasks reserves n slot cache server₀ i₀ server i =

@@ -1,8 +1,8 @@
 // From placed and sized servers to the plan: the record of each server, and the first reserve of each processor.
-// What they mean stands in specs/Plan.antt. The reserves stand in a slice, of which the first n count.
-use crate::plan::Plan;
-use crate::server::Server;
+// What they mean stands in specs/Layout.antt. The reserves stand in a slice, of which the first n count.
 use places::places_of;
+use plan::plan::Plan;
+use plan::server::Server;
 use reserves::sums::ring_processors;
 use reserves::sums::ring_ticks;
 use reserves::sums::start;
@@ -19,8 +19,9 @@ ghost use Rattle.places.specs.Padded.{padWith, upTo};
 ghost use Rattle.reserves.specs.Slotted.{SlottedFirst};
 ghost use Rattle.reserves.specs.Reserves.{processorsOf};
 ghost use Rattle.ring.specs.Who.{firstReserve};
-ghost use Rattle.plan.specs.Plan.{ringStart, serverOf, zeroServer, zeroStand, laidOut};
-ghost use Rattle.plan.specs.Layable.{Layable};
+ghost use Rattle.layout.specs.Layout.{ringStart, serverOf, laidOut};
+ghost use Rattle.plan.specs.Plan.{zeroServer, zeroStand};
+ghost use Rattle.layout.specs.Layable.{Layable};
 
 // Where server q stands on the ring; 0 for a server that has a whole processor.
 fn start_of(reserves: &[u64], n: usize, slot: u64, q: usize) -> u64

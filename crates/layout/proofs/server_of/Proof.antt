@@ -3,10 +3,10 @@
 use borrow.Author.Needs.{needs}
 use mathlib.Core.Path.{sym}
 use lib.ListN.{take}
-use Rattle.plan.proofs.RingStarts.{reserve-place}
-use Rattle.plan.proofs.RecordLaws.{server-made}
-use Rattle.plan.proofs.layout.server_of.Statement.{statement}
-use Rattle.plan.proofs.layout.server_of.Tie as tie
+use Rattle.layout.proofs.RingStarts.{reserve-place}
+use Rattle.layout.proofs.RecordLaws.{server-made}
+use Rattle.layout.proofs.server_of.Statement.{statement}
+use Rattle.layout.proofs.server_of.Tie as tie
 
 returns : tie.Need-returns
 returns c =

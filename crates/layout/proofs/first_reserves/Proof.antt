@@ -6,9 +6,9 @@ use native.Mathlib.Omega.{arith}
 use lib.ListN.{take}
 use Rattle.ring.specs.Who.{firstReserve}
 use Rattle.places.proofs.PaddedLaws.{FilledWith, filled-none, filled-next, filled-all}
 use Rattle.plan.specs.Plan.{zeroStand}
-use Rattle.plan.proofs.layout.first_reserves.Statement.{statement}
-use Rattle.plan.proofs.layout.first_reserves.Tie as tie
+use Rattle.layout.proofs.first_reserves.Statement.{statement}
+use Rattle.layout.proofs.first_reserves.Tie as tie
 
 abbrev Inv-loop : tie.InvT-loop
 Inv-loop reserves n slot processors first₀ i₀ first i =

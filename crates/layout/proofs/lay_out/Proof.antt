@@ -5,9 +5,9 @@ use native.Mathlib.Omega.{arith}
 use mathlib.Core.Path.{_≡_, sym, _∙_}
 use lib.ListN.{length, length-map}
 use Rattle.tasks.specs.Set.{mostTasks}
-use Rattle.plan.proofs.Layouts.{ring-fits, ring-covers, sum-few, laid-made}
-use Rattle.plan.proofs.layout.lay_out.Statement.{statement}
-use Rattle.plan.proofs.layout.lay_out.Tie as tie
+use Rattle.layout.proofs.Layouts.{ring-fits, ring-covers, sum-few, laid-made}
+use Rattle.layout.proofs.lay_out.Statement.{statement}
+use Rattle.layout.proofs.lay_out.Tie as tie
 
 -- the placement has a place for each task
 full : (c : tie.Start) → length (c .args .served .placement) ≡ mostTasks

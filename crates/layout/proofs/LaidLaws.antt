@@ -1,23 +1,22 @@
 -- What a plan that is laid out holds: its reserves, and the server and the first reserve at each place.
 -- Assumes nothing.
 use Prim.Native.Nat.{ℕ, zero, suc, pred, _+_, _≤_, _<_}
-use mathlib.Core.Path.{_≡_, refl, sym, ap, ap₂, _∙_}
+use mathlib.Core.Path.{_≡_, refl, ap, _∙_}
 use mathlib.Core.List.{List, [], _∷_, _++_, map, map-append}
 use native.Mathlib.Numerals.{add-one}
 use native.Mathlib.Omega.{arith}
 use lib.ListN.{length, take, getD}
 use lib.Seq.{ext-getD}
 use Rattle.tasks.specs.Set.{mostTasks}
-use Rattle.places.specs.Padded.{padWith, upTo}
-use Rattle.places.specs.Places.{placesIn}
+use Rattle.places.specs.Padded.{upTo}
 use Rattle.places.proofs.PaddedLaws.{pad-take, pad-at, up-length, up-at, up-there}
 use Rattle.places.proofs.PlacesLaws.{places-most}
 use Rattle.reserves.specs.Reserves.{reserveOf, processorsOf}
 use Rattle.ring.specs.declared.cover.Stand.{Stand}
 use Rattle.ring.specs.Who.{firstReserve}
-use Rattle.plan.specs.declared.plan.Plan.{Plan}
 use Rattle.plan.specs.declared.server.Server.{Server}
-use Rattle.plan.specs.Plan.{zeroServer, noServer, zeroStand, serverOf, reservesIn, laidOut}
+use Rattle.plan.specs.Plan.{zeroServer, zeroStand, reservesIn}
+use Rattle.layout.specs.Layout.{serverOf, laidOut}
 
 -- the front of a row of something of each element
 pub take-map : {A B : Type 0} (f : A → B) (n : ℕ) (xs : List A) → take n (map f xs) ≡ map f (take n xs)

@@ -10,7 +10,7 @@ use lib.Dec.{ltb}
 use lib.ListN.{take, getD}
 use lib.Seq.{getD-take}
 use Rattle.reserves.specs.Reserves.{reserveOf, startOf}
-use Rattle.plan.specs.Plan.{ringStart}
+use Rattle.layout.specs.Layout.{ringStart}
 
 -- the reserve of server q stands at place q − 1
 pub reserve-place : (rs : List ℕ) (n q : ℕ) → 1 ≤ q → q ≤ n → reserveOf (take n rs) q ≡ getD rs (q - 1) 0

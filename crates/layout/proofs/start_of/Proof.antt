@@ -2,9 +2,9 @@
 -- Assumes nothing.
 use borrow.Author.Needs.{needs}
 use mathlib.Core.Path.{_∙_}
-use Rattle.plan.proofs.RingStarts.{start-ring, start-whole}
-use Rattle.plan.proofs.layout.start_of.Statement.{statement}
-use Rattle.plan.proofs.layout.start_of.Tie as tie
+use Rattle.layout.proofs.RingStarts.{start-ring, start-whole}
+use Rattle.layout.proofs.start_of.Statement.{statement}
+use Rattle.layout.proofs.start_of.Tie as tie
 
 returns : tie.Need-returns
 returns c =

@@ -9,17 +9,18 @@ use borrow.Author.Tests.{lt-ltb, le-ltb}
 use lib.ListN.{length, take}
 use Rattle.laws.proofs.Orders.{le-or-lt}
 use Rattle.wholes.proofs.CeilingLaws.{ceiling-least}
-use Rattle.places.specs.Padded.{padWith, padded, upTo}
+use Rattle.places.specs.Padded.{padWith, upTo}
 use Rattle.sizing.specs.declared.Servers.{Servers}
 use Rattle.reserves.specs.Slotted.{SlottedFirst}
 use Rattle.reserves.specs.Reserves.{ringTicks, wholes, ringProcessors, processorsOf}
 use Rattle.ring.specs.Who.{firstReserve}
 use Rattle.reserves.proofs.Starts.{wholes-below, ring-holds, taken-length, length-room}
 use Rattle.plan.specs.declared.plan.Plan.{Plan}
 use Rattle.ring.specs.declared.cover.Stand.{Stand}
 use Rattle.plan.specs.declared.server.Server.{Server}
-use Rattle.plan.specs.Plan.{zeroServer, zeroStand, serverOf, laidOut}
-use Rattle.plan.specs.Layable.{Layable}
+use Rattle.plan.specs.Plan.{zeroServer, zeroStand}
+use Rattle.layout.specs.Layout.{serverOf, laidOut}
+use Rattle.layout.specs.Layable.{Layable}
 
 -- reserves and whole processors together take at most a slot a server
 ring-and-whole : (S : ℕ) (rs : List ℕ) → ringTicks S rs + wholes S rs * S ≤ length rs * S
