@@ -9,7 +9,7 @@ use Rattle.verdict.specs.declared.answer.Verdict.{Verdict}
 use Rattle.members.specs.Server.{verdictFor}
 use Rattle.tasks.specs.declared.set.TaskSet.{TaskSet}
 use Rattle.plan.specs.declared.plan.Plan.{Plan}
-use Rattle.plancheck.specs.Agrees.{makes}
+use Rattle.plancheck.specs.Makes.{makes}
 use Rattle.doespass.specs.DoesPass.{refusedPass, doesPass}
 use Rattle.planserver.specs.Named.{isServer, allowedTo, serverMembers}
 

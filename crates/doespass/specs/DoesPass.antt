@@ -10,7 +10,7 @@ use Rattle.verdict.specs.declared.answer.Verdict.the-variants.{Yes}
 use Rattle.members.specs.Server.{verdictFor}
 use Rattle.tasks.specs.declared.set.TaskSet.{TaskSet}
 use Rattle.plan.specs.declared.plan.Plan.{Plan}
-use Rattle.plancheck.specs.Agrees.{makes}
+use Rattle.plancheck.specs.Makes.{makes}
 use Rattle.planserver.specs.Named.{isServer, serverMembers, allowedTo}
 use Rattle.doespass.specs.declared.PassAnswer.{PassAnswer}
 

@@ -12,7 +12,7 @@ use verdict::answer::Reading;
 use verdict::answer::Verdict;
 ghost use mathlib.Core.Path.{_≡_};
 ghost use mathlib.Core.Bool.{true};
-ghost use Rattle.plancheck.specs.Agrees.{makes};
+ghost use Rattle.plancheck.specs.Makes.{makes};
 ghost use Rattle.doespass.specs.DoesPass.{refusedPass, doesPass};
 
 // A refused question holds a yes of zeros, which says nothing.

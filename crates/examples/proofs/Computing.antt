@@ -42,7 +42,8 @@ use Rattle.rows.specs.Rows.{horizonOf, horizonRow, chargedOutcome}
 use Rattle.places.specs.Padded.{upTo}
 use Rattle.layout.specs.Layout.{laidOut}
 use Rattle.layout.specs.Made.{reservesWith, planWith, setPlacement, setReserves, planMade}
-use Rattle.plancheck.specs.Agrees.{alike, sameFigures, sameServer, sameServers, sameProcessors, agrees, makes}
+use Rattle.planagree.specs.Agrees.{alike, sameFigures, sameServer, sameServers, sameProcessors, agrees}
+use Rattle.plancheck.specs.Makes.{makes}
 use Rattle.planner.specs.Planner.{needed, fullRow, planOutcome, planOf}
 use Rattle.whoruns.specs.WhoRuns.{isProcessor, whoRuns}
 use Rattle.planserver.specs.Named.{allowed, isServer}

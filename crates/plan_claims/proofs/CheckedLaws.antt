@@ -29,7 +29,7 @@ use Rattle.plan.specs.declared.plan.Plan.{Plan}
 use Rattle.layout.specs.Made.{setPlacement, setReserves, planMade}
 use Rattle.planner.specs.Planner.{needed, fullRow}
 use Rattle.planner.proofs.Made.{members, alone, slot-some, outcome-clear}
-use Rattle.plancheck.specs.Agrees.{makes}
+use Rattle.plancheck.specs.Makes.{makes}
 use Rattle.plancheck.proofs.Checked.{OfSet, of-set, same-made, makes-done}
 use Rattle.whoruns.specs.WhoRuns.{isProcessor, whoAnswer, whoRuns}
 use Rattle.doespass.specs.declared.PassAnswer.{PassAnswer}

@@ -29,7 +29,7 @@ use Rattle.layout.specs.Made.{reservesWith, planWith}
 use Rattle.layout.proofs.LaidLaws.{laid-reserves, laid-server}
 use Rattle.planner.specs.Planner.{Clear}
 use Rattle.planner.proofs.Made.{fits, members, slot-some}
-use Rattle.plancheck.specs.Agrees.{used, SamePlan}
+use Rattle.planagree.specs.Agrees.{used, SamePlan}
 use Rattle.plancheck.proofs.Checked.{reserves-same}
 use Rattle.plan_claims.specs.Claims.{membersIn, PlacedOnce, Reserved, Recorded, Needs, FittingPlan, PlanFitting}
 

@@ -18,8 +18,8 @@ use Rattle.setfigures.specs.Figures.{setFigures}
 use Rattle.plan.specs.declared.plan.Plan.{Plan}
 use Rattle.layout.specs.Layout.{laidOut}
 use Rattle.layout.specs.Made.{planWith, setPlacement, planMade}
-use Rattle.plancheck.specs.Agrees.{makes}
-use Rattle.plancheck.proofs.AgreeLaws.{agree-same}
+use Rattle.plancheck.specs.Makes.{makes}
+use Rattle.planagree.proofs.AgreeLaws.{agree-same}
 use Rattle.plancheck.proofs.Checked.{makes-agrees}
 use Rattle.planserver.specs.Named.{serverMembers}
 use Rattle.plan_claims.specs.Claims.{membersIn}

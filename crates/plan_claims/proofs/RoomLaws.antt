@@ -10,12 +10,13 @@ use Rattle.setfigures.specs.Figures.{setFigures}
 use Rattle.rows.specs.Rows.{horizonOf, horizonRow, chargedOutcome}
 use Rattle.layout.specs.Made.{reservesWith, planWith, setPlacement, setReserves, planMade}
 use Rattle.planner.specs.Planner.{needed, fullRow, planOutcome, planOf}
-use Rattle.plancheck.specs.Agrees.{isDone, makes, SamePlan}
+use Rattle.plancheck.specs.Makes.{isDone, makes}
+use Rattle.planagree.specs.Agrees.{SamePlan}
 use Rattle.whoruns.specs.WhoRuns.{isProcessor, whoRuns}
 use Rattle.planserver.specs.Named.{isServer}
 use Rattle.doespass.specs.DoesPass.{doesPass}
 use Rattle.plan_claims.specs.Claims.{SameSet, SetRoomIgnored, PlanRoomIgnored}
-use Rattle.plancheck.proofs.AgreeLaws.{agree-alike}
+use Rattle.planagree.proofs.AgreeLaws.{agree-alike}
 
 -- ---- two sets that differ in unused room alone
 

@@ -40,7 +40,8 @@ use Rattle.plan.specs.Plan.{zeroPlan, serverAt, reservesIn}
 use Rattle.layout.specs.Layout.{ringStart}
 use Rattle.layout.specs.Made.{planWith, planMade}
 use Rattle.planner.specs.Planner.{Clear, needed, fullRow, planOf}
-use Rattle.plancheck.specs.Agrees.{SamePlan, makes}
+use Rattle.planagree.specs.Agrees.{SamePlan}
+use Rattle.plancheck.specs.Makes.{makes}
 use Rattle.whoruns.specs.WhoRuns.{isProcessor, whoRuns}
 use Rattle.planserver.specs.Named.{allowed, isServer}
 use Rattle.doespass.specs.DoesPass.{doesPass}

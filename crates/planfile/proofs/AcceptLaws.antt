@@ -22,9 +22,9 @@ use Rattle.loads.specs.Charge.{figuresOf}
 use Rattle.setfigures.specs.Figures.{setFigures}
 use Rattle.layout.specs.Made.{planMade, planWith, reservesWith, setPlacement}
 use Rattle.layout.specs.Layout.{laidOut}
-use Rattle.plancheck.specs.Agrees.{makes}
+use Rattle.plancheck.specs.Makes.{makes}
 use Rattle.planner.specs.Planner.{Clear, planOutcome, needed, fullRow}
-use Rattle.plancheck.proofs.AgreeLaws.{agree-same}
+use Rattle.planagree.proofs.AgreeLaws.{agree-same}
 use Rattle.plancheck.proofs.Checked.{makes-done, makes-agrees}
 use Rattle.rows.proofs.Clears.{charged-clear}
 use Rattle.planner.proofs.Made.{outcome-clear, made-needs}

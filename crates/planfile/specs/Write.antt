@@ -5,7 +5,7 @@ use mathlib.Core.List.{List}
 use Rattle.refusals.specs.declared.Written.{Written}
 use Rattle.tasks.specs.declared.set.TaskSet.{TaskSet}
 use Rattle.plan.specs.declared.plan.Plan.{Plan}
-use Rattle.plancheck.specs.Agrees.{makes}
+use Rattle.plancheck.specs.Makes.{makes}
 use Rattle.plantext.specs.Text.{planText}
 use Rattle.planfit.specs.Fit.{writeOf}
 

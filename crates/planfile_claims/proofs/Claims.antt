@@ -26,7 +26,7 @@ use Rattle.planner.specs.Planner.{planOf}
 use Rattle.places.specs.Places.{placesIn}
 use Rattle.tasks_claims.proofs.Prefix.{read-looks-at}
 use Rattle.plan.specs.declared.plan.Plan.{Plan}
-use Rattle.plancheck.specs.Agrees.{makes}
+use Rattle.plancheck.specs.Makes.{makes}
 use Rattle.plantext.specs.Text.{planText, longestText}
 use Rattle.frames.specs.Table.{widthsOf, sum}
 use Rattle.taskread.specs.Read.{furthest, readOf}

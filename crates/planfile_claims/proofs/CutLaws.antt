@@ -18,7 +18,7 @@ use Rattle.taskask.specs.Ask.{taskOverflows}
 use Rattle.taskask.proofs.Carried.{ask-tasks, task-fits}
 use Rattle.plan.specs.declared.plan.Plan.{Plan}
 use Rattle.planner.proofs.Made.{fits, count-most}
-use Rattle.plancheck.specs.Agrees.{makes}
+use Rattle.plancheck.specs.Makes.{makes}
 use Rattle.plancheck.proofs.Checked.{OfSet, of-set}
 use Rattle.planfigures.specs.Figures.{serverFigures, placedFigures, processorFigures}
 use Rattle.planlines.specs.Line.{planFigures}

@@ -35,8 +35,9 @@ use Rattle.layout.specs.Layout.{ringStart, serverOf, laidOut}
 use Rattle.layout.specs.Made.{planWith, setPlacement, setReserves, planMade}
 use Rattle.layout.proofs.LaidLaws.{laid-first}
 use Rattle.planner.proofs.Made.{set-count, slot-some, count-most}
-use Rattle.plancheck.specs.Agrees.{used, makes, SamePlan}
-use Rattle.plancheck.proofs.AgreeLaws.{agree-same}
+use Rattle.planagree.specs.Agrees.{used, SamePlan}
+use Rattle.plancheck.specs.Makes.{makes}
+use Rattle.planagree.proofs.AgreeLaws.{agree-same}
 use Rattle.plancheck.proofs.Checked.{OfSet, of-set, makes-agrees, placement-count}
 use Rattle.plan_claims.specs.Claims.{membersIn}
 use Rattle.plan_claims.proofs.CheckedLaws.{checked-holds}

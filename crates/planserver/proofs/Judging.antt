@@ -37,7 +37,8 @@ use Rattle.layout.specs.Made.{reservesWith, planWith, setPlacement, setReserves
 use Rattle.layout.proofs.LaidLaws.{laid-server}
 use Rattle.planner.specs.Planner.{Clear}
 use Rattle.planner.proofs.Made.{count-most, fits, set-few, filed}
-use Rattle.plancheck.specs.Agrees.{used, usedServers, makes}
+use Rattle.planagree.specs.Agrees.{used, usedServers}
+use Rattle.plancheck.specs.Makes.{makes}
 use Rattle.plancheck.proofs.Checked.{of-set, same-made, placement-count}
 use Rattle.planserver.specs.Named.{isServer, allowed, allowedTo, serverMembers}
 

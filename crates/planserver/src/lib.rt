@@ -10,7 +10,7 @@ use verdict::answer::Verdict;
 ghost use mathlib.Core.Path.{_≡_};
 ghost use mathlib.Core.Bool.{true};
 ghost use Rattle.members.specs.Server.{verdictFor};
-ghost use Rattle.plancheck.specs.Agrees.{makes};
+ghost use Rattle.plancheck.specs.Makes.{makes};
 ghost use Rattle.planserver.specs.Named.{isServer, allowed, allowedTo, serverMembers};
 
 // L + 1 ≤ R ≤ S − 1, or R = S.

@@ -16,7 +16,7 @@ use Rattle.plan.specs.declared.plan.Plan.{Plan}
 use Rattle.plan.specs.Plan.{reservesIn}
 use Rattle.layout.specs.Made.{planWith, setPlacement}
 use Rattle.planner.specs.Planner.{planOf}
-use Rattle.plancheck.specs.Agrees.{makes}
+use Rattle.plancheck.specs.Makes.{makes}
 use Rattle.rotas.specs.Rota.{Standing}
 use Rattle.fitting_rotas.specs.Rota.{rotaOf}
 use Rattle.promises.specs.Prints.{PrintsRota, printedOf}

@@ -14,7 +14,7 @@ use Rattle.turn.specs.Count.{longestSwitches}
 use Rattle.turn_claims.specs.List.{named}
 use Rattle.plan.specs.declared.plan.Plan.{Plan}
 use Rattle.plan.specs.Plan.{reservesIn}
-use Rattle.plancheck.specs.Agrees.{makes}
+use Rattle.plancheck.specs.Makes.{makes}
 use Rattle.whoruns.specs.WhoRuns.{whoRuns}
 use Rattle.taskplan.specs.File.{filedOf}
 use Rattle.askfile.specs.OfFile.{whoIn}

@@ -18,8 +18,9 @@ use Rattle.plan.specs.Plan.{reservesIn}
 use Rattle.layout.specs.Made.{setReserves, setPlacement, reservesWith, planWith, planMade}
 use Rattle.layout.specs.Layout.{laidOut}
 use Rattle.layout.proofs.LaidLaws.{take-map}
-use Rattle.plancheck.specs.Agrees.{makes, SamePlan}
-use Rattle.plancheck.proofs.AgreeLaws.{agree-same}
+use Rattle.plancheck.specs.Makes.{makes}
+use Rattle.planagree.specs.Agrees.{SamePlan}
+use Rattle.planagree.proofs.AgreeLaws.{agree-same}
 use Rattle.plancheck.proofs.Checked.{OfSet, of-set, laid-in, makes-agrees}
 use Rattle.planfile.proofs.AcceptLaws.{makes-counted}
 

@@ -14,8 +14,8 @@ use Rattle.planner.specs.declared.PlanAnswer.{PlanAnswer}
 use Rattle.layout.specs.Made.{planMade}
 use Rattle.planner.specs.Planner.{planOutcome, planOf}
 use Rattle.planner.proofs.Made.{plan-outcome, plan-is}
-use Rattle.plancheck.specs.Agrees.{makes}
-use Rattle.plancheck.proofs.AgreeLaws.{agree-self}
+use Rattle.plancheck.specs.Makes.{makes}
+use Rattle.planagree.proofs.AgreeLaws.{agree-self}
 use Rattle.taskplan.specs.declared.FileAnswer.{FileAnswer}
 use Rattle.taskplan.specs.File.{unless, refusedFile, plannedSet, filedOf}
 

@@ -21,7 +21,7 @@ use Rattle.plan.specs.Plan.{reservesIn}
 use Rattle.layout.specs.Made.{setReserves}
 use Rattle.planner.specs.Planner.{needed}
 use Rattle.layout.proofs.LaidLaws.{take-map}
-use Rattle.plancheck.specs.Agrees.{makes}
+use Rattle.plancheck.specs.Makes.{makes}
 use Rattle.plancheck.proofs.Checked.{OfSet, of-set, laid-in}
 use Rattle.whoruns.specs.WhoRuns.{isProcessor, Standing}
 

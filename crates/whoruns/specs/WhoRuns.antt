@@ -17,7 +17,7 @@ use Rattle.plan.specs.declared.plan.Plan.{Plan}
 use Rattle.plan.specs.declared.server.Server.{Server}
 use Rattle.plan.specs.Plan.{reservesIn}
 use Rattle.layout.specs.Made.{setReserves}
-use Rattle.plancheck.specs.Agrees.{makes}
+use Rattle.plancheck.specs.Makes.{makes}
 use Rattle.whoruns.specs.declared.WhoAnswer.{WhoAnswer}
 
 -- the processors that are there: 1 to r + whole

@@ -14,7 +14,7 @@ ghost use Prim.Native.Nat.{_+_, _≤_};
 ghost use Rattle.tasks.specs.Set.{mostTasks};
 ghost use Rattle.ring.specs.Who.{whoOf};
 ghost use Rattle.plan.specs.Plan.{reservesIn};
-ghost use Rattle.plancheck.specs.Agrees.{makes};
+ghost use Rattle.plancheck.specs.Makes.{makes};
 ghost use Rattle.whoruns.specs.WhoRuns.{isProcessor, refusedWho, whoRuns, Standing};
 
 pub struct WhoAnswer {

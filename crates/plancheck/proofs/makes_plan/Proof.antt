@@ -6,7 +6,6 @@ use lib.ListN.{length, length-map}
 use native.Mathlib.Omega.{arith}
 use Rattle.tasks.specs.Set.{mostTasks}
 use Rattle.refusals.specs.declared.Outcome.the-variants.{Done}
-use Rattle.plan.specs.declared.plan.Plan.{Plan}
 use Rattle.planner.specs.declared.PlanAnswer.{PlanAnswer}
 use Rattle.layout.specs.Made.{planMade}
 use Rattle.planner.specs.Planner.{planOutcome}

@@ -1,6 +1,6 @@
 -- Two lists compared from left to right: the places passed are alike, so the rest decides.
 -- Assumes nothing.
-use Prim.Native.Nat.{ℕ, suc, _+_, _≤_, _<_}
+use Prim.Native.Nat.{ℕ, _+_, _≤_, _<_}
 use mathlib.Core.Path.{_≡_, refl, ap, ap₂, _∙_}
 use mathlib.Core.Bool.{Bool, true, false, _&&_}
 use mathlib.Core.List.{List, [], _∷_, map}
@@ -9,7 +9,7 @@ use native.Mathlib.Omega.{arith}
 use lib.ListN.{length, take, drop, getD, drop-of-length-le}
 use lib.Seq.{drop-cons, getD-take, length-take-le}
 use Rattle.laws.proofs.Tests.{and-left, and-right, true-false}
-use Rattle.plancheck.specs.Agrees.{alike}
+use Rattle.planagree.specs.Agrees.{alike}
 
 module _ {A : Type 0} (t : A → A → Bool) where
   -- lists that are alike by a test of equality are equal

@@ -1,9 +1,9 @@
 -- Two plans agree exactly when they are the same in all that is used.
 -- Assumes nothing.
-use Prim.Native.Nat.{ℕ, _+_}
+use Prim.Native.Nat.{ℕ}
 use mathlib.Core.Path.{_≡_, refl, sym, ap, ap₂, _∙_}
-use mathlib.Core.Bool.{Bool, true, false, _&&_}
-use mathlib.Core.List.{List, map}
+use mathlib.Core.Bool.{Bool, true, _&&_}
+use mathlib.Core.List.{List}
 use borrow.Author.Tests.{eq-eqb, eqb-true}
 use lib.Dec.{eqb}
 use lib.ListN.{take}
@@ -11,8 +11,8 @@ use Rattle.laws.proofs.Tests.{and-left, and-right, and-both}
 use Rattle.ring.specs.declared.cover.Stand.{Stand}
 use Rattle.plan.specs.declared.plan.Plan.{Plan}
 use Rattle.plan.specs.declared.server.Server.{Server}
-use Rattle.plancheck.specs.Agrees.{alike, sameFront, sameFigures, used, sameServer, sameUsed, sameServers, sameStand, firsts, sameProcessors, agrees, usedServers, SamePlan}
-use Rattle.plancheck.proofs.Fronts.{alike-equal, alike-self, alike-map}
+use Rattle.planagree.specs.Agrees.{alike, sameFront, sameFigures, used, sameServer, sameServers, sameStand, firsts, sameProcessors, agrees, usedServers, SamePlan}
+use Rattle.planagree.proofs.Fronts.{alike-equal, alike-self, alike-map}
 
 -- a number is the same as itself
 eqb-self : (n : ℕ) → eqb n n ≡ true

@@ -1,9 +1,9 @@
 -- `same_figures` meets its contract: the tests are the definition's, in order.
 -- Assumes nothing.
 use borrow.Author.Tests.{eq-eqb, ne-eqb}
-use Rattle.plancheck.specs.Agrees.{sameFigures}
-use Rattle.plancheck.proofs.same_figures.Statement.{statement}
-use Rattle.plancheck.proofs.same_figures.Tie as tie
+use Rattle.planagree.specs.Agrees.{sameFigures}
+use Rattle.planagree.proofs.same_figures.Statement.{statement}
+use Rattle.planagree.proofs.same_figures.Tie as tie
 
 returns : tie.Need-returns
 unfolding sameFigures

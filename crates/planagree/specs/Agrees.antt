@@ -1,5 +1,4 @@
 -- When a plan that is handed in agrees with another: in every figure that is used. Unused room is not compared.
--- And when it is the one that the planner makes of a set.
 -- Document 01, "Refusal numbers and their order".
 use Prim.Native.Nat.{ℕ, _+_, _≤_, _<_}
 use mathlib.Core.List.{List, [], _∷_, map}
@@ -7,16 +6,11 @@ use mathlib.Core.Path.{_≡_}
 use mathlib.Core.Bool.{Bool, true, false, _&&_}
 use lib.ListN.{take, getD}
 use lib.Dec.{eqb}
-use Rattle.refusals.specs.declared.Outcome.{Outcome}
-use Rattle.refusals.specs.declared.Outcome.the-variants.{Done, Refused}
-use Rattle.tasks.specs.declared.set.TaskSet.{TaskSet}
 use Rattle.tasks.specs.Set.{mostTasks}
 use Rattle.ring.specs.declared.cover.Stand.{Stand}
 use Rattle.plan.specs.declared.plan.Plan.{Plan}
 use Rattle.plan.specs.declared.server.Server.{Server}
 use Rattle.plan.specs.Plan.{noServer}
-use Rattle.layout.specs.Made.{planMade}
-use Rattle.planner.specs.Planner.{planOutcome}
 
 -- two lists are alike by a test: equally long, and the test passes at each place
 unfoldable pub alike : {A : Type 0} → (A → A → Bool) → List A → List A → Bool
@@ -91,11 +85,3 @@ pub record InRoom (plan : Plan) : Type 0 where
   pub servers : plan .servers ≤ mostTasks
   pub processors : plan .ring + plan .whole ≤ mostTasks
   pub tasks : (i : ℕ) → i < plan .servers → getD (plan .server) i noServer .count ≤ mostTasks
-
-abbrev pub isDone : Outcome → Bool
-isDone Done = true
-isDone (Refused r) = false
-
--- the planner makes this plan of this set; unused room is not compared
-unfoldable pub makes : TaskSet → Plan → Bool
-makes set plan = isDone (planOutcome set) && agrees (set .count) plan (planMade set)

@@ -5,9 +5,9 @@ use borrow.Author.Tests.{eq-eqb, ne-eqb}
 use mathlib.Core.Path.{_≡_}
 use mathlib.Core.Bool.{Bool}
 use Rattle.plan.specs.declared.server.Server.{Server}
-use Rattle.plancheck.specs.Agrees.{sameFront, sameServer, sameUsed}
-use Rattle.plancheck.proofs.same_server.Statement.{statement}
-use Rattle.plancheck.proofs.same_server.Tie as tie
+use Rattle.planagree.specs.Agrees.{sameFront, sameServer, sameUsed}
+use Rattle.planagree.proofs.same_server.Statement.{statement}
+use Rattle.planagree.proofs.same_server.Tie as tie
 
 -- equal figures: the places decide
 by-places : (a b : Server) {r : Bool} → a .count ≡ b .count → a .reserve ≡ b .reserve → a .start .0 ≡ b .start .0 → a .cache ≡ b .cache →

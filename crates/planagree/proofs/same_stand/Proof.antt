@@ -1,8 +1,8 @@
 -- `same_stand` meets its contract: the tests are the definition's, in order.
 -- Assumes nothing.
 use borrow.Author.Tests.{eq-eqb, ne-eqb}
-use Rattle.plancheck.proofs.same_stand.Statement.{statement}
-use Rattle.plancheck.proofs.same_stand.Tie as tie
+use Rattle.planagree.proofs.same_stand.Statement.{statement}
+use Rattle.planagree.proofs.same_stand.Tie as tie
 
 returns : tie.Need-returns
 returns c = rw (ne-eqb _ _ (c .if1 .taken))

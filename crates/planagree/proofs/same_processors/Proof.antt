@@ -2,17 +2,17 @@
 -- The measure is what is left of them. Assumes nothing.
 use borrow.Author.Needs.{needs}
 use borrow.Author.Tests.{not-true, not-false}
-use Prim.Native.Nat.{ℕ, _+_, _-_, _≤_, _<_}
+use Prim.Native.Nat.{ℕ, _+_, _-_, _≤_}
 use mathlib.Core.Path.{_≡_, refl, sym, ap, _∙_}
 use native.Mathlib.Omega.{arith}
 use lib.ListN.{length, take, drop, length-map}
 use Rattle.tasks.specs.Set.{mostTasks}
 use Rattle.plan.specs.declared.plan.Plan.{Plan}
 use Rattle.plan.specs.Plan.{zeroStand}
-use Rattle.plancheck.specs.Agrees.{alike, sameStand, sameProcessors}
-use Rattle.plancheck.proofs.Fronts.{front-apart, front-next, front-end}
-use Rattle.plancheck.proofs.same_processors.Statement.{statement}
-use Rattle.plancheck.proofs.same_processors.Tie as tie
+use Rattle.planagree.specs.Agrees.{alike, sameStand, sameProcessors}
+use Rattle.planagree.proofs.Fronts.{front-apart, front-next, front-end}
+use Rattle.planagree.proofs.same_processors.Statement.{statement}
+use Rattle.planagree.proofs.same_processors.Tie as tie
 
 -- how many processors a plan has
 abbrev many : Plan → ℕ

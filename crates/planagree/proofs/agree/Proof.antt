@@ -4,10 +4,10 @@ use borrow.Author.Needs.{needs}
 use borrow.Author.Tests.{not-true, not-false}
 use Prim.Native.Nat.{ℕ, _+_}
 use mathlib.Core.Path.{sym, ap₂, _∙_}
-use Rattle.plancheck.specs.Agrees.{agrees}
-use Rattle.plancheck.proofs.AgreeLaws.{Figures, figures-same}
-use Rattle.plancheck.proofs.agree.Statement.{statement}
-use Rattle.plancheck.proofs.agree.Tie as tie
+use Rattle.planagree.specs.Agrees.{agrees}
+use Rattle.planagree.proofs.AgreeLaws.{Figures, figures-same}
+use Rattle.planagree.proofs.agree.Statement.{statement}
+use Rattle.planagree.proofs.agree.Tie as tie
 
 returns : tie.Need-returns
 unfolding agrees
