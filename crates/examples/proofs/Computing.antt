@@ -45,7 +45,8 @@ use Rattle.layout.specs.Made.{reservesWith, planWith, setPlacement, setReserves
 use Rattle.planagree.specs.Agrees.{alike, sameFigures, sameServer, sameServers, sameProcessors, agrees}
 use Rattle.plancheck.specs.Makes.{makes}
 use Rattle.planner.specs.Planner.{needed, fullRow, planOutcome, planOf}
-use Rattle.whoruns.specs.WhoRuns.{isProcessor, whoRuns}
+use Rattle.planprocessor.specs.Standing.{isProcessor}
+use Rattle.whoruns.specs.WhoRuns.{whoRuns}
 use Rattle.planserver.specs.Named.{allowed, isServer}
 use Rattle.doespass.specs.DoesPass.{doesPass}
 use Rattle.planfigures.specs.Figures.{serverFigures, placedFigures, processorFigures}

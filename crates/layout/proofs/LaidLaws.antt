@@ -5,7 +5,7 @@ use mathlib.Core.Path.{_≡_, refl, ap, _∙_}
 use mathlib.Core.List.{List, [], _∷_, _++_, map, map-append}
 use native.Mathlib.Numerals.{add-one}
 use native.Mathlib.Omega.{arith}
-use lib.ListN.{length, take, getD}
+use lib.ListN.{length, getD}
 use lib.Seq.{ext-getD}
 use Rattle.tasks.specs.Set.{mostTasks}
 use Rattle.places.specs.Padded.{upTo}
@@ -17,12 +17,6 @@ use Rattle.ring.specs.Who.{firstReserve}
 use Rattle.plan.specs.declared.server.Server.{Server}
 use Rattle.plan.specs.Plan.{zeroServer, zeroStand, reservesIn}
 use Rattle.layout.specs.Layout.{serverOf, laidOut}
-
--- the front of a row of something of each element
-pub take-map : {A B : Type 0} (f : A → B) (n : ℕ) (xs : List A) → take n (map f xs) ≡ map f (take n xs)
-take-map f zero xs = refl
-take-map f (suc n) [] = refl
-take-map f (suc n) (x ∷ xs) = ap (λ (l : List _). f x ∷ l) (take-map f n xs)
 
 -- something of f 1 to f n
 map-up : {A B : Type 0} (g : A → B) (f : ℕ → A) (n : ℕ) → map g (upTo f n) ≡ upTo (λ (k : ℕ). g (f k)) n

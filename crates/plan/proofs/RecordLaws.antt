@@ -1,17 +1,18 @@
 -- The row of all reserves, as the code finds it, is that of the definitions.
 -- Assumes nothing.
-use Prim.Native.Nat.{ℕ, pred, _+_, _-_, _<_}
-use mathlib.Core.Path.{_≡_, sym, ap, _∙_}
-use mathlib.Core.List.{List, map}
+use Prim.Native.Nat.{ℕ, zero, suc, pred, _+_, _-_, _<_}
+use mathlib.Core.Path.{_≡_, refl, sym, ap, _∙_}
+use mathlib.Core.List.{List, [], _∷_, map}
 use native.Mathlib.Numerals.{add-one}
 use native.Mathlib.Omega.{arith}
-use lib.ListN.{length, getD, length-map, List·getD-map}
+use lib.ListN.{length, take, getD, length-map, List·getD-map}
 use lib.Seq.{ext-getD}
 use Rattle.tasks.specs.Set.{mostTasks}
 use Rattle.places.specs.Padded.{padded, upTo}
 use Rattle.places.proofs.PaddedLaws.{FilledWith, padded-length, pad-at, up-length, up-at, filled-all}
+use Rattle.plan.specs.declared.plan.Plan.{Plan}
 use Rattle.plan.specs.declared.server.Server.{Server}
-use Rattle.plan.specs.Plan.{noServer}
+use Rattle.plan.specs.Plan.{noServer, reservesIn}
 
 -- the reserve of the server at place k − 1
 abbrev pub reserveBefore : List Server → ℕ → ℕ
@@ -33,3 +34,13 @@ row-filled servers full w e =
     up-at (reserveBefore servers) mostTasks i here ∙
     sym (before-next servers i) ∙
     sym (List·getD-map (λ (s : Server). s .reserve) servers i noServer))
+
+-- the front of a row of something of each element
+pub take-map : {A B : Type 0} (f : A → B) (n : ℕ) (xs : List A) → take n (map f xs) ≡ map f (take n xs)
+take-map f zero xs = refl
+take-map f (suc n) [] = refl
+take-map f (suc n) (x ∷ xs) = ap (λ (l : List _). f x ∷ l) (take-map f n xs)
+
+-- of the row of all places, those of the servers that there are
+pub row-front : (plan : Plan) {row : List ℕ} → row ≡ map (λ (s : Server). s .reserve) (plan .server) → take (plan .servers) row ≡ reservesIn plan
+row-front plan e = ap (take (plan .servers)) e ∙ take-map (λ (s : Server). s .reserve) (plan .servers) (plan .server)

@@ -31,7 +31,8 @@ use Rattle.planner.specs.Planner.{needed, fullRow}
 use Rattle.planner.proofs.Made.{members, alone, slot-some, outcome-clear}
 use Rattle.plancheck.specs.Makes.{makes}
 use Rattle.plancheck.proofs.Checked.{OfSet, of-set, same-made, makes-done}
-use Rattle.whoruns.specs.WhoRuns.{isProcessor, whoAnswer, whoRuns}
+use Rattle.planprocessor.specs.Standing.{isProcessor}
+use Rattle.whoruns.specs.WhoRuns.{whoAnswer, whoRuns}
 use Rattle.doespass.specs.declared.PassAnswer.{PassAnswer}
 use Rattle.planserver.specs.Named.{allowed, isServer, serverMembers}
 use Rattle.doespass.specs.DoesPass.{passAnswer, doesPass}

@@ -23,7 +23,8 @@ use Rattle.plan.specs.Plan.{zeroPlan}
 use Rattle.planner.specs.Planner.{planOutcome, answer, planOf}
 use Rattle.planner.proofs.Made.{plan-outcome, plan-is}
 use Rattle.plancheck.specs.Makes.{makes}
-use Rattle.whoruns.specs.WhoRuns.{isProcessor, whoAnswer, refusedWho, whoRuns}
+use Rattle.planprocessor.specs.Standing.{isProcessor}
+use Rattle.whoruns.specs.WhoRuns.{whoAnswer, refusedWho, whoRuns}
 use Rattle.planserver.specs.Named.{allowed, isServer, allowedTo}
 use Rattle.doespass.specs.DoesPass.{passAnswer, refusedPass, doesPass}
 use Rattle.planagree.proofs.AgreeLaws.{agree-same, agree-self}

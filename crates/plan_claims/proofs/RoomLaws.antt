@@ -12,7 +12,8 @@ use Rattle.layout.specs.Made.{reservesWith, planWith, setPlacement, setReserves
 use Rattle.planner.specs.Planner.{needed, fullRow, planOutcome, planOf}
 use Rattle.plancheck.specs.Makes.{isDone, makes}
 use Rattle.planagree.specs.Agrees.{SamePlan}
-use Rattle.whoruns.specs.WhoRuns.{isProcessor, whoRuns}
+use Rattle.planprocessor.specs.Standing.{isProcessor}
+use Rattle.whoruns.specs.WhoRuns.{whoRuns}
 use Rattle.planserver.specs.Named.{isServer}
 use Rattle.doespass.specs.DoesPass.{doesPass}
 use Rattle.plan_claims.specs.Claims.{SameSet, SetRoomIgnored, PlanRoomIgnored}

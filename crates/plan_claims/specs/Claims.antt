@@ -42,7 +42,8 @@ use Rattle.layout.specs.Made.{planWith, planMade}
 use Rattle.planner.specs.Planner.{Clear, needed, fullRow, planOf}
 use Rattle.planagree.specs.Agrees.{SamePlan}
 use Rattle.plancheck.specs.Makes.{makes}
-use Rattle.whoruns.specs.WhoRuns.{isProcessor, whoRuns}
+use Rattle.planprocessor.specs.Standing.{isProcessor}
+use Rattle.whoruns.specs.WhoRuns.{whoRuns}
 use Rattle.planserver.specs.Named.{allowed, isServer}
 use Rattle.doespass.specs.DoesPass.{doesPass}
 

@@ -23,7 +23,8 @@ use Rattle.plan.specs.declared.server.Server.{Server}
 use Rattle.plan.specs.Plan.{noServer, reservesIn}
 use Rattle.layout.specs.Layout.{laidOut}
 use Rattle.layout.specs.Made.{reservesWith, planWith, setPlacement, setReserves, planMade}
-use Rattle.layout.proofs.LaidLaws.{take-map, laid-reserves, laid-count}
+use Rattle.plan.proofs.RecordLaws.{take-map}
+use Rattle.layout.proofs.LaidLaws.{laid-reserves, laid-count}
 use Rattle.planagree.specs.Agrees.{used, agrees, SamePlan, InRoom}
 use Rattle.plancheck.specs.Makes.{isDone, makes}
 use Rattle.planner.specs.Planner.{Clear, needed, planOutcome, planOf}

@@ -17,7 +17,7 @@ use Rattle.plan.specs.declared.server.Server.{Server}
 use Rattle.plan.specs.Plan.{reservesIn}
 use Rattle.layout.specs.Made.{setReserves, setPlacement, reservesWith, planWith, planMade}
 use Rattle.layout.specs.Layout.{laidOut}
-use Rattle.layout.proofs.LaidLaws.{take-map}
+use Rattle.plan.proofs.RecordLaws.{take-map}
 use Rattle.plancheck.specs.Makes.{makes}
 use Rattle.planagree.specs.Agrees.{SamePlan}
 use Rattle.planagree.proofs.AgreeLaws.{agree-same}

@@ -2,9 +2,9 @@
 -- Assumes nothing.
 use borrow.Author.Needs.{needs}
 use borrow.Author.Tests.{le-leb, lt-leb}
-use Rattle.whoruns.specs.WhoRuns.{isProcessor}
-use Rattle.whoruns.proofs.is_processor.Statement.{statement}
-use Rattle.whoruns.proofs.is_processor.Tie as tie
+use Rattle.planprocessor.specs.Standing.{isProcessor}
+use Rattle.planprocessor.proofs.is_processor.Statement.{statement}
+use Rattle.planprocessor.proofs.is_processor.Tie as tie
 
 returns : tie.Need-returns
 unfolding isProcessor

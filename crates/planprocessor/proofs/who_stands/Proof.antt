@@ -2,9 +2,9 @@
 -- Assumes nothing.
 use borrow.Author.Needs.{needs}
 use mathlib.Core.Path.{_∙_}
-use Rattle.whoruns.proofs.StandingLaws.{row-stands, row-who}
-use Rattle.whoruns.proofs.who_stands.Statement.{statement}
-use Rattle.whoruns.proofs.who_stands.Tie as tie
+use Rattle.planprocessor.proofs.RowLaws.{row-stands, row-who}
+use Rattle.planprocessor.proofs.who_stands.Statement.{statement}
+use Rattle.planprocessor.proofs.who_stands.Tie as tie
 
 who-requires : tie.Need-who-requires
 who-requires c κs = let s = c .before .before in row-stands (s .args .plan) (c .before .reserves .ensures) (s .pre)
