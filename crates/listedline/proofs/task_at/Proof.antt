@@ -7,8 +7,8 @@ use Rattle.frames.specs.declared.table.Frame.{Frame}
 use Rattle.taskfile.proofs.Standing.{field-within}
 use Rattle.taskfile.specs.File.{taskAt}
 use borrow.Author.Needs.{needs}
-use Rattle.taskline.proofs.task_at.Statement.{statement}
-use Rattle.taskline.proofs.task_at.Tie as tie
+use Rattle.listedline.proofs.task_at.Statement.{statement}
+use Rattle.listedline.proofs.task_at.Tie as tie
 
 cast-t5 : tie.Need-cast-t5
 unfolding widthsOf

@@ -7,8 +7,8 @@ use Rattle.refusals.specs.declared.Outcome.{Outcome}
 use Rattle.refusals.specs.declared.Outcome.the-variants.{Done, Refused}
 use Rattle.refusals.proofs.FirstLaws.{done-refused}
 use Rattle.tasks.specs.declared.set.Task.{Task}
-use Rattle.taskline.specs.declared.TaskLine.{TaskLine}
-use Rattle.taskline.specs.Answer.{taskOr, ofTask}
+use Rattle.listedline.specs.declared.TaskLine.{TaskLine}
+use Rattle.listedline.specs.Answer.{taskOr, ofTask}
 
 pub of-task : (o : Outcome) (t : Task) → ofTask (taskOr o t) ≡ o
 of-task Done t = refl

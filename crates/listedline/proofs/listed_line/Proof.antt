@@ -1,8 +1,7 @@
 -- `listed_line` meets its contract: rows 3 and 4 at an 02 line, in their order.
-use Prim.Native.Nat.{ℕ, _+_}
+use Prim.Native.Nat.{_+_}
 use mathlib.Core.Path.{_≡_, sym, ap, _∙_}
 use mathlib.Core.Bool.{Bool, true, false}
-use mathlib.Core.List.{List}
 use denote.Ref.{now}
 use lib.Dec.{eqb}
 use lib.ListN.{drop}
@@ -11,13 +10,13 @@ use Rattle.refusals.specs.declared.Outcome.{Outcome}
 use Rattle.refusals.specs.First.{when}
 use Rattle.tasks.specs.declared.set.Task.{Task}
 use Rattle.tasks.specs.Search.{some}
-use Rattle.taskline.specs.declared.TaskLine.{TaskLine}
+use Rattle.listedline.specs.declared.TaskLine.{TaskLine}
 use Rattle.taskfile.specs.File.{lineOutcome, taskAt}
-use Rattle.taskline.specs.Answer.{taskOr}
+use Rattle.listedline.specs.Answer.{taskOr}
 use Rattle.taskfile.proofs.Standing.{said-count, said-twice}
 use borrow.Author.Needs.{needs}
-use Rattle.taskline.proofs.listed_line.Statement.{statement}
-use Rattle.taskline.proofs.listed_line.Tie as tie
+use Rattle.listedline.proofs.listed_line.Statement.{statement}
+use Rattle.listedline.proofs.listed_line.Tie as tie
 
 -- the answer for an outcome of the line
 abbrev given : tie.Start → Outcome → TaskLine

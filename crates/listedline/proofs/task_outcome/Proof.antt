@@ -1,9 +1,9 @@
 -- `task_outcome` meets its contract: each arm is told which answer it is.
 use mathlib.Core.Path.{sym, ap}
-use Rattle.taskline.specs.Answer.{ofTask}
+use Rattle.listedline.specs.Answer.{ofTask}
 use borrow.Author.Needs.{needs}
-use Rattle.taskline.proofs.task_outcome.Statement.{statement}
-use Rattle.taskline.proofs.task_outcome.Tie as tie
+use Rattle.listedline.proofs.task_outcome.Statement.{statement}
+use Rattle.listedline.proofs.task_outcome.Tie as tie
 
 returns-2 : tie.Need-returns-2
 returns-2 c = sym (ap ofTask (c .before .line .given .1))

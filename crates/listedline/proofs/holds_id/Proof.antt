@@ -12,8 +12,8 @@ use lib.Seq.{take-length}
 use borrow.Author.Tests.{eq-eqb, ne-eqb}
 use Rattle.tasks.specs.Search.{some}
 use Rattle.tasks.proofs.SearchLaws.{Passed, passed-none, passed-next, found-some, all-some}
-use Rattle.taskline.proofs.holds_id.Statement.{statement}
-use Rattle.taskline.proofs.holds_id.Tie as tie
+use Rattle.listedline.proofs.holds_id.Statement.{statement}
+use Rattle.listedline.proofs.holds_id.Tie as tie
 
 abbrev Inv-loop : tie.InvT-loop
 Inv-loop ids id i₀ i = Passed (λ (j : ℕ). eqb j id) 0 ids (length ids) i

@@ -3,7 +3,7 @@
 use Rattle.refusals.specs.declared.Outcome.{Outcome}
 use Rattle.refusals.specs.declared.Outcome.the-variants.{Done, Refused}
 use Rattle.tasks.specs.declared.set.Task.{Task}
-use Rattle.taskline.specs.declared.TaskLine.{TaskLine}
+use Rattle.listedline.specs.declared.TaskLine.{TaskLine}
 
 -- a line that is clear gives its figures, another hands its refusal up
 abbrev pub taskOr : Outcome → Task → TaskLine
