@@ -43,7 +43,7 @@ pub record Holds (set : TaskSet) (named : List ℕ) (plan : Plan) : Type 0 where
   pub server : (q : ℕ) → 1 ≤ q → q ≤ plan .servers → used (serverAt plan q) ≡ used (serverOf (set .header .slot) (set .header .cpmdo) named (reservesWith set named) q)
 
 -- plans that are the same in what is used have the same servers there
-used-same : {n : ℕ} (a b : Plan) → SamePlan n a b → (i : ℕ) → i < a .servers → used (getD (a .server) i noServer) ≡ used (getD (b .server) i noServer)
+pub used-same : {n : ℕ} (a b : Plan) → SamePlan n a b → (i : ℕ) → i < a .servers → used (getD (a .server) i noServer) ≡ used (getD (b .server) i noServer)
 used-same a b s i h =
     ap used (sym (getD-take (a .servers) (a .server) i noServer h))
     ∙ sym (List·getD-map used (take (a .servers) (a .server)) i noServer)

@@ -91,7 +91,7 @@ module _ (S : ℕ) where
       ⊎-elim (λ (p : S ≤ R). omega (arith, cond-ltb-not R 0 p)) (λ (p : R < S). omega (arith, cond-ltb R 0 p)) (le-or-lt S R)
 
   -- each server has at most a slot of the ring
-  ring-below : (xs : List ℕ) → ringTicks S xs ≤ length xs * S
+  pub ring-below : (xs : List ℕ) → ringTicks S xs ≤ length xs * S
   ring-below [] = omega (arith, ring-nil)
   ring-below (R ∷ Rs) = omega (arith, ring-cons R Rs, ring-below Rs, term-below R)
 

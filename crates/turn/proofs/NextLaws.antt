@@ -54,9 +54,14 @@ module _ (S : ℕ) (rs : List ℕ) where
       omega (arith, ap (λ (s : Stand). s .server) (stand-covered S rs (record { 0 = 0 }) (f .0) (f .1))))
       (stand-cases S rs 0)
 
-  after-at : (q at : ℕ) → endOf S rs q % ringLength S rs ≡ at → standAfter S rs q ≡ standAt S rs (record { 0 = at })
+  -- what follows stands where the stretch ends, on the ring
+  pub after-at : (q at : ℕ) → endOf S rs q % ringLength S rs ≡ at → standAfter S rs q ≡ standAt S rs (record { 0 = at })
   unfolding standAfter
   after-at q at e = rw e
+
+  -- the stretch of a server ends where the reserves up to it do
+  pub end-ticks : (i : ℕ) → Stretched S rs (suc i) → endOf S rs (suc i) ≡ ringTicks S (take (suc i) rs)
+  end-ticks i there = sym (ring-more S rs i (there .there) (there .ring (omega arith)))
 
   -- behind a stretch another server stands: behind a server's reserve a later server or the idle positions, or the ring begins
   -- again, which no reserve fills alone; behind the idle positions a server
@@ -66,7 +71,7 @@ module _ (S : ℕ) (rs : List ℕ) where
   after-differs (suc i) h g there e =
       let E : ℕ = endOf S rs (suc i) in
       let ring : reserveOf rs (suc i) < S = there .ring (omega arith) in
-      let ends : E ≡ ringTicks S (take (suc i) rs) = sym (ring-more S rs i (there .there) ring) in
+      let ends : E ≡ ringTicks S (take (suc i) rs) = end-ticks i there in
       ⊎-elim
       (λ (l : ringLength S rs ≤ E).
       let turned : E ≡ ringLength S rs = omega (arith, ring-part S rs (suc i), ring-holds S rs h) in

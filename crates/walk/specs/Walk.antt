@@ -21,8 +21,8 @@ leastOf f most zero = most
 leastOf f most (suc n) = min (leastOf f most n) (f (suc n))
 
 -- the places from i to n carry what was right before tick x
-pub record Carried (S : ℕ) (reserves : List ℕ) (x i n : ℕ) (servers until : List ℕ) : Type 0 where
+pub record Carried (S : ℕ) (reserves : List ℕ) (x i n : ℕ) (servers untils : List ℕ) : Type 0 where
   pub server : (k : ℕ) → i ≤ k → k < n → getD servers k 0 ≡ serverBefore S reserves (suc k) x
-  pub until : (k : ℕ) → i ≤ k → k < n → getD until k 0 ≡ untilBefore S reserves (suc k) x
+  pub until : (k : ℕ) → i ≤ k → k < n → getD untils k 0 ≡ untilBefore S reserves (suc k) x
   pub servers-room : n ≤ length servers
-  pub until-room : n ≤ length until
+  pub until-room : n ≤ length untils

@@ -1,0 +1,138 @@
+-- Each claim of specs/Claims.antt, proved.
+-- Assumes nothing.
+use Prim.Native.Nat.{ℕ, _-_, _≤_, _∣_}
+use mathlib.Core.Path.{_≡_, sym, _∙_}
+use mathlib.Core.Bool.{true}
+use native.Mathlib.Omega.{arith}
+use lib.ListN.{length, take}
+use Rattle.wholes.proofs.Claims.{multiple-of-means}
+use Rattle.demand.specs.Load.{Load, Sound, Every}
+use Rattle.demand.proofs.Claims.{loads-lawful}
+use Rattle.verdict.proofs.Horizons.{own-some, own-periods}
+use Rattle.tasks.specs.declared.set.TaskSet.{TaskSet}
+use Rattle.tasks.specs.Set.{mostTasks, zeroTask}
+use Rattle.loads.specs.Charge.{figuresOf, serverLoads, Member}
+use Rattle.loads.proofs.ChargeLaws.{loads-sound, loads-period}
+use Rattle.servers.specs.Placement.{placementOf}
+use Rattle.members.proofs.FiledLaws.{every-chosen}
+use Rattle.setfigures.specs.Figures.{setFigures}
+use Rattle.rows.specs.Rows.{horizonOf}
+use Rattle.setfigures.proofs.FigureLaws.{figures-length}
+use Rattle.rows.proofs.Clears.{figures-sound, horizon-of-figures, horizon-short}
+use Rattle.plan.specs.declared.plan.Plan.{Plan}
+use Rattle.plan.specs.Plan.{serverAt}
+use Rattle.layout.specs.Made.{setPlacement}
+use Rattle.planner.proofs.Made.{rows-clear, fits, may-charge, members, slot-some}
+use Rattle.plancheck.specs.Makes.{makes}
+use Rattle.plancheck.proofs.Checked.{OfSet, of-set}
+use Rattle.plan_claims.specs.Claims.{membersIn}
+use Rattle.plan_claims.proofs.Claims.{plan-checked, who-answers, pass-answers}
+use Rattle.planfile_claims.proofs.Claims.{text-tells-plan, nothing-cut-off}
+use Rattle.promises.proofs.Claims.{accepted-stands, plan-is-rota, printed-rota}
+use Rattle.filed_claims.specs.Claims.{setIn, planIn, demandIn, lossIn, PlacedFirst, ReportSmallest, HorizonEnough, FileFull, FileFirstFit, FileSmallest, FileHorizon, FileChecked, FileStands, FileIsRota, FilePrintedRota, FileQuestions, FileCutsNothing, FileTellsPlan, RoomNeverShows}
+use Rattle.filed_claims.proofs.FiledLaws.{filed-full, filed-made, filed-printed, filed-who, filed-pass}
+use Rattle.filed_claims.proofs.FirstLaws.{row-goes}
+use Rattle.filed_claims.proofs.ReportLaws.{by-report}
+use Rattle.filed_claims.proofs.StepLaws.{steps-pass}
+use Rattle.filed_claims.proofs.ShownLaws.{text-same, set-written-same, plan-text-same, plan-written-same}
+
+-- a plan that the planner makes of a set that has all its places
+module _ (set : TaskSet) (plan : Plan) (full : length (set .tasks) ≡ mostTasks) (made : makes set plan ≡ true) where
+  known : OfSet set plan
+  known = of-set set full plan made
+
+  slot : 1 ≤ set .header .slot
+  slot = slot-some set full (known .clear)
+
+  placed-same : take (set .count) (plan .placement) ≡ placementOf (set .header) (setFigures set)
+  unfolding setPlacement
+  placed-same = known .placement
+
+  -- its tasks are placed by first fit
+  placed-first : (k : ℕ) → 1 ≤ k → k ≤ set .count → PlacedFirst set plan k
+  placed-first k some there =
+      row-goes (set .header) (setFigures set) slot (members set full (known .clear)) (k - 1) (figuresOf zeroTask)
+      (omega (arith, figures-length set (fits set full (known .clear)))) (plan .placement) (set .count) (omega arith) placed-same
+
+  -- what holds of every figure holds of those of a server
+  sound : (q : ℕ) → Every Sound (serverLoads (set .header) (membersIn set plan q))
+  sound q =
+      loads-sound (set .header) (membersIn set plan q)
+      (every-chosen (Member (set .header)) (setFigures set) (take (set .count) (plan .placement)) q (members set full (known .clear)))
+
+  -- its reserves are the smallest by the report's test
+  smallest : (q : ℕ) → 1 ≤ q → q ≤ plan .servers → ReportSmallest (demandIn set plan q) (set .header .slot) (lossIn set plan q) (serverAt plan q .reserve)
+  smallest q some there =
+      by-report (demandIn set plan q) (set .header .slot) (lossIn set plan q) (serverAt plan q .reserve)
+      (loads-lawful .rising (serverLoads (set .header) (membersIn set plan q)) (sound q)) (plan-checked set plan full made .reserved .smallest q some there)
+
+  -- the set's horizon is a multiple of the periods of a server
+  horizon-some : 1 ≤ horizonOf set
+  horizon-some = rw (← horizon-of-figures set) (own-some (setFigures set) (set .header .slot) (figures-sound set (may-charge set full (known .clear))) slot)
+
+  periods : Every (λ (l : Load). l .period ∣ horizonOf set) (setFigures set)
+  periods = rw (← horizon-of-figures set) (own-periods (setFigures set) (set .header .slot))
+
+  divides : (q : ℕ) → Every (λ (l : Load). l .period ∣ horizonOf set) (serverLoads (set .header) (membersIn set plan q))
+  divides q =
+      loads-period (set .header) (membersIn set plan q) (λ (p : ℕ). p ∣ horizonOf set)
+      (every-chosen (λ (l : Load). l .period ∣ horizonOf set) (setFigures set) (take (set .count) (plan .placement)) q periods)
+
+  -- so it decides
+  enough : HorizonEnough set plan
+  unfolding horizonOf
+  enough = record {
+    multiple = multiple-of-means .is (set .header .slot) _;
+    short = horizon-short set (rows-clear set full (known .clear) .horizon);
+    decides = λ q R some there.
+        let d = steps-pass (serverLoads (set .header) (membersIn set plan q)) (set .header .slot) (lossIn set plan q) R (horizonOf set) slot horizon-some (sound q) (divides q) in
+        (λ passes t p h step. d .0 passes t p (omega (arith, h)) step, λ at-steps. d .1 (λ t p h step. at-steps t p (omega (arith, h)) step));
+  }
+
+pub file-full : FileFull
+file-full = filed-full
+
+pub file-first-fit : FileFirstFit
+file-first-fit text ok = placed-first (setIn text) (planIn text) (filed-full text) (filed-made text ok)
+
+pub file-smallest : FileSmallest
+file-smallest text ok = smallest (setIn text) (planIn text) (filed-full text) (filed-made text ok)
+
+pub file-horizon : FileHorizon
+file-horizon text ok = enough (setIn text) (planIn text) (filed-full text) (filed-made text ok)
+
+pub file-checked : FileChecked
+file-checked text ok = plan-checked (setIn text) (planIn text) (filed-full text) (filed-made text ok)
+
+pub file-stands : FileStands
+file-stands text ok = accepted-stands (setIn text) (plan-is-rota (setIn text) (planIn text) (filed-full text) (filed-made text ok) .0)
+
+pub file-is-rota : FileIsRota
+file-is-rota text ok = plan-is-rota (setIn text) (planIn text) (filed-full text) (filed-made text ok) .1
+
+pub file-printed-rota : FilePrintedRota
+file-printed-rota text mark p x ok = printed-rota (setIn text) (planIn text) mark p x (filed-full text) (filed-made text ok)
+
+pub file-questions : FileQuestions
+file-questions text ok = record {
+  who-asked = filed-who text ok;
+  who = λ p x. who-answers (setIn text) (planIn text) p x (filed-full text) (filed-made text ok);
+  pass-asked = filed-pass text ok;
+  pass = λ q R. pass-answers (setIn text) (planIn text) q R (filed-full text) (filed-made text ok);
+}
+
+pub file-cuts-nothing : FileCutsNothing
+file-cuts-nothing text ok = nothing-cut-off (setIn text) (planIn text) (filed-full text) (filed-made text ok)
+
+pub file-tells-plan : FileTellsPlan
+file-tells-plan text₁ text₂ ok₁ ok₂ same =
+    text-tells-plan (setIn text₁) (setIn text₂) (planIn text₁) (planIn text₂) (filed-full text₁) (filed-full text₂) (filed-made text₁ ok₁) (filed-made text₂ ok₂)
+    (sym (filed-printed text₁ ok₁) ∙ same ∙ filed-printed text₂ ok₂)
+
+pub room-never-shows : RoomNeverShows
+room-never-shows = record {
+  set-text = text-same;
+  set-written = λ a b buffer s. set-written-same a b s buffer;
+  plan-text = λ a b p q s r. plan-text-same a b s p q r;
+  plan-written = λ a b p q buffer s r. plan-written-same a b s p q r buffer;
+}

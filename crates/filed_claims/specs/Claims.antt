@@ -1,0 +1,177 @@
+-- What holds of the plan of every accepted task file, each claim as a type: nothing is asked but that the file is accepted. And that
+-- unused room never shows. The proofs stand under the same names in proofs/Claims.antt.
+-- The note's demands 2 and 3; document 01, "Demand, supply, and the report's test" and "From tasks to servers to ring".
+use Prim.Native.Nat.{ℕ, _+_, _-_, _≤_, _<_}
+use mathlib.Core.Path.{_≡_}
+use mathlib.Core.Logic.{_↔_, _⊎_}
+use mathlib.Core.Bool.{true}
+use mathlib.Core.List.{List, map}
+use lib.ListN.{length, getD, take}
+use Rattle.refusals.specs.declared.Outcome.the-variants.{Done}
+use Rattle.wholes.specs.Multiple.{LeastMultipleOf}
+use Rattle.demand.specs.Load.{Load}
+use Rattle.demand.specs.Supply.{Allowed, supply}
+use Rattle.demand.specs.Passes.{Passes, FakePasses}
+use Rattle.demand.specs.Steps.{Step}
+use Rattle.tasks.specs.declared.set.Task.{Task}
+use Rattle.tasks.specs.declared.set.TaskSet.{TaskSet}
+use Rattle.tasks.specs.Set.{mostTasks, longestHorizon, members, zeroTask}
+use Rattle.tasktext.specs.Text.{textOf}
+use Rattle.taskwrite.specs.Write.{writeOf}
+use Rattle.ring.specs.declared.clock.Tick.{Tick}
+use Rattle.loads.specs.Charge.{figuresOf, serverLoads, serverLoss}
+use Rattle.members.specs.Server.{serverDemand}
+use Rattle.servers.specs.Claims.{Lowest, Opened}
+use Rattle.setfigures.specs.Figures.{setFigures}
+use Rattle.rows.specs.Rows.{horizonOf}
+use Rattle.plan.specs.declared.plan.Plan.{Plan}
+use Rattle.plan.specs.Plan.{serverAt}
+use Rattle.layout.specs.Made.{setPlacement}
+use Rattle.planagree.specs.Agrees.{SamePlan}
+use Rattle.planprocessor.specs.Standing.{isProcessor}
+use Rattle.whoruns.specs.WhoRuns.{whoRuns}
+use Rattle.planserver.specs.Named.{isServer}
+use Rattle.doespass.specs.DoesPass.{doesPass}
+use Rattle.plan_claims.specs.Claims.{SameSet, CheckedPlan, WhoTells, PassTells, serverOfTask, membersIn, allowedIn}
+use Rattle.plantext.specs.Text.{planText}
+use Rattle.planfile.specs.Write.{writePlan}
+use Rattle.taskplan.specs.File.{filedOf}
+use Rattle.planfile.specs.Tool.{answered}
+use Rattle.askfile.specs.OfFile.{whoIn, passIn}
+use Rattle.planfile_claims.specs.Claims.{ToldSame, LinesInFields}
+use Rattle.rotas.specs.Rota.{Standing}
+use Rattle.fitting_rotas.specs.Rota.{rotaOf}
+use Rattle.promises.specs.Prints.{PrintsRota}
+use Rattle.promises.specs.Claims.{UnrolledRota}
+
+-- a file is accepted: it is read, and the planner gives its set a plan
+abbrev pub FileAccepted : (text : List ℕ) → Type 0
+FileAccepted text = filedOf text .outcome ≡ Done
+
+-- the set and the plan of a file
+abbrev pub setIn : (text : List ℕ) → TaskSet
+setIn text = filedOf text .set
+
+abbrev pub planIn : (text : List ℕ) → Plan
+planIn text = filedOf text .plan
+
+-- A file's set has room for mostTasks tasks, as its type says; also where the file is refused.
+abbrev pub FileFull : Type 0
+FileFull = (text : List ℕ) → length (setIn text .tasks) ≡ mostTasks
+
+-- ---- first fit in file order
+
+-- the own figures of task k; tasks count from 1
+abbrev pub figuresAt : TaskSet → (k : ℕ) → Load
+figuresAt set k = getD (setFigures set) (k - 1) (figuresOf zeroTask)
+
+-- Task k is in the lowest-numbered server that passes with it, beside those of the n tasks before it that the plan has there; or it
+-- opened the next server, since none passes with it.
+abbrev pub PlacedFirst : TaskSet → Plan → (k : ℕ) → Type 0
+PlacedFirst set plan k =
+    let n = k - 1 in
+    Lowest (set .header) (take n (setFigures set)) (take n (plan .placement)) (figuresAt set k) (serverOfTask plan k)
+    ⊎ Opened (set .header) (take n (setFigures set)) (take n (plan .placement)) (figuresAt set k) (serverOfTask plan k)
+
+-- Each task's server, which its 13 line prints, is the one that first fit in file order gives it.
+abbrev pub FileFirstFit : Type 0
+FileFirstFit =
+    (text : List ℕ) → FileAccepted text → (k : ℕ) → 1 ≤ k → k ≤ setIn text .count → PlacedFirst (setIn text) (planIn text) k
+
+-- ---- the smallest reserves
+
+-- the demand and the entry loss of server q, in the plan's own figures
+abbrev pub demandIn : TaskSet → Plan → (q : ℕ) → ℕ → ℕ
+demandIn set plan q = serverDemand (set .header) (membersIn set plan q)
+
+abbrev pub lossIn : TaskSet → Plan → (q : ℕ) → ℕ
+lossIn set plan q = serverLoss (set .header) (membersIn set plan q)
+
+-- The report's own test, over all lengths. On the ring, the demand and the fake task fit into every length. A whole processor has no
+-- fake task: the demand alone fits.
+pub record ReportPasses (g : ℕ → ℕ) (S L R : ℕ) : Type 0 where
+  pub ring : R < S → FakePasses g S L R
+  pub whole : R ≡ S → (t : ℕ) → 1 ≤ t → g t ≤ t
+
+-- R is allowed, from L + 1 to S − 1, or S; it passes the report's test, and no smaller allowed reserve does
+pub record ReportSmallest (g : ℕ → ℕ) (S L R : ℕ) : Type 0 where
+  pub allowed : Allowed S L R
+  pub passes : ReportPasses g S L R
+  pub none-smaller : (R′ : ℕ) → Allowed S L R′ → R′ < R → FakePasses g S L R′ → ⊥
+
+-- Each reserve is the smallest one that passes the report's own test, or a whole processor.
+abbrev pub FileSmallest : Type 0
+FileSmallest =
+    (text : List ℕ) → FileAccepted text → (q : ℕ) → 1 ≤ q → q ≤ planIn text .servers →
+    ReportSmallest (demandIn (setIn text) (planIn text) q) (setIn text .header .slot) (lossIn (setIn text) (planIn text) q) (serverAt (planIn text) q .reserve)
+
+-- ---- the horizon
+
+-- demand is at most supply at the lengths from 1 to H where the demand of server q steps
+abbrev pub StepsPass : TaskSet → Plan → (q R : ℕ) → Type 0
+StepsPass set plan q R =
+    (t : ℕ) → 1 ≤ t → t ≤ horizonOf set → Step (serverLoads (set .header) (membersIn set plan q)) t →
+    demandIn set plan q t ≤ supply (set .header .slot) (lossIn set plan q) R t
+
+-- H is the least common multiple of S and every T, at most 10,000,000, and up to it the steps decide for each server and any R
+pub record HorizonEnough (set : TaskSet) (plan : Plan) : Type 0 where
+  pub multiple : LeastMultipleOf (set .header .slot) (map (λ (t : Task). t .period) (members set)) (horizonOf set)
+  pub short : horizonOf set ≤ longestHorizon
+  pub decides : (q R : ℕ) → 1 ≤ q → q ≤ plan .servers →
+      Passes (demandIn set plan q) (set .header .slot) (lossIn set plan q) R ↔ StepsPass set plan q R
+
+-- The file's horizon decides for all lengths, at the steps alone.
+abbrev pub FileHorizon : Type 0
+FileHorizon = (text : List ℕ) → FileAccepted text → HorizonEnough (setIn text) (planIn text)
+
+-- ---- what is claimed of any set and plan that the planner makes of it
+
+-- The plan's figures are what the plan of a fitting placement has, and it has room on the board.
+abbrev pub FileChecked : Type 0
+FileChecked = (text : List ℕ) → FileAccepted text → CheckedPlan (setIn text) (planIn text)
+
+-- The file's rota stands, and its plan's figures are that rota.
+abbrev pub FileStands : Type 0
+FileStands = (text : List ℕ) → FileAccepted text → Standing (rotaOf (setIn text) (setPlacement (setIn text)))
+
+abbrev pub FileIsRota : Type 0
+FileIsRota =
+    (text : List ℕ) → FileAccepted text →
+    PrintsRota (rotaOf (setIn text) (setPlacement (setIn text))) (setPlacement (setIn text)) (planIn text)
+
+-- Whoever has the printed plan of a file, and nothing else, has that rota: on every processor, at every tick of all time.
+abbrev pub FilePrintedRota : Type 0
+FilePrintedRota =
+    (text : List ℕ) (mark p x : ℕ) → FileAccepted text → 1 ≤ p → p ≤ planIn text .ring + planIn text .whole →
+    UnrolledRota (setIn text) (planIn text) mark p x
+
+-- the questions asked of a file are those asked of its set and plan, and answer what the plan's own figures say
+pub record QuestionsTell (text : List ℕ) : Type 0 where
+  pub who-asked : (p : ℕ) (x : Tick) → whoIn text p x ≡ whoRuns (setIn text) (planIn text) p x
+  pub who : (p : ℕ) (x : Tick) → isProcessor (planIn text) p ≡ true → WhoTells (setIn text) (planIn text) p x
+  pub pass-asked : (q R : ℕ) → passIn text q R ≡ doesPass (setIn text) (planIn text) q R
+  pub pass : (q R : ℕ) → isServer (planIn text) q ≡ true → allowedIn (setIn text) (planIn text) q R ≡ true → PassTells (setIn text) (planIn text) q R
+
+-- So answer the two questions of an accepted file.
+abbrev pub FileQuestions : Type 0
+FileQuestions = (text : List ℕ) → FileAccepted text → QuestionsTell text
+
+-- No digit of what is printed is cut off.
+abbrev pub FileCutsNothing : Type 0
+FileCutsNothing = (text : List ℕ) → FileAccepted text → LinesInFields (setIn text) (planIn text)
+
+-- Two accepted files for which the tool prints the same bytes have the same plan.
+abbrev pub FileTellsPlan : Type 0
+FileTellsPlan =
+    (text₁ text₂ : List ℕ) → FileAccepted text₁ → FileAccepted text₂ → answered text₁ ≡ answered text₂ →
+    ToldSame (setIn text₁) (setIn text₂) (planIn text₁) (planIn text₂)
+
+-- ---- unused room never shows
+
+-- Two sets that differ in unused room alone are written with the same bytes, and so are two plans of such sets that differ in unused
+-- room alone; and writing them answers the same, into any buffer.
+pub record RoomNeverShows : Type 0 where
+  pub set-text : (a b : TaskSet) → SameSet a b → textOf a ≡ textOf b
+  pub set-written : (a b : TaskSet) (buffer : List ℕ) → SameSet a b → writeOf a buffer ≡ writeOf b buffer
+  pub plan-text : (a b : TaskSet) (p q : Plan) → SameSet a b → SamePlan (a .count) p q → planText a p ≡ planText b q
+  pub plan-written : (a b : TaskSet) (p q : Plan) (buffer : List ℕ) → SameSet a b → SamePlan (a .count) p q → writePlan a p buffer ≡ writePlan b q buffer

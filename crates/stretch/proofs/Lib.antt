@@ -1,0 +1,2 @@
+-- The laws that the proof of `stand_after` needs.
+pub mod AfterLaws

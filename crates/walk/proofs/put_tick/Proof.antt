@@ -1,0 +1,279 @@
+-- `put_tick` meets its contract. The loop's invariant: the lines of the first i processors are put, these are carried past the tick, and the least end is theirs.
+-- The measure is what is left of the ring processors. Assumes nothing.
+use Prim.Native.Nat.{ℕ, suc, _+_, _-_, _*_, _≤_, _<_}
+use mathlib.Core.Path.{_≡_, refl, sym, ap, ap₂, _∙_}
+use mathlib.Core.Logic.{⊎-elim}
+use mathlib.Core.List.{List}
+use borrow.Author.Needs.{needs}
+use native.Mathlib.Numerals.{add-one}
+use native.Mathlib.Omega.{arith}
+use lib.ListN.{length, take, getD, length-set}
+use Rattle.frames.specs.declared.table.Frame.{Frame}
+use Rattle.frames.specs.Table.{lengthOf, widthsOf, fieldsIn}
+use Rattle.frames.proofs.Tables.{length-most}
+use Rattle.reserves.specs.Reserves.{ringProcessors}
+use Rattle.ring.specs.declared.cover.Stand.{Stand}
+use Rattle.turn.specs.Stretch.{Laid}
+use Rattle.walk.specs.Walk.{serverBefore, untilBefore, leastOf}
+use Rattle.walk.proofs.LaidLaws.{laid-slotted, laid-length, laid-room, left-within}
+use Rattle.walk.proofs.LeastLaws.{least-none, least-next}
+use Rattle.walk.proofs.TickLaws.{Walked, walked-none, walked-room, walked-over, walked-on, walked-all, servers-there, untils-there, until-here, until-reached, server-here}
+use Rattle.walk.proofs.put_tick.Statement.{statement}
+use Rattle.walk.proofs.put_tick.Tie as tie
+
+abbrev Inv-loop : tie.InvT-loop
+Inv-loop out₀ at servers₀ until₀ reserves turn tick bytes ring next₀ least₀ i₀ out servers until next least i =
+    Walked (turn .slot) (take (turn .servers) reserves) tick (turn .ring) out₀ at out servers until next i
+    × (least ≡ leastOf (λ p. untilBefore (turn .slot) (take (turn .servers) reserves) p (suc tick)) (turn .ring * turn .slot) i)
+    × (length servers ≡ length servers₀) × (length until ≡ length until₀)
+
+abbrev μ-loop : tie.MeasureT-loop
+μ-loop out₀ at servers₀ until₀ reserves turn tick bytes ring next₀ least₀ i₀ out servers until next least i = ring - i
+
+add-bytes : tie.Need-add-bytes Inv-loop μ-loop
+add-bytes c = omega (arith, c .length .ensures, length-most Frame.Switch)
+
+mul-least : tie.Need-mul-least Inv-loop μ-loop
+mul-least c = omega (arith, laid-room (c .before .before .before .before .before .before .pre .0 .0))
+
+loop-holds : tie.Need-loop-holds Inv-loop μ-loop
+loop-holds c = (walked-none _ _ (c .before .before .before .before .before .before .pre .1 .0), sym (least-none _ _), refl, refl)
+
+-- the next processor of the ring
+module _ (c : tie.In-loop Inv-loop μ-loop) where
+  abbrev start : tie.Start Inv-loop μ-loop
+  start = c .before .before .before .before .before .before .before .before
+
+  abbrev slot : ℕ
+  slot = start .args .turn .slot
+
+  abbrev rs : List ℕ
+  rs = take (start .args .turn .servers) (start .args .reserves .now)
+
+  laid : Laid (start .args .turn) (start .args .reserves .now)
+  laid = start .pre .0 .0
+
+  few : start .args .turn .ring ≤ ringProcessors slot rs
+  few = omega (arith, laid .ring)
+
+  below : c .before .loop .i < start .args .turn .ring
+  below = omega (arith, c .loop-test .taken)
+
+  small : c .before .loop .i < 64
+  small = omega (arith, below, laid .few)
+
+  until-placed : c .before .loop .i < length (c .before .loop .until)
+  until-placed = untils-there (laid-slotted laid) few (c .before .loop .inv .0) below
+
+  -- its time is not over before the tick
+  ahead : start .args .tick ≤ getD (c .before .loop .until) (c .before .loop .i) 0
+  ahead = until-reached (laid-slotted laid) few (c .before .loop .inv .0) below
+
+  server-placed : c .before .loop .i < length (c .before .loop .servers)
+  server-placed = servers-there (laid-slotted laid) few (c .before .loop .inv .0) below
+
+mul-if1 : tie.Need-mul-if1 Inv-loop μ-loop
+mul-if1 c = omega (arith, small c)
+
+slice-read-if1 : tie.Need-slice-read-if1 Inv-loop μ-loop
+slice-read-if1 c = until-placed (c .before)
+
+add-processor : tie.Need-add-processor Inv-loop μ-loop
+add-processor c = omega (arith, small (c .before .before))
+
+mul-begun : tie.Need-mul-begun Inv-loop μ-loop
+mul-begun c = omega (arith, small (c .before .before))
+
+slice-read-begun : tie.Need-slice-read-begun Inv-loop μ-loop
+slice-read-begun c = server-placed (c .before .before .before)
+
+-- where it begins, its time is over
+over : (c : tie.Then1 Inv-loop μ-loop) → getD (c .before .before .before .loop .until) (c .before .before .before .loop .i) 0 ≡ start (c .before .before) .args .tick
+over c = omega (arith, c .if1 .taken, ahead (c .before .before))
+
+begun-requires : tie.Need-begun-requires Inv-loop μ-loop
+begun-requires c κs =
+    let l = c .before .before .before in
+    let i = l .before .loop .i in
+    let w = l .before .loop .inv .0 in (
+      (laid l, omega arith, omega (arith, below l)),
+      (
+        server-here (laid-slotted (laid l)) (few l) w (below l) ∙ ap (λ (p : ℕ). serverBefore (slot l) (rs l) p (start l .args .tick)) (sym (add-one i)),
+        sym (over (c .before)) ∙ until-here (laid-slotted (laid l)) (few l) w (below l) ∙ ap (λ (p : ℕ). untilBefore (slot l) (rs l) p (start l .args .tick)) (sym (add-one i)),
+      ),
+    )
+
+-- the place of its line
+room : (c : tie.Then1 Inv-loop μ-loop) → c .before .before .before .loop .next + (lengthOf Frame.Switch + 1) ≤ length (start (c .before .before) .args .out .now)
+room c =
+    let l = c .before .before in
+    walked-room (laid-slotted (laid l)) (few l) (l .before .loop .inv .0) (below l) (over c) (start l .pre .1 .1)
+
+-- the figures of a line are all there
+figures-there : fieldsIn Frame.Switch ≤ 3
+unfolding widthsOf
+figures-there = omega arith
+
+put-line-requires : tie.Need-put-line-requires Inv-loop μ-loop
+put-line-requires c κs =
+    let t = c .before .before .before .before in
+    (figures-there, omega (arith, room t, t .before .before .before .loop .inv .0 .same, t .before .before .before .loop .inv .0 .there))
+
+add-next : tie.Need-add-next Inv-loop μ-loop
+add-next c =
+    let t = c .before .before .before .before .before .before .before in
+    omega (arith, room t, c .before .before .before .before .before .before .before .before .before .before .before .before .length .ensures, start (t .before .before) .good)
+
+mul-servers : tie.Need-mul-servers Inv-loop μ-loop
+mul-servers c = omega (arith, small (c .before .before .before .before .before .before .before .before .before))
+
+slice-write-servers : tie.Need-slice-write-servers Inv-loop μ-loop
+slice-write-servers c = server-placed (c .before .before .before .before .before .before .before .before .before)
+
+-- what begins ends within a turn
+add-until : tie.Need-add-until Inv-loop μ-loop
+add-until c =
+    let l = c .before .before .before .before .before .before .before .before .before .before in
+    let i = l .before .loop .i in
+    let b = c .before .before .before .before .before .before .begun in
+    omega (
+      arith,
+      ap (λ (s : Stand). s .left) (b .ensures),
+      left-within (slot l) (rs l) (i + 1) (start l .args .tick) (laid l .slotted .slot-some) (omega arith) (omega (arith, below l, few l)),
+      laid-length (laid l),
+      laid-room (laid l),
+      start l .pre .0 .1,
+    )
+
+mul-until : tie.Need-mul-until Inv-loop μ-loop
+mul-until c = omega (arith, small (c .before .before .before .before .before .before .before .before .before .before))
+
+slice-write-until : tie.Need-slice-write-until Inv-loop μ-loop
+slice-write-until c = until-placed (c .before .before .before .before .before .before .before .before .before .before)
+
+-- past its test the processor is carried past the tick, and its line is put if it switches
+passed : (c : tie.Joined1 Inv-loop μ-loop) →
+    let l = c .before .before in
+    Walked (slot l) (rs l) (start l .args .tick) (start l .args .turn .ring) (start l .args .out .now) (start l .args .at) (c .if1 .out) (c .if1 .servers) (c .if1 .until) (c .if1 .next) (suc (l .before .loop .i))
+passed c =
+    let l = c .before .before in
+    let now = l .before .loop in
+    let slotted = laid-slotted (laid l) in
+    ⊎-elim
+    (λ w.
+    let bytes : l .before .before .before .length .result + 1 ≡ lengthOf Frame.Switch + 1 = omega (arith, l .before .before .before .length .ensures) in
+    rw (w .9, w .10, w .11, w .12, bytes)
+    (walked-over slotted (few l) (now .inv .0) (below l) (over (record { before = c .before; if1 = w .0 })) (start l .pre .1 .1) (add-one (now .i)) (w .2 .ensures) (w .5 .ensures) (w .5 .kept .0)))
+    (λ w.
+    let on : getD (now .until) (now .i) 0 ≡ start l .args .tick → ⊥ = λ (e : getD (now .until) (now .i) 0 ≡ start l .args .tick). omega (arith, w .0 .left) in
+    rw (w .1, w .2, w .3, w .4) (walked-on slotted (few l) (now .inv .0) (below l) on))
+    (c .if1 .came)
+
+-- the slices keep their lengths
+kept : (c : tie.Joined1 Inv-loop μ-loop) →
+    let l = c .before .before in
+    (length (c .if1 .servers) ≡ length (start l .args .servers .now)) × (length (c .if1 .until) ≡ length (start l .args .until .now))
+kept c =
+    let l = c .before .before in
+    let now = l .before .loop in
+    ⊎-elim
+    (λ w. rw (w .10, w .11) (length-set (now .servers) (now .i) _ ∙ now .inv .2, length-set (now .until) (now .i) _ ∙ now .inv .3))
+    (λ w. rw (w .2, w .3) (now .inv .2, now .inv .3))
+    (c .if1 .came)
+
+carried-there : (c : tie.Joined1 Inv-loop μ-loop) → c .before .before .before .loop .i < length (c .if1 .until)
+carried-there c = omega (arith, passed c .past .until-room)
+
+mul-if2 : tie.Need-mul-if2 Inv-loop μ-loop
+mul-if2 c = omega (arith, small (c .before .before))
+
+slice-read-if2 : tie.Need-slice-read-if2 Inv-loop μ-loop
+slice-read-if2 c = carried-there (c .before)
+
+mul-least-2 : tie.Need-mul-least-2 Inv-loop μ-loop
+mul-least-2 c = omega (arith, small (c .before .before .before .before))
+
+slice-read-least : tie.Need-slice-read-least Inv-loop μ-loop
+slice-read-least c = carried-there (c .before .before .before)
+
+add-i : tie.Need-add-i Inv-loop μ-loop
+add-i c = omega (arith, small (c .before .before .before .before))
+
+loop-less : tie.Need-loop-less Inv-loop μ-loop
+loop-less c = omega (arith, below (c .before .before .before .before))
+
+-- the least end with the processor's own
+lower : (c : tie.Joined2 Inv-loop μ-loop) →
+    let l = c .before .before .before .before in
+    c .if2 .least ≡ leastOf (λ p. untilBefore (slot l) (rs l) p (suc (start l .args .tick))) (start l .args .turn .ring * slot l) (suc (l .before .loop .i))
+lower c =
+    let j = c .before .before in
+    let l = j .before .before in
+    let i = l .before .loop .i in
+    let own : getD (j .if1 .until) i 0 ≡ untilBefore (slot l) (rs l) (suc i) (suc (start l .args .tick)) = passed j .past .until i (omega arith) (omega arith) in
+    let step = least-next (λ p. untilBefore (slot l) (rs l) p (suc (start l .args .tick))) (start l .args .turn .ring * slot l) i in
+    ⊎-elim
+    (λ w. omega (arith, w .0 .taken, w .2, own, step, l .before .loop .inv .1))
+    (λ w. omega (arith, w .0 .left, w .1, own, step, l .before .loop .inv .1))
+    (c .if2 .came)
+
+loop-again : tie.Need-loop-again Inv-loop μ-loop
+loop-again c =
+    let j = c .before .before in
+    rw (add-one (j .before .before .before .loop .i)) (passed j, lower c, kept j .0, kept j .1)
+
+same-length : tie.Need-same-length Inv-loop μ-loop
+same-length c = c .before .loop .inv .0 .same
+
+same-length-2 : tie.Need-same-length-2 Inv-loop μ-loop
+same-length-2 c = c .before .loop .inv .2
+
+same-length-3 : tie.Need-same-length-3 Inv-loop μ-loop
+same-length-3 c = c .before .loop .inv .3
+
+returns : tie.Need-returns Inv-loop μ-loop
+returns c =
+    let s = c .before .before .before .before .before .before .before .before in
+    let past : s .args .turn .ring ≤ c .before .loop .i = omega (arith, c .loop-test .left) in
+    let w = walked-all (c .before .loop .inv .0) past in
+    let e : c .before .loop .i ≡ s .args .turn .ring = omega (arith, past, c .before .loop .inv .0 .within) in (
+      ap₂ (λ (a t : ℕ). record { at = a; tick = t }) (w .there)
+          (c .before .loop .inv .1 ∙ ap (leastOf (λ p. untilBefore (s .args .turn .slot) (take (s .args .turn .servers) (s .args .reserves .now)) p (suc (s .args .tick))) (s .args .turn .ring * s .args .turn .slot)) e),
+      (w .holds, w .past),
+    )
+
+pub put-tick-spec : {M : Type 1} → statement M
+put-tick-spec =
+    tie.close
+    (tie.spec
+    Inv-loop
+    μ-loop
+    (λ c κs. search needs)
+    add-bytes
+    mul-least
+    loop-holds
+    mul-if1
+    slice-read-if1
+    add-processor
+    mul-begun
+    slice-read-begun
+    begun-requires
+    (λ c. search needs)
+    put-line-requires
+    add-next
+    mul-servers
+    slice-write-servers
+    add-until
+    mul-until
+    slice-write-until
+    mul-if2
+    slice-read-if2
+    mul-least-2
+    slice-read-least
+    add-i
+    loop-less
+    loop-again
+    same-length
+    same-length-2
+    same-length-3
+    returns)
