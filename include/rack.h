@@ -1,8 +1,9 @@
-/* The rack tool for C: the plan of a task file, and the two questions of a plan.
+/* The rack tool for C: the plan of a task file, its switch list, and the two questions of a plan.
  *
  * Link with librack.a (x86-64 Linux). Every function answers every input, keeps nothing between calls,
  * allocates nothing and calls nothing but memcpy and memset. A pointer may be null where its length is 0. Lent
- * memory is read or written only within its length, and what is written must not overlap what is read.
+ * memory is read or written only within its length, and what is written must not overlap what is read or what else
+ * is written.
  *
  * A task file is the text of document 01: one 01 line, then 02 lines, in hexadecimal. Of a longer file only the
  * first 1,534 bytes are looked at, which is more than any good file has. */
@@ -27,6 +28,23 @@ extern "C" {
  * Answers the text's length. Answers 0 and stores nothing where out_len is less than that;
  * RACK_PLAN_BYTES always suffice. The text has no closing 0. */
 size_t rack_plan(const uint8_t *tasks, size_t tasks_len, uint8_t *out, size_t out_len);
+
+/* The longest text that rack_switches stores. */
+#define RACK_SWITCHES_BYTES 63345
+
+/* The switch list of a task file, as text: a 21 line for each moment in one turn of r * S ticks at which a ring
+ * processor changes server or goes idle, by tick, then by processor. Tick 0 lists every ring processor.
+ *
+ * tasks, tasks_len    the bytes of the task file
+ * out, out_len        where the text is stored, at the start; the bytes after it stay as they were
+ * answer, answer_len  where the text's length is stored, one number; answer_len counts numbers
+ *
+ * Answers 0 and stores the text, and in answer[0] its length, which is 0 where the plan has no ring processors.
+ * Otherwise answers the refusal as number * 256 + place, and stores nothing, neither in out nor in answer: the file's
+ * or the planner's own (1 to 10), then 12 where out_len is less than the text's length or answer_len is 0;
+ * RACK_SWITCHES_BYTES always suffice. The text has no closing 0. */
+uint64_t rack_switches(const uint8_t *tasks, size_t tasks_len, uint8_t *out, size_t out_len,
+                       uint64_t *answer, size_t answer_len);
 
 /* Who runs on a processor at a tick, by the plan of a task file.
  *

@@ -22,7 +22,6 @@ use Rattle.tasks.specs.declared.set.TaskSet.{TaskSet}
 use Rattle.taskread.specs.declared.read.ReadAnswer.{ReadAnswer}
 use Rattle.refusals.specs.Leaves.{leaves}
 use Rattle.refusals.specs.Refused.{placeOf}
-use Rattle.planner.specs.Planner.{planOf}
 use Rattle.places.specs.Places.{placesIn}
 use Rattle.tasks_claims.proofs.Prefix.{read-looks-at}
 use Rattle.plan.specs.declared.plan.Plan.{Plan}
@@ -40,6 +39,7 @@ use Rattle.planfile_claims.proofs.AnswerLaws.{rows-exactly}
 use Rattle.planfile_claims.proofs.TellLaws.{same-count, told}
 use Rattle.planfile_claims.proofs.FieldLaws.{front-long, places-at, cache-at, fit-fields}
 use Rattle.planfile_claims.proofs.PlaceLaws.{read-few, plan-few}
+use Rattle.planfile_claims.proofs.RefusedLaws.{refused-by}
 use Rattle.planfile_claims.proofs.CutLaws.{plan-whole, server-whole, placed-whole, processor-whole}
 use Rattle.planlines.proofs.LineLaws.{refusal-bytes}
 use Rattle.plantext.proofs.TextLaws.{text-short}
@@ -142,18 +142,8 @@ nothing-cut-off set plan full m =
       processors = λ p some h. processor-whole set plan full m p some (omega (arith, h));
     }
 
--- a refusal that is handed on keeps its place
-handed : (o : Outcome) (file : FileAnswer) (r : Refusal) → ((q : Refusal) → o ≡ RefusedBy q → placeOf q < 256) → (o ≡ Done → file .outcome ≡ RefusedBy r → placeOf r < 256)
-    → unless refusedFile o file .outcome ≡ RefusedBy r → placeOf r < 256
-handed Done file r here next e = next refl e
-handed (RefusedBy q) file r here next e = let same : q ≡ r = cc in here r (ap RefusedBy same)
-
-planned-places : (set : TaskSet) (r : Refusal) → plannedSet set .outcome ≡ RefusedBy r → placeOf r < 256
-unfolding plannedSet
-planned-places set r e = handed (planOf set .outcome) (record { outcome = Done; set = set; plan = planOf set .plan }) r (plan-few set) (λ d f. clash (cc)) e
-
 pub places-fit : PlacesFit
-unfolding filedOf widthsOf
+unfolding widthsOf
 places-fit text r e =
-    let few : placeOf r < 256 = handed (readOf text .outcome) (plannedSet (readOf text .set)) r (read-few text) (λ d f. planned-places (readOf text .set) r f) e in
+    let few : placeOf r < 256 = refused-by (λ (q : Refusal). placeOf q < 256) text (read-few text) plan-few r e in
     omega (arith, few)

@@ -1,15 +1,24 @@
--- What the three functions for C and Rust answer: a text's length or 0, and a status with numbers in lent memory.
--- Document 01, "Lines of hexadecimal", the two questions, and "Refusal numbers and their order".
+-- What the four functions for C and Rust answer: a text's length or 0, and a status with numbers in lent memory.
+-- Document 01, "Lines of hexadecimal", the two questions, and "Refusal numbers and their order"; document 02, Req 01.
 use Prim.Native.Nat.{ℕ}
 use mathlib.Core.List.{List, [], _∷_}
+use mathlib.Core.Bool.{_||_}
+use lib.Dec.{ltb}
+use lib.ListN.{length}
+use Rattle.digits.specs.Stored.{stored}
+use Rattle.refusals.specs.declared.Refusal.the-variants.{Room}
 use Rattle.refusals.specs.declared.Outcome.{Outcome}
+use Rattle.refusals.specs.declared.Outcome.the-variants.{Done, Refused}
+use Rattle.refusals.specs.First.{firstOf, when}
 use Rattle.refusals.specs.declared.Written.{Written}
 use Rattle.refusals.specs.declared.Written.the-variants.{Bytes, Refused as NotWritten}
 use Rattle.refusals.specs.Leaves.{leaves}
 use Rattle.told.specs.Told.{toldOf, verdictNumbers}
 use Rattle.planfit.specs.Fit.{fitted}
+use Rattle.taskplan.specs.File.{filedOf}
 use Rattle.planfile.specs.Tool.{answered}
 use Rattle.askfile.specs.OfFile.{whoIn, passIn}
+use Rattle.switchlist.specs.Write.{planSwitches}
 
 -- the bytes that were written
 abbrev pub bytesOf : Written → ℕ
@@ -36,3 +45,23 @@ passNumbers tasks q R = verdictNumbers (passIn tasks q R .verdict)
 
 unfoldable pub passTold : (tasks : List ℕ) (q R : ℕ) (answer : List ℕ) → Outcome
 passTold tasks q R answer = toldOf (passIn tasks q R .outcome) (passNumbers tasks q R) answer
+
+-- the switch list of a file's plan, and its number of bytes
+abbrev pub listText : (tasks : List ℕ) → List ℕ
+listText tasks = planSwitches (filedOf tasks .plan)
+
+unfoldable pub listNumbers : (tasks : List ℕ) → List ℕ
+listNumbers tasks = length (listText tasks) ∷ []
+
+-- the file's own refusal, then 12 where there is no place for the number or too little room for the list
+unfoldable pub listTold : (tasks out answer : List ℕ) → Outcome
+listTold tasks out answer =
+    firstOf (filedOf tasks .outcome) (when (ltb (length answer) 1 || ltb (length out) (length (listText tasks))) Room)
+
+-- the list at the start of the lent bytes, or the bytes as before
+abbrev pub leavesText : Outcome → (text out : List ℕ) → List ℕ
+leavesText Done text out = stored out 0 text
+leavesText (Refused r) text out = out
+
+unfoldable pub listLeaves : (tasks out answer : List ℕ) → List ℕ
+listLeaves tasks out answer = leavesText (listTold tasks out answer) (listText tasks) out

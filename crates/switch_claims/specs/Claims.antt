@@ -1,54 +1,68 @@
 -- What is promised of the switch list of a plan and of a task file, in the words of document 02, Req 01.
--- The proofs stand in proofs/Claims.antt, one for each claim.
+-- The proofs stand in proofs/Claims.antt, one for each claim. What the list of a ring holds is claimed in turn_claims.
 use Prim.Native.Nat.{ℕ, _*_, _%_, _≤_}
 use mathlib.Core.Path.{_≡_}
 use mathlib.Core.List.{List, []}
 use mathlib.Core.Bool.{true}
 use lib.ListN.{length}
 use Rattle.refusals.specs.declared.Refusal.the-variants.{Room}
-use Rattle.refusals.specs.declared.Outcome.the-variants.{Done}
 use Rattle.refusals.specs.declared.Written.the-variants.{Bytes, Refused}
 use Rattle.tasks.specs.declared.set.TaskSet.{TaskSet}
-use Rattle.turn.specs.Switches.{turnSwitches}
+use Rattle.tasks.specs.Set.{mostTasks}
+use Rattle.turn.specs.Switches.{Switch, turnSwitches}
 use Rattle.turn.specs.Count.{longestSwitches}
 use Rattle.turn_claims.specs.List.{named}
 use Rattle.plan.specs.declared.plan.Plan.{Plan}
 use Rattle.plan.specs.Plan.{reservesIn}
+use Rattle.planagree.specs.Agrees.{SamePlan}
 use Rattle.plancheck.specs.Makes.{makes}
 use Rattle.whoruns.specs.WhoRuns.{whoRuns}
-use Rattle.taskplan.specs.File.{filedOf}
 use Rattle.askfile.specs.OfFile.{whoIn}
 use Rattle.planfile_claims.specs.Claims.{RowsExactly}
+use Rattle.filed_claims.specs.Claims.{FileAccepted, planIn}
 use Rattle.switchlist.specs.Write.{planSwitches, writeSwitches}
 use Rattle.switchfile.specs.OfFile.{listed}
 
--- rows 11 and 12 as for the plan writer, exactly
+-- ---- a plan that is handed in with its set. A set has room for mostTasks tasks, by its type.
+
+-- Refusals: ASK and ROOM as for the plan writer, exactly.
 abbrev pub SwitchesWritten : Type 0
 SwitchesWritten =
     (set : TaskSet) (plan : Plan) (buffer : List ℕ) → RowsExactly (makes set plan) buffer (planSwitches plan) (writeSwitches set plan buffer)
 
--- a plan with r = 0 gives no lines, and that is no refusal
+-- A plan with r = 0 gives no lines, and that is no refusal.
 abbrev pub NoRingNoLines : Type 0
 NoRingNoLines =
-    (set : TaskSet) (plan : Plan) (buffer : List ℕ) → makes set plan ≡ true → plan .ring ≡ 0 →
+    (set : TaskSet) (plan : Plan) (buffer : List ℕ) → length (set .tasks) ≡ mostTasks → makes set plan ≡ true → plan .ring ≡ 0 →
     (planSwitches plan ≡ []) × (writeSwitches set plan buffer ≡ Bytes 0)
 
--- loaded and repeated every r·S ticks, a plan's list names whom the question "who runs" names, on every ring processor at every tick
+-- the switches of a plan
+abbrev pub switchesIn : Plan → List Switch
+switchesIn plan = turnSwitches (plan .slot) (reservesIn plan)
+
+-- For the boot code: loaded and repeated every r·S ticks, a plan's list names whom the question "who runs" names, on every ring
+-- processor, at every tick of all time.
 abbrev pub BootList : Type 0
 BootList =
-    (set : TaskSet) (plan : Plan) (p x : ℕ) → makes set plan ≡ true → 1 ≤ p → p ≤ plan .ring →
-    named (turnSwitches (plan .slot) (reservesIn plan)) p (x % (plan .ring * plan .slot)) ≡ whoRuns set plan p (record { 0 = x }) .server
+    (set : TaskSet) (plan : Plan) (p x : ℕ) → length (set .tasks) ≡ mostTasks → makes set plan ≡ true → 1 ≤ p → p ≤ plan .ring →
+    named (switchesIn plan) p (x % (plan .ring * plan .slot)) ≡ whoRuns set plan p (record { 0 = x }) .server
 
--- the same of a task file
-abbrev pub BootListOfFile : Type 0
-BootListOfFile =
-    (text : List ℕ) (p x : ℕ) → filedOf text .outcome ≡ Done → 1 ≤ p → p ≤ filedOf text .plan .ring →
-    named (turnSwitches (filedOf text .plan .slot) (reservesIn (filedOf text .plan))) p (x % (filedOf text .plan .ring * filedOf text .plan .slot))
-    ≡ whoIn text p (record { 0 = x }) .server
+-- The most bytes that a list can have.
+abbrev pub ListShort : Type 0
+ListShort = (set : TaskSet) (plan : Plan) → length (set .tasks) ≡ mostTasks → makes set plan ≡ true → length (planSwitches plan) ≤ longestSwitches
 
--- a buffer of the most bytes never meets ROOM
-abbrev pub EnoughRoom : Type 0
-EnoughRoom = (set : TaskSet) (plan : Plan) → makes set plan ≡ true → length (planSwitches plan) ≤ longestSwitches
+-- Unused room never shows.
+abbrev pub ListRoomIgnored : Type 0
+ListRoomIgnored = (n : ℕ) (a b : Plan) → SamePlan n a b → planSwitches a ≡ planSwitches b
 
-abbrev pub EnoughRoomOfFile : Type 0
-EnoughRoomOfFile = (text buffer : List ℕ) → longestSwitches ≤ length buffer → listed text buffer ≡ Refused Room → ⊥
+-- ---- a task file
+
+-- The same of every accepted file.
+abbrev pub FileBootList : Type 0
+FileBootList =
+    (text : List ℕ) (p x : ℕ) → FileAccepted text → 1 ≤ p → p ≤ planIn text .ring →
+    named (switchesIn (planIn text)) p (x % (planIn text .ring * planIn text .slot)) ≡ whoIn text p (record { 0 = x }) .server
+
+-- A buffer of the most bytes never meets ROOM.
+abbrev pub FileListFits : Type 0
+FileListFits = (text buffer : List ℕ) → longestSwitches ≤ length buffer → listed text buffer ≡ Refused Room → ⊥

@@ -1,17 +1,26 @@
 -- A plan that is checked is laid: the row of its reserves with its slot, ring processors and idle positions is what a turn is walked by.
 -- Assumes nothing.
-use Prim.Native.Nat.{ℕ, _≤_}
+use Prim.Native.Nat.{ℕ, _+_, _*_, _≤_}
 use mathlib.Core.Path.{_≡_, refl, sym, ap, subst, _∙_}
 use mathlib.Core.Bool.{true}
 use mathlib.Core.List.{List, map}
+use native.Mathlib.Nat.{min-le-left}
 use native.Mathlib.Omega.{arith}
-use lib.ListN.{length, take}
+use lib.ListN.{length, length-take, take}
+use Rattle.frames.specs.declared.table.Frame.{Frame}
+use Rattle.frames.specs.Table.{lengthOf}
 use Rattle.tasks.specs.Set.{mostTasks}
 use Rattle.tasks.specs.declared.set.TaskSet.{TaskSet}
 use Rattle.reserves.specs.Slotted.{SlottedFirst}
 use Rattle.reserves.specs.Reserves.{ringProcessors, idlePositions}
 use Rattle.turn.specs.declared.Turn.{Turn}
 use Rattle.turn.specs.Stretch.{Laid}
+use Rattle.turn.specs.Switches.{switchLines, turnSwitches, switchText}
+use Rattle.turn.specs.Count.{switchCount, mostSwitches}
+use Rattle.walk.proofs.LaidLaws.{slotted-taken}
+use Rattle.turn.proofs.TextLaws.{lines-length}
+use Rattle.turn.proofs.CountLaws.{turn-count, count-most}
+use Rattle.ring_claims.specs.Slotted.{Slotted}
 use Rattle.plan.specs.declared.plan.Plan.{Plan}
 use Rattle.plan.specs.declared.server.Server.{Server}
 use Rattle.plan.specs.Plan.{reservesIn}
@@ -23,6 +32,7 @@ use Rattle.planagree.specs.Agrees.{SamePlan}
 use Rattle.planagree.proofs.AgreeLaws.{agree-same}
 use Rattle.plancheck.proofs.Checked.{OfSet, of-set, laid-in, makes-agrees}
 use Rattle.planfile.proofs.AcceptLaws.{makes-counted}
+use Rattle.switchlist.specs.Write.{planSwitches}
 
 -- the figures of a plan that a turn is walked by
 abbrev pub turnOf : Plan → Turn
@@ -64,3 +74,19 @@ module _ (set : TaskSet) (full : length (set .tasks) ≡ mostTasks) (plan : Plan
           idle = plan-idle ∙ ap (idlePositions (plan .slot)) (sym row-front);
           few = omega (arith, counted .processors);
         }
+
+-- the list of a row that is laid: how many lines, how many bytes
+module _ (plan : Plan) {row : List ℕ} (laid : Laid (turnOf plan) row) (front : take (plan .servers) row ≡ reservesIn plan) (few : plan .servers ≤ mostTasks) where
+  slotted : Slotted (plan .slot) (take (plan .servers) row)
+  slotted = slotted-taken (laid .slotted)
+
+  pub count-few : {n : ℕ} → n ≡ switchCount (plan .slot) (take (plan .servers) row) → n ≤ mostSwitches
+  count-few e =
+      omega (arith, e, count-most (plan .slot) (take (plan .servers) row) slotted (omega (arith, length-take (plan .servers) row, min-le-left (plan .servers) (length row), few)))
+
+  pub list-bytes : {n k : ℕ} → n ≡ switchCount (plan .slot) (take (plan .servers) row) → k ≡ n * (lengthOf Frame.Switch + 1) → k ≡ length (planSwitches plan)
+  unfolding switchText
+  list-bytes {n} {k} e f =
+      f ∙ ap (λ (m : ℕ). m * (lengthOf Frame.Switch + 1)) (e ∙ sym (turn-count (plan .slot) (take (plan .servers) row) slotted)) ∙
+      sym (lines-length (turnSwitches (plan .slot) (take (plan .servers) row))) ∙
+      ap (λ (rs : List ℕ). length (switchLines (turnSwitches (plan .slot) rs))) front

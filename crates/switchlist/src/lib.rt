@@ -2,6 +2,8 @@
 // What is answered stands in specs/Write.antt.
 use framelines::lines_length;
 use frames::table::Frame;
+use frames::table::MOST_FIELDS;
+use frames::table::TABLE;
 use plan::plan::Plan;
 use plan::plan::reserves;
 use plancheck::makes_plan;
@@ -16,7 +18,23 @@ ghost use mathlib.Core.Bool.{true};
 ghost use Rattle.refusals.specs.Leaves.{leaves};
 ghost use Rattle.plancheck.specs.Makes.{makes};
 ghost use Rattle.planfit.specs.Fit.{Fits};
+ghost use Rattle.turn.specs.Count.{longestSwitches};
 ghost use Rattle.switchlist.specs.Write.{planSwitches, writeSwitches};
+
+// The bytes of a 21 line with its LF, by the table.
+const SWITCH_BYTES: usize = TABLE[7].starts[MOST_FIELDS] as usize + 1;
+
+const MOST_PROCESSORS: usize = TaskSet::MOST_PROCESSORS as usize;
+
+// The bytes of the longest list: a buffer of so many has room for every one.
+pub const LONGEST: usize = (MOST_PROCESSORS * (TaskSet::MOST_TASKS + 1) + MOST_PROCESSORS - 1)
+    * SWITCH_BYTES;
+
+pub fn longest() -> usize
+    ensures { λ r. ⌜ r ≡ longestSwitches ⌝ }
+{
+    LONGEST
+}
 
 // The list of a plan that is checked already.
 pub fn fit_switches(set: TaskSet, plan: Plan, out: &mut [u8]) -> Written

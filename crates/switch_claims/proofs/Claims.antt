@@ -1,0 +1,93 @@
+-- Each claim of specs/Claims.antt, proved.
+-- Assumes nothing.
+use Prim.Native.Nat.{ℕ, _≤_, _<_}
+use mathlib.Core.Path.{_≡_, refl, sym, ap, _∙_}
+use mathlib.Core.List.{List, []}
+use mathlib.Core.Bool.{true}
+use native.Mathlib.Omega.{arith}
+use lib.ListN.{length}
+use Rattle.laws.proofs.Tests.{clash}
+use Rattle.refusals.specs.declared.Refusal.{Refusal}
+use Rattle.refusals.specs.declared.Refusal.the-variants.{Room}
+use Rattle.refusals.specs.declared.Outcome.{Outcome}
+use Rattle.refusals.specs.declared.Outcome.the-variants.{Done, Refused as RefusedBy}
+use Rattle.refusals.specs.declared.Written.the-variants.{Bytes, Refused}
+use Rattle.turn.specs.Switches.{switchText}
+use Rattle.turn.specs.Count.{longestSwitches}
+use Rattle.turn_claims.proofs.Claims.{no-switches, switches-fit}
+use Rattle.plan.specs.declared.plan.Plan.{Plan}
+use Rattle.plan.specs.Plan.{reservesIn}
+use Rattle.plancheck.specs.Makes.{makes}
+use Rattle.plancheck.proofs.Checked.{reserves-same}
+use Rattle.whoruns.specs.declared.WhoAnswer.{WhoAnswer}
+use Rattle.planfit.specs.Fit.{fitted, writeOf}
+use Rattle.planfit.proofs.FitLaws.{fitted-bytes}
+use Rattle.taskplan.specs.File.{unless, filedOf}
+use Rattle.refusals.specs.Refused.{numberOf}
+use Rattle.tasks_claims.proofs.Claims.{read-refuses}
+use Rattle.plan_claims.specs.Claims.{PlannerRow, ASK, BOARD, RANGE, SLOT, TIGHT, HORIZON, FULL, refusalOf}
+use Rattle.plan_claims.proofs.Claims.{plan-only}
+use Rattle.planfile_claims.proofs.AnswerLaws.{rows-exactly}
+use Rattle.planfile_claims.proofs.RefusedLaws.{refused-by}
+use Rattle.filed_claims.specs.Claims.{setIn, planIn}
+use Rattle.filed_claims.proofs.FiledLaws.{filed-full, filed-made, filed-who}
+use Rattle.switchlist.specs.Write.{planSwitches, writeSwitches}
+use Rattle.switchlist.proofs.LaidLaws.{plan-ring}
+use Rattle.switchfile.specs.OfFile.{listed}
+use Rattle.switch_claims.specs.Claims.{SwitchesWritten, NoRingNoLines, BootList, ListShort, ListRoomIgnored, FileBootList, FileListFits}
+use Rattle.switch_claims.proofs.PlanLaws.{plan-slotted, plan-few, list-names}
+
+pub switches-written : SwitchesWritten
+switches-written set plan buffer = rows-exactly (makes set plan) buffer (planSwitches plan)
+
+pub no-ring-no-lines : NoRingNoLines
+unfolding writeOf
+no-ring-no-lines set plan buffer full m none =
+    let empty : planSwitches plan ≡ [] = no-switches (plan .slot) (reservesIn plan) (sym (plan-ring set full plan m) ∙ none) in
+    (empty, rw (m, empty) (fitted-bytes buffer [] (omega arith)))
+
+pub boot-list : BootList
+boot-list set plan p x full m some l = list-names set full plan m p x some l
+
+pub list-short : ListShort
+list-short set plan full m = switches-fit (plan .slot) (reservesIn plan) (plan-slotted set full plan m) (plan-few set full plan m)
+
+pub list-room-ignored : ListRoomIgnored
+list-room-ignored n a b same =
+    ap (λ (S : ℕ). switchText S (reservesIn a)) (same .slot) ∙ ap (switchText (b .slot)) (reserves-same same)
+
+pub file-boot-list : FileBootList
+file-boot-list text p x ok some l =
+    boot-list (setIn text) (planIn text) p x (filed-full text) (filed-made text ok) some l ∙
+    sym (ap (λ (a : WhoAnswer). a .server) (filed-who text ok p (record { 0 = x })))
+
+-- a list that fits meets no ROOM, and no refusal of a file is one
+fits-told : (buffer text : List ℕ) (o : Outcome) → (o ≡ Done → length text ≤ length buffer) → (o ≡ RefusedBy Room → ⊥) →
+    unless Refused o (fitted buffer text) ≡ Refused Room → ⊥
+fits-told buffer text Done fits never e = clash (cc (fitted-bytes buffer text (fits refl), e))
+fits-told buffer text (RefusedBy r) fits never e = never (cc)
+
+-- neither reading nor planning gives ROOM
+abbrev NotRoom : Refusal → Type 0
+NotRoom r = r ≡ Room → ⊥
+
+row-not-room : (row : PlannerRow) (k : ℕ) (r : Refusal) → r ≡ refusalOf row k → NotRoom r
+row-not-room ASK k r e f = clash (cc)
+row-not-room BOARD k r e f = clash (cc)
+row-not-room RANGE k r e f = clash (cc)
+row-not-room SLOT k r e f = clash (cc)
+row-not-room TIGHT k r e f = clash (cc)
+row-not-room HORIZON k r e f = clash (cc)
+row-not-room FULL k r e f = clash (cc)
+
+filed-not-room : (text : List ℕ) (r : Refusal) → filedOf text .outcome ≡ RefusedBy r → NotRoom r
+filed-not-room text =
+    refused-by NotRoom text (λ q e f. omega (arith, read-refuses text q e .0, ap numberOf f))
+    (λ set q e. let o = plan-only set q e in row-not-room (o .0) (o .1) q (o .2))
+
+pub file-list-fits : FileListFits
+unfolding listed
+file-list-fits text buffer long =
+    fits-told buffer (planSwitches (planIn text)) (filedOf text .outcome)
+    (λ ok. omega (arith, long, list-short (setIn text) (planIn text) (filed-full text) (filed-made text ok)))
+    (λ e. filed-not-room text Room e refl)
