@@ -1,9 +1,9 @@
 // The answer to a question in one line of plain words, or the 1F line of its refusal, on standard output.
 // Each function answers whether all of it was written.
+use askfile::pass_in;
+use askfile::who_in;
 use libc::STDOUT_FILENO;
-use planfile::of_file::pass_in;
-use planfile::of_file::who_in;
-use plantext::fit::fit_refusal;
+use planfit::fit_refusal;
 use refusals::Outcome;
 use refusals::Refusal;
 use refusals::Written;

@@ -9,8 +9,9 @@ use Rattle.verdict.specs.declared.answer.Verdict.{Verdict}
 use Rattle.members.specs.Server.{verdictFor}
 use Rattle.tasks.specs.declared.set.TaskSet.{TaskSet}
 use Rattle.plan.specs.declared.plan.Plan.{Plan}
-use Rattle.plancheck.specs.Agrees.{makes}
-use Rattle.doespass.specs.DoesPass.{refusedPass, doesPass, isServer, allowedTo, serverMembers}
+use Rattle.plancheck.specs.Makes.{makes}
+use Rattle.doespass.specs.DoesPass.{refusedPass, doesPass}
+use Rattle.planserver.specs.Named.{isServer, allowedTo, serverMembers}
 
 -- a plan that the planner makes of its set
 module _ (set : TaskSet) (plan : Plan) (m : makes set plan ≡ true) where

@@ -3,7 +3,7 @@
 use mathlib.Core.Path.{_≡_, refl, ap, _∙_}
 use Rattle.refusals.specs.declared.Refusal.the-variants.{Horizon}
 use Rattle.refusals.specs.declared.Outcome.the-variants.{Refused}
-use Rattle.plantext.specs.Text.{refusalText}
+use Rattle.planlines.specs.Line.{refusalText}
 use Rattle.planfile.specs.Tool.{answered}
 use Rattle.tasks_claims.specs.Quoted.{bytesOf}
 use Rattle.examples.specs.Asked.{rowsIn, RowsRefuse}

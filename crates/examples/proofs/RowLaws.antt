@@ -19,9 +19,10 @@ use Rattle.rows.specs.Rows.{chargedOutcome}
 use Rattle.planner.specs.declared.PlanAnswer.{PlanAnswer}
 use Rattle.planner.specs.Planner.{needed, fullRow, planOutcome, planOf}
 use Rattle.planner.proofs.Made.{plan-outcome}
-use Rattle.plantext.specs.Text.{planText, refusalText}
-use Rattle.planfile.specs.declared.file.FileAnswer.{FileAnswer}
-use Rattle.planfile.specs.File.{unless, refusedFile, plannedSet, filedOf}
+use Rattle.plantext.specs.Text.{planText}
+use Rattle.planlines.specs.Line.{refusalText}
+use Rattle.taskplan.specs.declared.FileAnswer.{FileAnswer}
+use Rattle.taskplan.specs.File.{unless, refusedFile, plannedSet, filedOf}
 use Rattle.planfile.specs.Tool.{answered}
 use Rattle.examples.specs.Asked.{rowsIn, RowsRefuse}
 

@@ -13,18 +13,18 @@ use Rattle.taskread.specs.declared.read.ReadAnswer.{ReadAnswer}
 use Rattle.taskread.specs.Read.{readOf}
 use Rattle.ring.specs.declared.clock.Tick.{Tick}
 use Rattle.places.specs.Places.{chosen}
-use Rattle.members.specs.Charge.{serverLoss}
+use Rattle.loads.specs.Charge.{serverLoss}
 use Rattle.members.specs.Server.{serverDemand}
-use Rattle.rows.specs.Figures.{setFigures}
+use Rattle.setfigures.specs.Figures.{setFigures}
 use Rattle.rows.specs.Rows.{horizonOf, chargedOutcome}
-use Rattle.plan.specs.Plan.{setPlacement}
+use Rattle.layout.specs.Made.{setPlacement}
 use Rattle.planner.specs.Planner.{needed, fullRow}
 use Rattle.whoruns.specs.declared.WhoAnswer.{WhoAnswer}
 use Rattle.doespass.specs.declared.PassAnswer.{PassAnswer}
-use Rattle.planfile.specs.declared.file.FileAnswer.{FileAnswer}
-use Rattle.planfile.specs.File.{filedOf}
+use Rattle.taskplan.specs.declared.FileAnswer.{FileAnswer}
+use Rattle.taskplan.specs.File.{filedOf}
 use Rattle.planfile.specs.Tool.{answered}
-use Rattle.planfile.specs.OfFile.{whoIn, passIn}
+use Rattle.askfile.specs.OfFile.{whoIn, passIn}
 use Rattle.tasks_claims.specs.Quoted.{bytesOf}
 
 -- the fake-task sum of a set's server q with reserve R at length t: its demand, and that of a task of cost and deadline

@@ -11,18 +11,19 @@ use Rattle.demand.proofs.Claims.{loads-lawful}
 use Rattle.verdict.proofs.Horizons.{own-some, own-periods}
 use Rattle.tasks.specs.declared.set.TaskSet.{TaskSet}
 use Rattle.tasks.specs.Set.{mostTasks, zeroTask}
-use Rattle.members.specs.Charge.{figuresOf, serverLoads, Member}
-use Rattle.members.proofs.ChargeLaws.{loads-sound, loads-period}
+use Rattle.loads.specs.Charge.{figuresOf, serverLoads, Member}
+use Rattle.loads.proofs.ChargeLaws.{loads-sound, loads-period}
 use Rattle.servers.specs.Placement.{placementOf}
-use Rattle.servers.proofs.FittingLaws.{every-chosen}
-use Rattle.rows.specs.Figures.{setFigures}
+use Rattle.members.proofs.FiledLaws.{every-chosen}
+use Rattle.setfigures.specs.Figures.{setFigures}
 use Rattle.rows.specs.Rows.{horizonOf}
-use Rattle.rows.proofs.FigureLaws.{figures-length}
+use Rattle.setfigures.proofs.FigureLaws.{figures-length}
 use Rattle.rows.proofs.Clears.{figures-sound, horizon-of-figures, horizon-short}
 use Rattle.plan.specs.declared.plan.Plan.{Plan}
-use Rattle.plan.specs.Plan.{serverAt, setPlacement}
+use Rattle.plan.specs.Plan.{serverAt}
+use Rattle.layout.specs.Made.{setPlacement}
 use Rattle.planner.proofs.Made.{rows-clear, fits, may-charge, members, slot-some}
-use Rattle.plancheck.specs.Agrees.{makes}
+use Rattle.plancheck.specs.Makes.{makes}
 use Rattle.plancheck.proofs.Checked.{OfSet, of-set}
 use Rattle.plan_claims.specs.Claims.{membersIn}
 use Rattle.plan_claims.proofs.Claims.{plan-checked, who-answers, pass-answers}

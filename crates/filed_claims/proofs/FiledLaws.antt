@@ -18,15 +18,16 @@ use Rattle.taskread.specs.Read.{fileSet, answer, readOutcome, readOf}
 use Rattle.tasks_claims.proofs.Accepted.{read-accepted}
 use Rattle.ring.specs.declared.clock.Tick.{Tick}
 use Rattle.planner.specs.Planner.{planOf}
-use Rattle.plancheck.specs.Agrees.{makes}
+use Rattle.plancheck.specs.Makes.{makes}
 use Rattle.whoruns.specs.WhoRuns.{refusedWho, whoRuns}
 use Rattle.doespass.specs.DoesPass.{refusedPass, doesPass}
-use Rattle.plantext.specs.Text.{planText, refusalText}
-use Rattle.planfile.specs.declared.file.FileAnswer.{FileAnswer}
-use Rattle.planfile.specs.File.{unless, refusedFile, plannedSet, filedOf}
+use Rattle.plantext.specs.Text.{planText}
+use Rattle.planlines.specs.Line.{refusalText}
+use Rattle.taskplan.specs.declared.FileAnswer.{FileAnswer}
+use Rattle.taskplan.specs.File.{unless, refusedFile, plannedSet, filedOf}
 use Rattle.planfile.specs.Tool.{answered}
-use Rattle.planfile.specs.OfFile.{whoIn, passIn}
-use Rattle.planfile.proofs.FileLaws.{filed-makes}
+use Rattle.askfile.specs.OfFile.{whoIn, passIn}
+use Rattle.taskplan.proofs.FileLaws.{filed-makes}
 use Rattle.filed_claims.specs.Claims.{FileAccepted, setIn, planIn, FileFull}
 
 -- a set has all its places

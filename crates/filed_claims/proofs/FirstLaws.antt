@@ -9,7 +9,7 @@ use lib.ListN.{length, getD, take, drop}
 use lib.Seq.{split-at, length-take-le, take-take, getD-take}
 use Rattle.demand.specs.Load.{Load, Every}
 use Rattle.tasks.specs.declared.set.Header.{Header}
-use Rattle.members.specs.Charge.{Member}
+use Rattle.loads.specs.Charge.{Member}
 use Rattle.servers.specs.Placement.{placementOf}
 use Rattle.servers.specs.Claims.{Lowest, Opened}
 use Rattle.servers.proofs.Claims.{first-fit}

@@ -21,10 +21,12 @@ use Rattle.taskwrite.specs.Write.{writerAsks, writeOf}
 use Rattle.plan.specs.declared.plan.Plan.{Plan}
 use Rattle.plan.specs.declared.server.Server.{Server}
 use Rattle.plan.specs.Plan.{noServer, zeroStand}
-use Rattle.plancheck.specs.Agrees.{SamePlan, makes}
+use Rattle.planagree.specs.Agrees.{SamePlan}
+use Rattle.plancheck.specs.Makes.{makes}
 use Rattle.planfigures.specs.Figures.{mark, serverFigures, placedFigures, processorFigures}
-use Rattle.plantext.specs.Text.{planLine, serverLine, placedLine, processorLine, planText}
-use Rattle.plantext.specs.Fit.{writeOf as written}
+use Rattle.planlines.specs.Line.{planLine, serverLine, placedLine, processorLine}
+use Rattle.plantext.specs.Text.{planText}
+use Rattle.planfit.specs.Fit.{writeOf as written}
 use Rattle.planfile.specs.Write.{writePlan}
 use Rattle.plan_claims.specs.Claims.{SameSet}
 use Rattle.plan_claims.proofs.Claims.{room-ignored}

@@ -19,22 +19,25 @@ use Rattle.tasks.specs.Set.{mostTasks, longestHorizon, members, zeroTask}
 use Rattle.tasktext.specs.Text.{textOf}
 use Rattle.taskwrite.specs.Write.{writeOf}
 use Rattle.ring.specs.declared.clock.Tick.{Tick}
-use Rattle.members.specs.Charge.{figuresOf, serverLoads, serverLoss}
+use Rattle.loads.specs.Charge.{figuresOf, serverLoads, serverLoss}
 use Rattle.members.specs.Server.{serverDemand}
 use Rattle.servers.specs.Claims.{Lowest, Opened}
-use Rattle.rows.specs.Figures.{setFigures}
+use Rattle.setfigures.specs.Figures.{setFigures}
 use Rattle.rows.specs.Rows.{horizonOf}
 use Rattle.plan.specs.declared.plan.Plan.{Plan}
-use Rattle.plan.specs.Plan.{serverAt, setPlacement}
-use Rattle.plancheck.specs.Agrees.{SamePlan}
-use Rattle.whoruns.specs.WhoRuns.{isProcessor, whoRuns}
-use Rattle.doespass.specs.DoesPass.{isServer, doesPass}
+use Rattle.plan.specs.Plan.{serverAt}
+use Rattle.layout.specs.Made.{setPlacement}
+use Rattle.planagree.specs.Agrees.{SamePlan}
+use Rattle.planprocessor.specs.Standing.{isProcessor}
+use Rattle.whoruns.specs.WhoRuns.{whoRuns}
+use Rattle.planserver.specs.Named.{isServer}
+use Rattle.doespass.specs.DoesPass.{doesPass}
 use Rattle.plan_claims.specs.Claims.{SameSet, CheckedPlan, WhoTells, PassTells, serverOfTask, membersIn, allowedIn}
 use Rattle.plantext.specs.Text.{planText}
 use Rattle.planfile.specs.Write.{writePlan}
-use Rattle.planfile.specs.File.{filedOf}
+use Rattle.taskplan.specs.File.{filedOf}
 use Rattle.planfile.specs.Tool.{answered}
-use Rattle.planfile.specs.OfFile.{whoIn, passIn}
+use Rattle.askfile.specs.OfFile.{whoIn, passIn}
 use Rattle.planfile_claims.specs.Claims.{ToldSame, LinesInFields}
 use Rattle.rotas.specs.Rota.{Standing}
 use Rattle.fitting_rotas.specs.Rota.{rotaOf}

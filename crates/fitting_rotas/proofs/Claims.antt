@@ -2,7 +2,7 @@
 -- Assumes nothing.
 use Rattle.servers.specs.Placement.{placementOf}
 use Rattle.servers.proofs.Claims as servers
-use Rattle.rows.specs.Figures.{setFigures}
+use Rattle.setfigures.specs.Figures.{setFigures}
 use Rattle.rows.proofs.Clears.{board-slot, figures-members, figures-alone}
 use Rattle.fitting_rotas.specs.Claims.{ClearCharged, FittingStands, PlannerFits, PlannerStands}
 use Rattle.fitting_rotas.proofs.FittingLaws.{rota-stands}

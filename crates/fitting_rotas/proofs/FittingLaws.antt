@@ -13,16 +13,16 @@ use Rattle.verdict.specs.Reserve.{Smallest}
 use Rattle.tasks.specs.declared.set.TaskSet.{TaskSet}
 use Rattle.places.specs.Places.{chosen}
 use Rattle.places.proofs.PlacesLaws.{in-some}
-use Rattle.members.specs.Charge.{Member, serverLoads, serverLoss}
+use Rattle.loads.specs.Charge.{Member, serverLoads, serverLoss}
 use Rattle.members.specs.Server.{serverDemand, serverHorizon}
-use Rattle.members.proofs.ChargeLaws.{loads-sound, loads-many}
+use Rattle.loads.proofs.ChargeLaws.{loads-sound, loads-many}
 use Rattle.members.proofs.FiledLaws.{every-chosen}
 use Rattle.members.proofs.ServerLaws.{server-lawful}
 use Rattle.servers.specs.Placement.{serversIn}
 use Rattle.servers.specs.Fitting.{Fitting}
 use Rattle.sizing.specs.Reserve.{reservesOf}
 use Rattle.sizing.proofs.Claims.{smallest-reserves}
-use Rattle.rows.specs.Figures.{setFigures}
+use Rattle.setfigures.specs.Figures.{setFigures}
 use Rattle.rows.specs.Rows.{Chargeable}
 use Rattle.rows.proofs.Clears.{board-slot, figures-members}
 use Rattle.rotas.specs.Rota.{IsServer, StandingServer, Standing}

@@ -7,7 +7,7 @@ use Rattle.tasks.specs.declared.set.TaskSet.{TaskSet}
 use Rattle.tasks.specs.Set.{mostTasks}
 use Rattle.servers.specs.Placement.{placementOf}
 use Rattle.servers.specs.Fitting.{Fitting}
-use Rattle.rows.specs.Figures.{setFigures}
+use Rattle.setfigures.specs.Figures.{setFigures}
 use Rattle.rows.specs.Rows.{Chargeable, RowsClear}
 use Rattle.rotas.specs.Rota.{Standing}
 use Rattle.fitting_rotas.specs.Rota.{rotaOf}

@@ -4,10 +4,10 @@ use Prim.Native.Nat.{ℕ}
 use mathlib.Core.List.{List}
 use Rattle.tasks.specs.declared.set.TaskSet.{TaskSet}
 use Rattle.places.specs.Places.{chosen}
-use Rattle.members.specs.Charge.{serverLoss}
+use Rattle.loads.specs.Charge.{serverLoss}
 use Rattle.members.specs.Server.{serverDemand}
 use Rattle.sizing.specs.Reserve.{reservesOf}
-use Rattle.rows.specs.Figures.{setFigures}
+use Rattle.setfigures.specs.Figures.{setFigures}
 use Rattle.rotas.specs.Rota.{Rota}
 
 abbrev pub rotaOf : TaskSet → (placement : List ℕ) → Rota

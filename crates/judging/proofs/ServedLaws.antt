@@ -19,9 +19,9 @@ use Rattle.verdict.specs.Verdict.{ownHorizon, verdictOf, Testable}
 use Rattle.verdict.specs.declared.answer.Verdict.{Verdict}
 use Rattle.tasks.specs.declared.set.Header.{Header}
 use Rattle.tasks.specs.Set.{mostTasks}
-use Rattle.members.specs.Charge.{numbersOf, cacheOf, chargedIn, serverLoads, serverLoss, membersAt, Member, Overheads, Charging, Timed}
-use Rattle.members.specs.Server.{serverDemand, serverHorizon, verdictFor, Filed}
-use Rattle.members.proofs.ChargeLaws.{loss-small}
+use Rattle.loads.specs.Charge.{numbersOf, cacheOf, chargedIn, serverLoads, serverLoss, membersAt, Member, Overheads, Charging}
+use Rattle.members.specs.Server.{Timed, serverDemand, serverHorizon, verdictFor, Filed}
+use Rattle.loads.proofs.ChargeLaws.{loss-small}
 use Rattle.members.proofs.ServerLaws.{server-within}
 use Rattle.members.proofs.FiledLaws.{Below, placed-at, placed-members, placed-periods, left-loads, left-loaded, left-timed}
 use Rattle.judging.specs.Served.{Served}

@@ -6,7 +6,7 @@ use lib.ListN.{length, take, getD}
 use Rattle.demand.specs.Load.{Load, Every}
 use Rattle.tasks.specs.declared.set.Header.{Header}
 use Rattle.tasks.specs.Set.{mostTasks, longestHorizon}
-use Rattle.members.specs.Charge.{cacheOf, membersAt, Member}
+use Rattle.loads.specs.Charge.{cacheOf, membersAt, Member}
 
 -- the first k places are few and have figures that may be charged with this cache cost; there is a slot, and H is a multiple of it
 -- and of their periods

@@ -1,6 +1,6 @@
 // Does a server pass with a reserve: its members, charged, by its own entry loss and its own horizon.
 // What it means stands in members, specs/Server.antt. The figures stand in one slice, three for each task.
-use members::charge;
+use loads::charge;
 use members::horizon_of;
 use members::loss;
 use tasks::set::Header;
@@ -11,7 +11,7 @@ use wholes::Multiple;
 ghost use mathlib.Core.Path.{_≡_};
 ghost use lib.ListN.{take};
 ghost use Rattle.demand.specs.Supply.{Allowed};
-ghost use Rattle.members.specs.Charge.{serverLoss, membersAt};
+ghost use Rattle.loads.specs.Charge.{serverLoss, membersAt};
 ghost use Rattle.members.specs.Server.{verdictFor};
 ghost use Rattle.judging.specs.Served.{Served};
 

@@ -16,16 +16,16 @@ use Rattle.digits.proofs.Stored.{stored-length}
 use Rattle.wholes.specs.Multiple.{within}
 use Rattle.wholes.specs.declared.Multiple.the-variants.{Within}
 use Rattle.wholes.proofs.WithinLaws.{within-is}
-use Rattle.demand.specs.Load.{Load, Sound, Small, Every, Loaded, loadAt, loadsOf}
+use Rattle.demand.specs.Load.{Load, Every, Loaded, loadAt, loadsOf}
 use Rattle.demand.proofs.Demand.{loads-length, every-first, every-at}
 use Rattle.verdict.specs.Verdict.{ownHorizon, Testable}
 use Rattle.tasks.specs.declared.set.Header.{Header}
 use Rattle.places.specs.Places.{keep, placesIn, chosen}
 use Rattle.places.proofs.PlacesLaws.{places-read, places-below}
-use Rattle.members.specs.Charge.{numbersOf, cacheOf, chargedIn, serverLoads, serverLoss, membersAt, Member, Overheads, Charging, Timed}
-use Rattle.members.specs.Server.{serverHorizon, Filed}
-use Rattle.members.proofs.NumberLaws.{numbers-length, loads-stored}
-use Rattle.members.proofs.ChargeLaws.{to-length, loads-sound, loads-small, loss-small}
+use Rattle.loads.specs.Charge.{numbersOf, cacheOf, chargedIn, serverLoads, serverLoss, membersAt, Member, Overheads, Charging}
+use Rattle.members.specs.Server.{Timed, serverHorizon, Filed}
+use Rattle.loads.proofs.NumberLaws.{numbers-length, loads-stored}
+use Rattle.loads.proofs.ChargeLaws.{to-length, loads-sound, loads-small, loss-small}
 use Rattle.members.proofs.ServerLaws.{server-within}
 
 -- the first tasks of a file are a file

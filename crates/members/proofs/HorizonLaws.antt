@@ -13,7 +13,7 @@ use Rattle.demand.specs.Load.{Load, Every, loadAt, loadsOf}
 use Rattle.demand.proofs.Demand.{loads-next, every-first}
 use Rattle.verdict.specs.Verdict.{ownHorizon}
 use Rattle.verdict.proofs.Horizons.{own-periods, own-some, own-more}
-use Rattle.members.specs.Charge.{Timed}
+use Rattle.members.specs.Server.{Timed}
 
 -- what divides load by load divides as a list
 divides : (ls : List Load) (H : ℕ) → Every (λ (l : Load). l .period ∣ H) ls → Divide (map (λ (l : Load). l .period) ls) H

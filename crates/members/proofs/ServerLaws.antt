@@ -17,10 +17,10 @@ use Rattle.demand.proofs.Claims.{alone-passes}
 use Rattle.verdict.proofs.Horizons.{own-lawful}
 use Rattle.verdict.proofs.Verdict.{passing-passes, passes-passing}
 use Rattle.tasks.specs.declared.set.Header.{Header}
-use Rattle.members.specs.Charge.{cacheOf, chargedIn, serverLoads, serverLoss, Member}
+use Rattle.loads.specs.Charge.{cacheOf, chargedIn, serverLoads, serverLoss, Member}
 use Rattle.members.specs.Server.{serverDemand, serverHorizon, passesWith, fits, totalOf}
 use Rattle.members.proofs.HorizonLaws.{own-divides}
-use Rattle.members.proofs.ChargeLaws.{charged-sound, loads-sound, loads-period}
+use Rattle.loads.proofs.ChargeLaws.{charged-sound, loads-sound, loads-period}
 
 -- ---- what loads ask of a common multiple of their periods
 

@@ -1,2 +1,1 @@
-pub mod Charge
 pub mod Server

@@ -1,17 +1,17 @@
 -- What a server of these members asks, and whether it passes: its demand, horizon, verdict and reserve, from the header and the
 -- members' own figures. Document 01, "From tasks to servers to ring".
-use Prim.Native.Nat.{ℕ, _+_, _*_, _/_, _^_, _≤_, _∣_}
+use Prim.Native.Nat.{ℕ, _+_, _*_, _/_, _≤_, _∣_}
 use mathlib.Core.List.{List, [], _∷_}
 use mathlib.Core.Bool.{Bool}
 use lib.ListN.{length}
-use Rattle.demand.specs.Load.{Load, Every, loadsOf}
+use Rattle.demand.specs.Load.{Load, Sound, Every, loadsOf}
 use Rattle.demand.specs.Demand.{demand}
 use Rattle.verdict.specs.Verdict.{ownHorizon, passing, verdictOf}
 use Rattle.verdict.specs.Reserve.{smallestReserve}
 use Rattle.verdict.specs.declared.answer.Verdict.{Verdict}
 use Rattle.tasks.specs.declared.set.Header.{Header}
 use Rattle.tasks.specs.Set.{mostTasks, longestHorizon}
-use Rattle.members.specs.Charge.{serverLoads, serverLoss, Member}
+use Rattle.loads.specs.Charge.{serverLoads, serverLoss, Member}
 
 -- the demand of a server
 abbrev pub serverDemand : Header → (members : List Load) → ℕ → ℕ
@@ -52,3 +52,9 @@ pub record Filed (h : Header) (figures : List ℕ) (n H : ℕ) : Type 0 where
   pub short : H ≤ longestHorizon
   pub of-slot : h .slot ∣ H
   pub of-periods : Every (λ (l : Load). l .period ∣ H) (loadsOf figures n)
+
+-- what the horizon of the first n loads asks: a slot, and sound loads
+pub record Timed (numbers : List ℕ) (n S : ℕ) : Type 0 where
+  pub there : 3 * n ≤ length numbers
+  pub slot : 1 ≤ S
+  pub sound : Every Sound (loadsOf numbers n)

@@ -1,46 +1,15 @@
-// The loads of one server: the figures of its members, charged, and their horizon with the slot.
-// What they mean stands in specs/Charge.antt. Figures and loads stand in slices of numbers, three for each.
+// What a server loses at each entry, and the horizon of its loads with the slot.
+// What they mean stands in specs/Server.antt. Loads stand in a slice of numbers, three for each.
 use demand::charging;
 use tasks::set::Header;
 use wholes::Multiple;
 ghost use mathlib.Core.Path.{_≡_};
-ghost use mathlib.Core.List.{map};
 ghost use Prim.Native.Nat.{_<_, _^_};
-ghost use lib.ListN.{take};
-ghost use Rattle.digits.specs.Stored.{stored};
 ghost use Rattle.wholes.specs.Multiple.{within};
 ghost use Rattle.demand.specs.Charging.{entryLoss};
 ghost use Rattle.demand.specs.Load.{loadsOf};
 ghost use Rattle.verdict.specs.Verdict.{ownHorizon};
-ghost use Rattle.members.specs.Charge.{numbersOf, chargedIn, membersAt, Charging, Timed};
-
-// The figures at the first n places, charged with a cache cost, from the start of `loads` on; the rest of it as before.
-pub fn charge(
-    header: Header,
-    cache: u64,
-    figures: &[u64],
-    places: &[u8],
-    n: usize,
-    loads: &mut [u64],
-)
-    requires { ⌜ Charging header cache (now figures) (now places) n (now loads) ⌝ }
-    ensures { λ r. ⌜ now (loads .exit) ≡ stored (now (loads .entry)) 0 (numbersOf (map (chargedIn header cache) (membersAt (now (figures .entry)) (take n (now (places .entry)))))) ⌝ }
-{
-    let mut i: usize = 0;
-    while i < n {
-        let from = 3 * places[i] as usize;
-        let to = 3 * i;
-        loads[to] = charging::charged_cost(
-            figures[from],
-            header.relo as u64,
-            header.ctswo as u64,
-            cache,
-        );
-        loads[to + 1] = charging::charged_deadline(figures[from + 1], header.relj as u64);
-        loads[to + 2] = figures[from + 2];
-        i += 1;
-    }
-}
+ghost use Rattle.members.specs.Server.{Timed};
 
 // The entry loss of a server of this cache cost.
 pub fn loss(header: Header, cache: u64) -> u64

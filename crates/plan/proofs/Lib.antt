@@ -1,4 +1,1 @@
-pub mod RingStarts
 pub mod RecordLaws
-pub mod Layouts
-pub mod LaidLaws

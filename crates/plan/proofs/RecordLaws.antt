@@ -1,41 +1,18 @@
--- The record of a server and the row of all reserves, as the code finds them, are those of the definitions.
+-- The row of all reserves, as the code finds it, is that of the definitions.
 -- Assumes nothing.
-use Prim.Native.Nat.{ℕ, zero, suc, pred, _+_, _-_, _≤_, _<_}
+use Prim.Native.Nat.{ℕ, zero, suc, pred, _+_, _-_, _<_}
 use mathlib.Core.Path.{_≡_, refl, sym, ap, _∙_}
-use mathlib.Core.List.{List, [], _∷_, _++_, map}
+use mathlib.Core.List.{List, [], _∷_, map}
 use native.Mathlib.Numerals.{add-one}
 use native.Mathlib.Omega.{arith}
-use lib.ListN.{length, take, drop, getD, replicate, length-map, List·getD-map}
+use lib.ListN.{length, take, getD, length-map, List·getD-map}
 use lib.Seq.{ext-getD}
-use Rattle.digits.specs.Stored.{stored}
 use Rattle.tasks.specs.Set.{mostTasks}
-use Rattle.places.specs.Padded.{padWith, padded, upTo}
-use Rattle.places.specs.Places.{placesIn}
+use Rattle.places.specs.Padded.{padded, upTo}
 use Rattle.places.proofs.PaddedLaws.{FilledWith, padded-length, pad-at, up-length, up-at, filled-all}
-use Rattle.places.proofs.PlacesLaws.{places-few}
-use Rattle.reserves.specs.Reserves.{reserveOf}
+use Rattle.plan.specs.declared.plan.Plan.{Plan}
 use Rattle.plan.specs.declared.server.Server.{Server}
-use Rattle.plan.specs.Plan.{noServer, ringStart, serverOf}
-
--- zeros without the first k
-drop-zeros : (k n : ℕ) → drop {A = ℕ} k (replicate n 0) ≡ replicate (n - k) 0
-drop-zeros zero n = let e : n ≡ n - zero = omega arith in ap (λ (m : ℕ). replicate {A = ℕ} m 0) e
-drop-zeros (suc k) zero = let e : zero ≡ zero - suc k = omega arith in ap (λ (m : ℕ). replicate {A = ℕ} m 0) e
-drop-zeros (suc k) (suc n) = let e : n - k ≡ suc n - suc k = omega arith in drop-zeros k n ∙ ap (λ (m : ℕ). replicate {A = ℕ} m 0) e
-
--- numbers stored at the front of zeros are padded
-pub stored-padded : (ns : List ℕ) → stored (replicate mostTasks 0) 0 ns ≡ padded ns
-unfolding stored
-stored-padded ns =
-    let e : 0 + length ns ≡ length ns = omega arith in
-    ap (λ (l : List ℕ). ns ++ l) (ap (λ (k : ℕ). drop {A = ℕ} k (replicate mostTasks 0)) e ∙ drop-zeros (length ns) mostTasks)
-
--- the parts of a server's record
-pub server-made : (S cache : ℕ) (placement reserves : List ℕ) (q : ℕ) {count reserve start : ℕ} {places : List ℕ} →
-    count ≡ length (placesIn placement q) → places ≡ stored (replicate mostTasks 0) 0 (placesIn placement q) →
-    reserve ≡ reserveOf reserves q → start ≡ ringStart S reserves q →
-    record { count = count; places = places; reserve = reserve; start = record { 0 = start }; cache = cache } ≡ serverOf S cache placement reserves q
-server-made S cache placement reserves q e1 e2 e3 e4 = rw (e1, e2 ∙ stored-padded (placesIn placement q), e3, e4)
+use Rattle.plan.specs.Plan.{noServer, reservesIn}
 
 -- the reserve of the server at place k − 1
 abbrev pub reserveBefore : List Server → ℕ → ℕ
@@ -57,3 +34,13 @@ row-filled servers full w e =
     up-at (reserveBefore servers) mostTasks i here ∙
     sym (before-next servers i) ∙
     sym (List·getD-map (λ (s : Server). s .reserve) servers i noServer))
+
+-- the front of a row of something of each element
+pub take-map : {A B : Type 0} (f : A → B) (n : ℕ) (xs : List A) → take n (map f xs) ≡ map f (take n xs)
+take-map f zero xs = refl
+take-map f (suc n) [] = refl
+take-map f (suc n) (x ∷ xs) = ap (λ (l : List _). f x ∷ l) (take-map f n xs)
+
+-- of the row of all places, those of the servers that there are
+pub row-front : (plan : Plan) {row : List ℕ} → row ≡ map (λ (s : Server). s .reserve) (plan .server) → take (plan .servers) row ≡ reservesIn plan
+row-front plan e = ap (take (plan .servers)) e ∙ take-map (λ (s : Server). s .reserve) (plan .servers) (plan .server)

@@ -1,20 +1,10 @@
--- The plan of a set: servers with their tasks' places, reserves and ring starts, placement and first reserves, as document 01 describes them.
+-- The plan as a value: the all-zero plan, and the servers and reserves of a plan.
 -- Document 01, "From tasks to servers to ring" and "Lines of hexadecimal".
 use Prim.Native.Nat.{ℕ, pred}
 use mathlib.Core.List.{List, [], map}
-use mathlib.Core.Bool.{cond}
-use lib.ListN.{length, take, getD, replicate}
-use lib.Dec.{ltb}
-use Rattle.tasks.specs.declared.set.TaskSet.{TaskSet}
+use lib.ListN.{take, getD, replicate}
 use Rattle.tasks.specs.Set.{mostTasks}
-use Rattle.places.specs.Padded.{padWith, padded, upTo}
-use Rattle.places.specs.Places.{placesIn}
-use Rattle.servers.specs.Placement.{placementOf}
-use Rattle.sizing.specs.Reserve.{reservesOf}
-use Rattle.reserves.specs.Reserves.{reserveOf, wholes, startOf, ringProcessors, idlePositions, processorsOf}
 use Rattle.ring.specs.declared.cover.Stand.{Stand}
-use Rattle.ring.specs.Who.{firstReserve}
-use Rattle.rows.specs.Figures.{setFigures}
 use Rattle.plan.specs.declared.plan.Plan.{Plan}
 use Rattle.plan.specs.declared.server.Server.{Server}
 
@@ -49,50 +39,3 @@ serverAt plan q = getD (plan .server) (pred q) noServer
 -- the reserves of a plan's servers
 abbrev pub reservesIn : Plan → List ℕ
 reservesIn plan = map (λ (s : Server). s .reserve) (take (plan .servers) (plan .server))
-
--- where a server stands on the ring; a server with a whole processor stands nowhere and has 0
-abbrev pub ringStart : (S : ℕ) (reserves : List ℕ) (q : ℕ) → ℕ
-ringStart S reserves q = cond (ltb (reserveOf reserves q) S) (startOf S reserves q) 0
-
--- server q of a slot, a placement and its reserves; every server is charged by the same cache cost
-abbrev pub serverOf : (S cache : ℕ) → (placement reserves : List ℕ) → (q : ℕ) → Server
-serverOf S cache placement reserves q =
-    record {
-      count = length (placesIn placement q);
-      places = padded (placesIn placement q);
-      reserve = reserveOf reserves q;
-      start = record { 0 = ringStart S reserves q };
-      cache = cache;
-    }
-
--- the plan of a slot, a placement and its reserves
-unfoldable pub laidOut : (S cache : ℕ) → (placement reserves : List ℕ) → Plan
-laidOut S cache placement reserves =
-    record {
-      whole = wholes S reserves;
-      ring = ringProcessors S reserves;
-      servers = length reserves;
-      slot = S;
-      idle = idlePositions S reserves;
-      server = padWith zeroServer (upTo (serverOf S cache placement reserves) (length reserves));
-      placement = padded placement;
-      first = padWith zeroStand (upTo (firstReserve S reserves) (processorsOf S reserves));
-    }
-
--- the reserve that document 01 gives each server of a placement of a set's tasks
-unfoldable pub reservesWith : TaskSet → (placement : List ℕ) → List ℕ
-reservesWith set placement = reservesOf (set .header) (setFigures set) placement
-
--- the plan of a set with any placement
-unfoldable pub planWith : TaskSet → (placement : List ℕ) → Plan
-planWith set placement = laidOut (set .header .slot) (set .header .cpmdo) placement (reservesWith set placement)
-
--- the placement that document 01 gives a set, its reserves and its plan
-unfoldable pub setPlacement : TaskSet → List ℕ
-setPlacement set = placementOf (set .header) (setFigures set)
-
-unfoldable pub setReserves : TaskSet → List ℕ
-setReserves set = reservesWith set (setPlacement set)
-
-unfoldable pub planMade : TaskSet → Plan
-planMade set = planWith set (setPlacement set)

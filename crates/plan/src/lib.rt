@@ -1,4 +1,3 @@
-// The plan as a value: its servers, the placement of the tasks, the first reserve of each processor; and how it is laid out.
-pub mod layout; // layout.rt: from placed and sized servers to the plan
+// The plan as a value: its servers, the placement of the tasks, the first reserve of each processor.
 pub mod plan; // plan.rt: the plan, and the reserves of its servers
 pub mod server; // server.rt: one server of a plan

@@ -13,27 +13,29 @@ use Rattle.laws.proofs.Tests.{and-left, and-right}
 use Rattle.demand.specs.Load.{Load}
 use Rattle.demand.specs.Lawful.{Lawful}
 use Rattle.verdict.proofs.Claims.{verdict-means}
-use Rattle.members.specs.Charge.{serverLoss, Member}
+use Rattle.loads.specs.Charge.{serverLoss, Member}
 use Rattle.members.specs.Server.{serverDemand, serverHorizon, verdictFor}
 use Rattle.members.proofs.ServerLaws.{server-lawful}
 use Rattle.servers.specs.Fitting.{Fitting}
 use Rattle.servers.proofs.Claims.{planner-fits}
-use Rattle.servers.proofs.FittingLaws.{every-chosen}
+use Rattle.members.proofs.FiledLaws.{every-chosen}
 use Rattle.ring.specs.declared.clock.Tick.{Tick}
 use Rattle.ring.specs.Who.{whoOf}
 use Rattle.reserves.specs.Reserves.{processorsOf}
 use Rattle.ring_claims.proofs.Claims.{who-serves, who-stays}
 use Rattle.tasks.specs.declared.set.TaskSet.{TaskSet}
-use Rattle.rows.specs.Figures.{setFigures}
+use Rattle.setfigures.specs.Figures.{setFigures}
 use Rattle.plan.specs.declared.plan.Plan.{Plan}
-use Rattle.plan.specs.Plan.{setPlacement, setReserves, planMade}
+use Rattle.layout.specs.Made.{setPlacement, setReserves, planMade}
 use Rattle.planner.specs.Planner.{needed, fullRow}
 use Rattle.planner.proofs.Made.{members, alone, slot-some, outcome-clear}
-use Rattle.plancheck.specs.Agrees.{makes}
+use Rattle.plancheck.specs.Makes.{makes}
 use Rattle.plancheck.proofs.Checked.{OfSet, of-set, same-made, makes-done}
-use Rattle.whoruns.specs.WhoRuns.{isProcessor, whoAnswer, whoRuns}
+use Rattle.planprocessor.specs.Standing.{isProcessor}
+use Rattle.whoruns.specs.WhoRuns.{whoAnswer, whoRuns}
 use Rattle.doespass.specs.declared.PassAnswer.{PassAnswer}
-use Rattle.doespass.specs.DoesPass.{allowed, isServer, serverMembers, passAnswer, doesPass}
+use Rattle.planserver.specs.Named.{allowed, isServer, serverMembers}
+use Rattle.doespass.specs.DoesPass.{passAnswer, doesPass}
 use Rattle.plan_claims.specs.Claims.{membersIn, FittingPlan, CheckedPlan, WhoTells, PassTells}
 use Rattle.plan_claims.proofs.MemberLaws.{members-made}
 use Rattle.plan_claims.proofs.FittingLaws.{Holds, holds-same, fitting-plan, with-holds}

@@ -16,15 +16,18 @@ use Rattle.ring.specs.declared.cover.Stand.{Stand}
 use Rattle.verdict.specs.declared.answer.Verdict.{Verdict}
 use Rattle.tasks.specs.declared.set.TaskSet.{TaskSet}
 use Rattle.demand.specs.Load.{Load}
-use Rattle.members.specs.Charge.{serverLoss}
+use Rattle.loads.specs.Charge.{serverLoss}
 use Rattle.plan.specs.declared.plan.Plan.{Plan}
-use Rattle.plan.specs.Plan.{planMade, zeroPlan}
+use Rattle.layout.specs.Made.{planMade}
+use Rattle.plan.specs.Plan.{zeroPlan}
 use Rattle.planner.specs.Planner.{planOutcome, answer, planOf}
 use Rattle.planner.proofs.Made.{plan-outcome, plan-is}
-use Rattle.plancheck.specs.Agrees.{makes}
-use Rattle.whoruns.specs.WhoRuns.{isProcessor, whoAnswer, refusedWho, whoRuns}
-use Rattle.doespass.specs.DoesPass.{allowed, isServer, allowedTo, passAnswer, refusedPass, doesPass}
-use Rattle.plancheck.proofs.AgreeLaws.{agree-same, agree-self}
+use Rattle.plancheck.specs.Makes.{makes}
+use Rattle.planprocessor.specs.Standing.{isProcessor}
+use Rattle.whoruns.specs.WhoRuns.{whoAnswer, refusedWho, whoRuns}
+use Rattle.planserver.specs.Named.{allowed, isServer, allowedTo}
+use Rattle.doespass.specs.DoesPass.{passAnswer, refusedPass, doesPass}
+use Rattle.planagree.proofs.AgreeLaws.{agree-same, agree-self}
 use Rattle.plancheck.proofs.Checked.{makes-done, makes-agrees}
 use Rattle.plan_claims.specs.Claims.{PlannerRow, turn, refusalOf, membersIn, NotHeld, FirstHolds, PlanExactly, PlanDone, PlanOnly, PlanGiven, PlanDetermined, RoomIgnored, MakesOwn, PlanFitting, PlanChecked, WhoAnswers, PassAnswers, AsksElse, allowedIn, WhoExactly, PassExactly}
 use Rattle.plan_claims.proofs.ExactLaws.{outcomeOf, rowAt, rowOf, outs, holds-by, by-holds, not-by, by-not, refusal-named, row-back, at-turn, turn-below, turn-at, outcome-is}

@@ -20,7 +20,8 @@ use Rattle.taskask.specs.Ask.{askRow}
 use Rattle.refusals.proofs.FirstLaws.{done-refused, refused-same, first-assoc, when-done, when-refused}
 use Rattle.tasks.proofs.Firsts.{at-none, at-some}
 use Rattle.tasks.proofs.FirstLaws.{Stops, first-stops, stops-first, first-none, none-first}
-use Rattle.rows.specs.Rows.{slotRow, tightRow, horizonRow, chargedOutcome}
+use Rattle.tightrows.specs.Rows.{slotRow, tightRow}
+use Rattle.rows.specs.Rows.{horizonRow, chargedOutcome}
 use Rattle.planner.specs.Planner.{needed, fullRow, planOutcome, planOf}
 use Rattle.plan_claims.specs.Claims.{PlannerRow, ASK, BOARD, RANGE, SLOT, TIGHT, HORIZON, FULL, turn, refusalOf, FirstBreaks, NoneBreaks, HoldsAt, NotHeld}
 use Rattle.rows.proofs.Clears.{at-done}

@@ -13,21 +13,23 @@ use Rattle.tasks.specs.declared.set.TaskSet.{TaskSet}
 use Rattle.verdict.specs.Reserve.{Smallest}
 use Rattle.places.specs.Places.{placesIn, chosen}
 use Rattle.places.proofs.PaddedLaws.{padded-take}
-use Rattle.members.specs.Charge.{cacheOf, serverLoss}
+use Rattle.loads.specs.Charge.{cacheOf, serverLoss}
 use Rattle.members.specs.Server.{serverDemand}
 use Rattle.servers.specs.Placement.{serversIn}
 use Rattle.servers.specs.Fitting.{Fitting}
 use Rattle.sizing.proofs.Claims.{smallest-reserves, reserves-count}
 use Rattle.reserves.specs.Reserves.{ringProcessors, wholes}
-use Rattle.rows.specs.Figures.{setFigures}
-use Rattle.rows.proofs.FigureLaws.{figures-length}
+use Rattle.setfigures.specs.Figures.{setFigures}
+use Rattle.setfigures.proofs.FigureLaws.{figures-length}
 use Rattle.plan.specs.declared.plan.Plan.{Plan}
 use Rattle.plan.specs.declared.server.Server.{Server}
-use Rattle.plan.specs.Plan.{noServer, serverAt, ringStart, serverOf, reservesIn, laidOut, reservesWith, planWith}
-use Rattle.plan.proofs.LaidLaws.{laid-reserves, laid-server}
+use Rattle.plan.specs.Plan.{noServer, serverAt, reservesIn}
+use Rattle.layout.specs.Layout.{ringStart, serverOf, laidOut}
+use Rattle.layout.specs.Made.{reservesWith, planWith}
+use Rattle.layout.proofs.LaidLaws.{laid-reserves, laid-server}
 use Rattle.planner.specs.Planner.{Clear}
 use Rattle.planner.proofs.Made.{fits, members, slot-some}
-use Rattle.plancheck.specs.Agrees.{used, SamePlan}
+use Rattle.planagree.specs.Agrees.{used, SamePlan}
 use Rattle.plancheck.proofs.Checked.{reserves-same}
 use Rattle.plan_claims.specs.Claims.{membersIn, PlacedOnce, Reserved, Recorded, Needs, FittingPlan, PlanFitting}
 

@@ -12,15 +12,16 @@ use Rattle.tasks.specs.declared.set.TaskSet.{TaskSet}
 use Rattle.tasks.specs.Set.{members}
 use Rattle.places.specs.Padded.{padded}
 use Rattle.places.specs.Places.{keep, chosen}
-use Rattle.members.specs.Charge.{figuresOf}
+use Rattle.loads.specs.Charge.{figuresOf}
 use Rattle.servers.proofs.PlacementLaws.{placement-length}
-use Rattle.rows.specs.Figures.{setFigures}
+use Rattle.setfigures.specs.Figures.{setFigures}
 use Rattle.plan.specs.declared.plan.Plan.{Plan}
-use Rattle.plan.specs.Plan.{laidOut, planWith, setPlacement, planMade}
-use Rattle.plancheck.specs.Agrees.{makes}
-use Rattle.plancheck.proofs.AgreeLaws.{agree-same}
+use Rattle.layout.specs.Layout.{laidOut}
+use Rattle.layout.specs.Made.{planWith, setPlacement, planMade}
+use Rattle.plancheck.specs.Makes.{makes}
+use Rattle.planagree.proofs.AgreeLaws.{agree-same}
 use Rattle.plancheck.proofs.Checked.{makes-agrees}
-use Rattle.doespass.specs.DoesPass.{serverMembers}
+use Rattle.planserver.specs.Named.{serverMembers}
 use Rattle.plan_claims.specs.Claims.{membersIn}
 
 -- what stands past the last element has no part in it

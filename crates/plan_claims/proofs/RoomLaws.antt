@@ -6,15 +6,18 @@ use Rattle.tasks.specs.declared.set.TaskSet.{TaskSet}
 use Rattle.taskask.specs.Ask.{countRow, askRow}
 use Rattle.taskrows.specs.Rows.{figuresOutcome}
 use Rattle.plan.specs.declared.plan.Plan.{Plan}
-use Rattle.rows.specs.Figures.{setFigures}
+use Rattle.setfigures.specs.Figures.{setFigures}
 use Rattle.rows.specs.Rows.{horizonOf, horizonRow, chargedOutcome}
-use Rattle.plan.specs.Plan.{reservesWith, planWith, setPlacement, setReserves, planMade}
+use Rattle.layout.specs.Made.{reservesWith, planWith, setPlacement, setReserves, planMade}
 use Rattle.planner.specs.Planner.{needed, fullRow, planOutcome, planOf}
-use Rattle.plancheck.specs.Agrees.{isDone, makes, SamePlan}
-use Rattle.whoruns.specs.WhoRuns.{isProcessor, whoRuns}
-use Rattle.doespass.specs.DoesPass.{isServer, doesPass}
+use Rattle.plancheck.specs.Makes.{isDone, makes}
+use Rattle.planagree.specs.Agrees.{SamePlan}
+use Rattle.planprocessor.specs.Standing.{isProcessor}
+use Rattle.whoruns.specs.WhoRuns.{whoRuns}
+use Rattle.planserver.specs.Named.{isServer}
+use Rattle.doespass.specs.DoesPass.{doesPass}
 use Rattle.plan_claims.specs.Claims.{SameSet, SetRoomIgnored, PlanRoomIgnored}
-use Rattle.plancheck.proofs.AgreeLaws.{agree-alike}
+use Rattle.planagree.proofs.AgreeLaws.{agree-alike}
 
 -- ---- two sets that differ in unused room alone
 

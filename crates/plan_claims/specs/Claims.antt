@@ -17,7 +17,7 @@ use Rattle.verdict.specs.Reserve.{Smallest}
 use Rattle.verdict.specs.Claims.{FailsFirst}
 use Rattle.demand.specs.Load.{Load}
 use Rattle.places.specs.Places.{placesIn, chosen}
-use Rattle.members.specs.Charge.{cacheOf, serverLoss}
+use Rattle.loads.specs.Charge.{cacheOf, serverLoss}
 use Rattle.members.specs.Server.{serverDemand}
 use Rattle.servers.specs.Fitting.{PassesWhole, Fitting}
 use Rattle.ring.specs.declared.clock.Tick.{Tick}
@@ -33,13 +33,19 @@ use Rattle.plan.specs.declared.plan.Plan.{Plan}
 use Rattle.planner.specs.declared.PlanAnswer.{PlanAnswer}
 use Rattle.whoruns.specs.declared.WhoAnswer.{WhoAnswer}
 use Rattle.doespass.specs.declared.PassAnswer.{PassAnswer}
-use Rattle.rows.specs.Figures.{setFigures}
-use Rattle.rows.specs.Rows.{slotRow, tightRow, horizonRow}
-use Rattle.plan.specs.Plan.{zeroPlan, serverAt, ringStart, reservesIn, planWith, planMade}
+use Rattle.setfigures.specs.Figures.{setFigures}
+use Rattle.tightrows.specs.Rows.{slotRow, tightRow}
+use Rattle.rows.specs.Rows.{horizonRow}
+use Rattle.plan.specs.Plan.{zeroPlan, serverAt, reservesIn}
+use Rattle.layout.specs.Layout.{ringStart}
+use Rattle.layout.specs.Made.{planWith, planMade}
 use Rattle.planner.specs.Planner.{Clear, needed, fullRow, planOf}
-use Rattle.plancheck.specs.Agrees.{SamePlan, makes}
-use Rattle.whoruns.specs.WhoRuns.{isProcessor, whoRuns}
-use Rattle.doespass.specs.DoesPass.{allowed, isServer, doesPass}
+use Rattle.planagree.specs.Agrees.{SamePlan}
+use Rattle.plancheck.specs.Makes.{makes}
+use Rattle.planprocessor.specs.Standing.{isProcessor}
+use Rattle.whoruns.specs.WhoRuns.{whoRuns}
+use Rattle.planserver.specs.Named.{allowed, isServer}
+use Rattle.doespass.specs.DoesPass.{doesPass}
 
 -- ---- each refusal exactly when its row says
 

@@ -1,7 +1,7 @@
 -- A plan that the planner makes of a set: what agrees in both.
 -- Assumes nothing.
 use Prim.Native.Nat.{ℕ, _+_}
-use mathlib.Core.Path.{_≡_, refl, sym, ap, subst, _∙_}
+use mathlib.Core.Path.{_≡_, refl, sym, ap, _∙_}
 use mathlib.Core.Bool.{Bool, true, false}
 use mathlib.Core.List.{List, [], _∷_, map}
 use native.Mathlib.Omega.{arith}
@@ -18,14 +18,18 @@ use Rattle.servers.proofs.PlacementLaws.{placement-length}
 use Rattle.reserves.specs.Slotted.{SlottedFirst}
 use Rattle.tasks.specs.declared.set.TaskSet.{TaskSet}
 use Rattle.plan.specs.declared.plan.Plan.{Plan}
-use Rattle.rows.specs.Figures.{setFigures}
+use Rattle.setfigures.specs.Figures.{setFigures}
 use Rattle.plan.specs.declared.server.Server.{Server}
-use Rattle.plan.specs.Plan.{noServer, reservesIn, laidOut, reservesWith, planWith, setPlacement, setReserves, planMade}
-use Rattle.plan.proofs.LaidLaws.{take-map, laid-reserves, laid-count}
-use Rattle.plancheck.specs.Agrees.{used, agrees, SamePlan, InRoom, isDone, makes}
+use Rattle.plan.specs.Plan.{noServer, reservesIn}
+use Rattle.layout.specs.Layout.{laidOut}
+use Rattle.layout.specs.Made.{reservesWith, planWith, setPlacement, setReserves, planMade}
+use Rattle.plan.proofs.RecordLaws.{take-map}
+use Rattle.layout.proofs.LaidLaws.{laid-reserves, laid-count}
+use Rattle.planagree.specs.Agrees.{used, agrees, SamePlan, InRoom}
+use Rattle.plancheck.specs.Makes.{isDone, makes}
 use Rattle.planner.specs.Planner.{Clear, needed, planOutcome, planOf}
-use Rattle.plancheck.proofs.AgreeLaws.{agree-same}
-use Rattle.rows.proofs.FigureLaws.{figures-length}
+use Rattle.planagree.proofs.AgreeLaws.{agree-same}
+use Rattle.setfigures.proofs.FigureLaws.{figures-length}
 use Rattle.planner.proofs.Served.{laid-by}
 use Rattle.planner.proofs.Made.{fits, count-most, few-figures, members, alone, slot-some, slot-below, set-count, needed-few, made-servers, made-needs, plan-outcome, outcome-clear}
 

@@ -1,1 +1,1 @@
-pub mod Agrees
+pub mod Makes

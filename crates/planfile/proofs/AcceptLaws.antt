@@ -1,7 +1,7 @@
--- What a plan that the planner makes has: it is made of its set, and its rows have room for what they count.
+-- What a plan that the planner makes has: its rows have room for what they count.
 -- Assumes nothing.
-use Prim.Native.Nat.{ℕ, _≤_}
-use mathlib.Core.Path.{_≡_, refl, sym, _∙_, ap}
+use Prim.Native.Nat.{_≤_}
+use mathlib.Core.Path.{_≡_}
 use mathlib.Core.Bool.{true}
 use native.Mathlib.Nat.{min-le-left}
 use native.Mathlib.Omega.{arith}
@@ -10,28 +10,25 @@ use lib.ListN.{length, length-take, length-map}
 use borrow.Author.Tests.{ltb-false, leb-true, not-false}
 use Rattle.laws.proofs.Tests.{and-right, or-left}
 use Rattle.refusals.specs.declared.Outcome.the-variants.{Done}
-use Rattle.tasks.specs.declared.set.Header.{Header}
 use Rattle.tasks.specs.declared.set.TaskSet.{TaskSet}
 use Rattle.tasks.specs.Set.{members, mostTasks, mostProcessors}
 use Rattle.taskrows.specs.Rows.{boardRow}
 use Rattle.taskask.proofs.Carried.{ask-count, count-within}
-use Rattle.servers.specs.Placement.{placementOf, serversIn}
-use Rattle.sizing.specs.Reserve.{reservesOf}
+use Rattle.servers.specs.Placement.{placementOf}
 use Rattle.sizing.proofs.Claims.{reserves-count}
 use Rattle.servers.proofs.Claims.{servers-few}
 use Rattle.plan.specs.declared.plan.Plan.{Plan}
-use Rattle.planner.specs.declared.PlanAnswer.{PlanAnswer}
-use Rattle.members.specs.Charge.{figuresOf}
-use Rattle.rows.specs.Figures.{setFigures}
-use Rattle.rows.specs.Rows.{RowsClear}
-use Rattle.plan.specs.Plan.{planMade, planWith, laidOut, reservesWith, setPlacement}
-use Rattle.plancheck.specs.Agrees.{makes}
-use Rattle.planner.specs.Planner.{Clear, planOutcome, planOf, needed, fullRow}
-use Rattle.plancheck.proofs.AgreeLaws.{agree-same, agree-self}
+use Rattle.loads.specs.Charge.{figuresOf}
+use Rattle.setfigures.specs.Figures.{setFigures}
+use Rattle.layout.specs.Made.{planMade, planWith, reservesWith, setPlacement}
+use Rattle.layout.specs.Layout.{laidOut}
+use Rattle.plancheck.specs.Makes.{makes}
+use Rattle.planner.specs.Planner.{Clear, planOutcome, needed, fullRow}
+use Rattle.planagree.proofs.AgreeLaws.{agree-same}
 use Rattle.plancheck.proofs.Checked.{makes-done, makes-agrees}
 use Rattle.rows.proofs.Clears.{charged-clear}
-use Rattle.planner.proofs.Made.{plan-outcome, plan-is, outcome-clear, made-needs}
-use Rattle.plantext.specs.Fit.{CountsFit}
+use Rattle.planner.proofs.Made.{outcome-clear, made-needs}
+use Rattle.plantext.specs.Counts.{CountsFit}
 
 module _ (set : TaskSet) (done : planOutcome set ≡ Done) where
   clear : Clear set
@@ -77,14 +74,3 @@ module _ (set : TaskSet) (plan : Plan) (m : makes set plan ≡ true) where
         tasks = made .tasks;
         processors = omega (arith, same .ring, same .whole, made .processors);
       }
-
--- the planner makes the plan that it answers
-pub answer-makes : (set : TaskSet) (a : PlanAnswer) → a ≡ planOf set → a .outcome ≡ Done → makes set (a .plan) ≡ true
-unfolding makes
-answer-makes set a made done = rw (outcome, plan) (agree-self (set .count) (planMade set))
-  where
-    outcome : planOutcome set ≡ Done
-    outcome = sym (plan-outcome set) ∙ sym (ap (λ (b : PlanAnswer). b .outcome) made) ∙ done
-
-    plan : a .plan ≡ planMade set
-    plan = ap (λ (b : PlanAnswer). b .plan) made ∙ plan-is set outcome

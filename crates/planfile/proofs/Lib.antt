@@ -1,2 +1,1 @@
 pub mod AcceptLaws
-pub mod FileLaws

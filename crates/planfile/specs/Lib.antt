@@ -1,4 +1,2 @@
 pub mod Write
-pub mod File
 pub mod Tool
-pub mod OfFile

@@ -2,9 +2,10 @@
 -- Document 01, "Lines of hexadecimal".
 use Prim.Native.Nat.{ℕ}
 use mathlib.Core.List.{List}
-use Rattle.plantext.specs.Text.{planText, refusalText}
-use Rattle.planfile.specs.declared.file.FileAnswer.{FileAnswer}
-use Rattle.planfile.specs.File.{unless, filedOf}
+use Rattle.plantext.specs.Text.{planText}
+use Rattle.planlines.specs.Line.{refusalText}
+use Rattle.taskplan.specs.declared.FileAnswer.{FileAnswer}
+use Rattle.taskplan.specs.File.{unless, filedOf}
 
 abbrev pub printed : FileAnswer → List ℕ
 printed file = unless refusalText (file .outcome) (planText (file .set) (file .plan))

@@ -5,9 +5,9 @@ use mathlib.Core.List.{List}
 use Rattle.refusals.specs.declared.Written.{Written}
 use Rattle.tasks.specs.declared.set.TaskSet.{TaskSet}
 use Rattle.plan.specs.declared.plan.Plan.{Plan}
-use Rattle.plancheck.specs.Agrees.{makes}
+use Rattle.plancheck.specs.Makes.{makes}
 use Rattle.plantext.specs.Text.{planText}
-use Rattle.plantext.specs.Fit.{writeOf}
+use Rattle.planfit.specs.Fit.{writeOf}
 
 abbrev pub writePlan : TaskSet → Plan → (buffer : List ℕ) → Written
 writePlan set plan buffer = writeOf (makes set plan) buffer (planText set plan)

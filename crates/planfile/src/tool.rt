@@ -1,11 +1,11 @@
 // The whole tool, from the bytes of a task file to the bytes of its answer: a plan, or one 1F line.
 // What it answers stands in specs/Tool.antt.
-use crate::file::filed;
-use plantext::fit::fit_plan;
-use plantext::fit::fit_refusal;
+use planfit::fit_plan;
+use planfit::fit_refusal;
 use refusals::Outcome;
 use refusals::Written;
-ghost use Rattle.plantext.specs.Fit.{Fits};
+use taskplan::filed;
+ghost use Rattle.planfit.specs.Fit.{Fits};
 ghost use Rattle.planfile.specs.Tool.{answered};
 
 pub fn answer(text: &[u8], out: &mut [u8]) -> Written

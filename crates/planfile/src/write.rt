@@ -2,7 +2,7 @@
 // What is answered stands in specs/Write.antt.
 use plan::plan::Plan;
 use plancheck::makes_plan;
-use plantext::fit::fit_plan;
+use planfit::fit_plan;
 use refusals::Refusal;
 use refusals::Written;
 use tasks::set::TaskSet;

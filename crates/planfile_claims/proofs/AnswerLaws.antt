@@ -14,8 +14,8 @@ use Rattle.refusals.specs.declared.Refusal.{Refusal}
 use Rattle.refusals.specs.declared.Refusal.the-variants.{Ask, Room}
 use Rattle.refusals.specs.declared.Written.{Written}
 use Rattle.refusals.specs.declared.Written.the-variants.{Bytes, Refused}
-use Rattle.plantext.specs.Fit.{fitted, writeOf}
-use Rattle.plantext.proofs.FitLaws.{fitted-room, fitted-bytes}
+use Rattle.planfit.specs.Fit.{fitted, writeOf}
+use Rattle.planfit.proofs.FitLaws.{fitted-room, fitted-bytes}
 use Rattle.planfile_claims.specs.Claims.{RowsExactly}
 
 -- what the writer answers, by whether the planner makes the plan and whether the buffer is too short for n bytes

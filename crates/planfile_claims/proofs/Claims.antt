@@ -25,15 +25,15 @@ use Rattle.refusals.specs.Refused.{placeOf}
 use Rattle.places.specs.Places.{placesIn}
 use Rattle.tasks_claims.proofs.Prefix.{read-looks-at}
 use Rattle.plan.specs.declared.plan.Plan.{Plan}
-use Rattle.plancheck.specs.Agrees.{makes}
+use Rattle.plancheck.specs.Makes.{makes}
 use Rattle.plantext.specs.Text.{planText, longestText}
 use Rattle.frames.specs.Table.{widthsOf, sum}
 use Rattle.taskread.specs.Read.{furthest, readOf}
-use Rattle.plantext.specs.Fit.{fitted}
-use Rattle.planfile.specs.declared.file.FileAnswer.{FileAnswer}
-use Rattle.planfile.specs.File.{unless, refusedFile, plannedSet, filedOf}
+use Rattle.planfit.specs.Fit.{fitted}
+use Rattle.taskplan.specs.declared.FileAnswer.{FileAnswer}
+use Rattle.taskplan.specs.File.{unless, refusedFile, plannedSet, filedOf}
 use Rattle.planfile.specs.Tool.{printed, answered}
-use Rattle.planfile.specs.OfFile.{whoOfFile, passOfFile, whoIn, passIn}
+use Rattle.askfile.specs.OfFile.{whoOfFile, passOfFile, whoIn, passIn}
 use Rattle.planfile_claims.specs.Claims.{Determined, TextExact, WriteExactly, RefusedStoresNothing, PrefixEnough, AnsweredShort, SamePrinted, TextTells, TextTellsPlan, NothingCutOff, PlacesFit}
 use Rattle.planfile_claims.proofs.AnswerLaws.{rows-exactly}
 use Rattle.planfile_claims.proofs.TellLaws.{same-count, told}
@@ -41,11 +41,11 @@ use Rattle.planfile_claims.proofs.FieldLaws.{front-long, places-at, cac
 use Rattle.planfile_claims.proofs.PlaceLaws.{read-few, plan-few}
 use Rattle.planfile_claims.proofs.RefusedLaws.{refused-by}
 use Rattle.planfile_claims.proofs.CutLaws.{plan-whole, server-whole, placed-whole, processor-whole}
-use Rattle.plantext.proofs.LineLaws.{refusal-bytes}
+use Rattle.planlines.proofs.LineLaws.{refusal-bytes}
 use Rattle.plantext.proofs.TextLaws.{text-short}
-use Rattle.plantext.proofs.FitLaws.{fitted-room, fitted-bytes}
+use Rattle.planfit.proofs.FitLaws.{fitted-room, fitted-bytes}
 use Rattle.planfile.proofs.AcceptLaws.{makes-counted}
-use Rattle.planfile.proofs.FileLaws.{filed-makes}
+use Rattle.taskplan.proofs.FileLaws.{filed-makes}
 
 pub determined : Determined
 determined =

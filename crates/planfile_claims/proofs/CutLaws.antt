@@ -18,11 +18,11 @@ use Rattle.taskask.specs.Ask.{taskOverflows}
 use Rattle.taskask.proofs.Carried.{ask-tasks, task-fits}
 use Rattle.plan.specs.declared.plan.Plan.{Plan}
 use Rattle.planner.proofs.Made.{fits, count-most}
-use Rattle.plancheck.specs.Agrees.{makes}
+use Rattle.plancheck.specs.Makes.{makes}
 use Rattle.plancheck.proofs.Checked.{OfSet, of-set}
 use Rattle.planfigures.specs.Figures.{serverFigures, placedFigures, processorFigures}
-use Rattle.plantext.specs.Text.{planFigures}
-use Rattle.plantext.specs.Fit.{CountsFit}
+use Rattle.planlines.specs.Line.{planFigures}
+use Rattle.plantext.specs.Counts.{CountsFit}
 use Rattle.planfile.proofs.AcceptLaws.{makes-counted}
 use Rattle.planfile_claims.specs.Claims.{serverIn, FitFields, InFields}
 use Rattle.planfile_claims.proofs.TellLaws.{pick-fits}

@@ -19,7 +19,7 @@ use Rattle.taskask.proofs.Carried.{ask-header, header-fits}
 use Rattle.places.specs.Places.{placesIn}
 use Rattle.places.proofs.PaddedLaws.{padded-take}
 use Rattle.places.proofs.PlacesLaws.{places-few}
-use Rattle.members.specs.Charge.{serverLoss}
+use Rattle.loads.specs.Charge.{serverLoss}
 use Rattle.sizing.proofs.Claims.{allowed-range}
 use Rattle.reserves.specs.Reserves.{reserveOf, wholes, startOf, ringProcessors, ringLength, processorsOf}
 use Rattle.reserves.proofs.Starts.{ring-part, ring-holds}
@@ -30,16 +30,19 @@ use Rattle.ring_claims.proofs.Claims.{first-reserve}
 use Rattle.ring_claims.proofs.OwnLaws.{whole-at}
 use Rattle.plan.specs.declared.plan.Plan.{Plan}
 use Rattle.plan.specs.declared.server.Server.{Server}
-use Rattle.plan.specs.Plan.{zeroStand, serverAt, ringStart, serverOf, laidOut, planWith, setPlacement, setReserves, planMade}
-use Rattle.plan.proofs.LaidLaws.{laid-first}
+use Rattle.plan.specs.Plan.{zeroStand, serverAt}
+use Rattle.layout.specs.Layout.{ringStart, serverOf, laidOut}
+use Rattle.layout.specs.Made.{planWith, setPlacement, setReserves, planMade}
+use Rattle.layout.proofs.LaidLaws.{laid-first}
 use Rattle.planner.proofs.Made.{set-count, slot-some, count-most}
-use Rattle.plancheck.specs.Agrees.{used, makes, SamePlan}
-use Rattle.plancheck.proofs.AgreeLaws.{agree-same}
+use Rattle.planagree.specs.Agrees.{used, SamePlan}
+use Rattle.plancheck.specs.Makes.{makes}
+use Rattle.planagree.proofs.AgreeLaws.{agree-same}
 use Rattle.plancheck.proofs.Checked.{OfSet, of-set, makes-agrees, placement-count}
 use Rattle.plan_claims.specs.Claims.{membersIn}
 use Rattle.plan_claims.proofs.CheckedLaws.{checked-holds}
 use Rattle.plan_claims.proofs.Claims.{plan-checked}
-use Rattle.plantext.specs.Fit.{CountsFit}
+use Rattle.plantext.specs.Counts.{CountsFit}
 use Rattle.planfile.proofs.AcceptLaws.{makes-counted}
 use Rattle.planfile_claims.specs.Claims.{serverIn, firstIn, placesOf, FitFields}
 

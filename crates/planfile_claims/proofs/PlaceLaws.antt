@@ -26,14 +26,14 @@ use Rattle.taskread.specs.Read.{readOf}
 use Rattle.tasks_claims.specs.Claims.{LineRow, LINE, ORDER, COUNT, TWICE, holdsAt, FirstAt, FirstRange, Shaped, linesTo, tasksIn}
 use Rattle.tasks_claims.proofs.Claims.{read-exactly-line, read-exactly-range, read-refuses}
 use Rattle.tasks_claims.proofs.ShapedLaws.{lines-some, shaped-none, shaped-more, shaped-count, shaped-all}
-use Rattle.members.specs.Charge.{figuresOf}
-use Rattle.rows.specs.Figures.{setFigures}
+use Rattle.loads.specs.Charge.{figuresOf}
+use Rattle.setfigures.specs.Figures.{setFigures}
 use Rattle.rows.proofs.Clears.{board-slot}
 use Rattle.servers.specs.Placement.{placementOf}
 use Rattle.servers.proofs.Claims.{servers-few}
 use Rattle.sizing.proofs.Claims.{reserves-count}
-use Rattle.plan.specs.Plan.{reservesWith, setPlacement, setReserves}
-use Rattle.plan.proofs.Layouts.{processors-few}
+use Rattle.layout.specs.Made.{reservesWith, setPlacement, setReserves}
+use Rattle.layout.proofs.Layouts.{processors-few}
 use Rattle.planner.specs.Planner.{needed, planOf}
 use Rattle.plan_claims.specs.Claims.{PlannerRow, ASK, BOARD, RANGE, SLOT, TIGHT, HORIZON, FULL, turn, refusalOf, FirstHolds}
 use Rattle.plan_claims.proofs.Claims.{plan-exactly, plan-only}

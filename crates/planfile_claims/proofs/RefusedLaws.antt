@@ -10,8 +10,8 @@ use Rattle.refusals.specs.declared.Outcome.the-variants.{Done, Refused}
 use Rattle.tasks.specs.declared.set.TaskSet.{TaskSet}
 use Rattle.taskread.specs.Read.{readOf}
 use Rattle.planner.specs.Planner.{planOf}
-use Rattle.planfile.specs.declared.file.FileAnswer.{FileAnswer}
-use Rattle.planfile.specs.File.{unless, refusedFile, plannedSet, filedOf}
+use Rattle.taskplan.specs.declared.FileAnswer.{FileAnswer}
+use Rattle.taskplan.specs.File.{unless, refusedFile, plannedSet, filedOf}
 
 module _ (P : Refusal → Type 0) where
   -- a refusal that is handed on

@@ -21,9 +21,10 @@ use Rattle.tasks.specs.declared.set.TaskSet.{TaskSet}
 use Rattle.tasks.specs.Set.{zeroTask}
 use Rattle.plan.specs.declared.plan.Plan.{Plan}
 use Rattle.planfigures.specs.Figures.{mark, serverFigures, placedFigures, processorFigures}
-use Rattle.plantext.specs.Text.{planLine, serverLine, placedLine, processorLine, planText}
+use Rattle.planlines.specs.Line.{planLine, serverLine, placedLine, processorLine}
+use Rattle.plantext.specs.Text.{planText}
 use Rattle.planfile_claims.specs.Claims.{serverIn, firstIn, FitFields, SamePrinted}
-use Rattle.plantext.proofs.LineLaws.{plan-bytes, server-size, placed-size, processor-size, server-bytes, placed-bytes, processor-bytes}
+use Rattle.planlines.proofs.LineLaws.{plan-bytes, server-size, placed-size, processor-size, server-bytes, placed-bytes, processor-bytes}
 use Rattle.framelines.proofs.LinesLaws.{joined-length}
 
 -- equal texts whose fronts are as long have equal fronts and equal rests

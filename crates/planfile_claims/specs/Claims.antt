@@ -24,15 +24,16 @@ use Rattle.plan.specs.declared.server.Server.{Server}
 use Rattle.plan.specs.Plan.{noServer, zeroStand}
 use Rattle.whoruns.specs.declared.WhoAnswer.{WhoAnswer}
 use Rattle.doespass.specs.declared.PassAnswer.{PassAnswer}
-use Rattle.plancheck.specs.Agrees.{makes}
+use Rattle.plancheck.specs.Makes.{makes}
 use Rattle.taskread.specs.Read.{furthest}
 use Rattle.planfigures.specs.Figures.{serverFigures, placedFigures, processorFigures}
-use Rattle.plantext.specs.Text.{planFigures, planText, longestText}
-use Rattle.plantext.specs.Fit.{fitted, Fits}
+use Rattle.planlines.specs.Line.{planFigures}
+use Rattle.plantext.specs.Text.{planText, longestText}
+use Rattle.planfit.specs.Fit.{fitted, Fits}
 use Rattle.planfile.specs.Write.{writePlan}
-use Rattle.planfile.specs.File.{filedOf}
+use Rattle.taskplan.specs.File.{filedOf}
 use Rattle.planfile.specs.Tool.{answered}
-use Rattle.planfile.specs.OfFile.{whoIn, passIn}
+use Rattle.askfile.specs.OfFile.{whoIn, passIn}
 
 -- what the plan writer's contract says of its answer and of the buffer
 abbrev pub Writes : TaskSet → Plan → (buffer : List ℕ) → Written → (left : List ℕ) → Type 0

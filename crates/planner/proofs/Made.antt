@@ -12,7 +12,7 @@ use Rattle.refusals.specs.declared.Refusal.the-variants.{Full, Ask}
 use Rattle.refusals.specs.declared.Outcome.{Outcome}
 use Rattle.refusals.specs.declared.Outcome.the-variants.{Done, Refused}
 use Rattle.demand.specs.Load.{Load, Every, loadsOf}
-use Rattle.members.specs.Charge.{Member}
+use Rattle.loads.specs.Charge.{Member}
 use Rattle.members.specs.Server.{Filed}
 use Rattle.servers.specs.Placement.{serversIn}
 use Rattle.sizing.specs.Reserve.{serversOf}
@@ -24,15 +24,17 @@ use Rattle.refusals.specs.First.{firstOf, when}
 use Rattle.taskask.specs.Ask.{askRow}
 use Rattle.taskask.proofs.Carried.{count-within, ask-count}
 use Rattle.plan.specs.declared.plan.Plan.{Plan}
-use Rattle.rows.specs.Figures.{setFigures, figureNumbers}
+use Rattle.setfigures.specs.Figures.{setFigures, figureNumbers}
 use Rattle.rows.specs.Rows.{chargedOutcome, horizonOf, Chargeable, RowsClear}
-use Rattle.plan.specs.Plan.{laidOut, reservesWith, planWith, setPlacement, setReserves, planMade, zeroPlan}
+use Rattle.layout.specs.Layout.{laidOut}
+use Rattle.layout.specs.Made.{reservesWith, planWith, setPlacement, setReserves, planMade}
+use Rattle.plan.specs.Plan.{zeroPlan}
 use Rattle.planner.specs.Planner.{Clear, needed, fullRow, planOutcome, answer, planOf}
-use Rattle.plan.specs.Layable.{Layable}
+use Rattle.layout.specs.Layable.{Layable}
 use Rattle.refusals.proofs.FirstLaws.{first-done, when-done}
-use Rattle.rows.proofs.FigureLaws.{figures-length, figures-back}
+use Rattle.setfigures.proofs.FigureLaws.{figures-length, figures-back}
 use Rattle.rows.proofs.Clears.{board-slot, charged-clear, figures-members, figures-alone, slot-small, set-filed}
-use Rattle.plan.proofs.Layouts.{processors-few}
+use Rattle.layout.proofs.Layouts.{processors-few}
 use Rattle.planner.proofs.Served.{count-few, reserves-count, layable, laid-is}
 
 module _ (set : TaskSet) (full : length (set .tasks) ≡ mostTasks) (clear : Clear set) where

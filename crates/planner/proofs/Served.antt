@@ -10,7 +10,7 @@ use Rattle.demand.specs.Load.{Load, Every}
 use Rattle.tasks.specs.declared.set.Header.{Header}
 use Rattle.tasks.specs.Set.{mostTasks}
 use Rattle.places.specs.Padded.{padded}
-use Rattle.members.specs.Charge.{Member}
+use Rattle.loads.specs.Charge.{Member}
 use Rattle.servers.specs.Placement.{serversIn, placementOf}
 use Rattle.sizing.specs.Reserve.{reservesOf, sized, serversOf}
 use Rattle.servers.specs.Claims.{FitAlone}
@@ -20,8 +20,8 @@ use Rattle.servers.proofs.PlacementLaws.{placement-length}
 use Rattle.servers.proofs.Claims.{servers-few, planner-fits}
 use Rattle.sizing.proofs.Claims as size
 use Rattle.reserves.specs.Slotted.{SlottedFirst}
-use Rattle.plan.specs.Plan.{laidOut}
-use Rattle.plan.specs.Layable.{Layable}
+use Rattle.layout.specs.Layout.{laidOut}
+use Rattle.layout.specs.Layable.{Layable}
 
 module _ (h : Header) (figures : List Load) (few : length figures ≤ mostTasks) (members : Every (Member h) figures) (alone : FitAlone h figures) (slot : 1 ≤ h .slot) (small : h .slot < 2 ^ 32) where
   abbrev placement : List ℕ

@@ -14,7 +14,8 @@ use Rattle.reserves.specs.Reserves.{processorsOf}
 use Rattle.plan.specs.declared.plan.Plan.{Plan}
 use Rattle.planner.specs.declared.PlanAnswer.{PlanAnswer}
 use Rattle.rows.specs.Rows.{chargedOutcome}
-use Rattle.plan.specs.Plan.{planMade, setReserves, zeroPlan}
+use Rattle.layout.specs.Made.{planMade, setReserves}
+use Rattle.plan.specs.Plan.{zeroPlan}
 
 -- the processors that a set's plan needs: r + whole processors
 unfoldable pub needed : TaskSet → ℕ

@@ -1,16 +1,17 @@
 // The planner: the plan that document 01 describes, or the first refusal and the all-zero plan.
 // What it means stands in specs/Planner.antt.
-use plan::layout::lay_out;
+use layout::lay_out;
 use plan::plan::Plan;
 use refusals::Outcome;
 use refusals::Refusal;
-use rows::figures;
 use rows::rows::Rows;
 use rows::rows::charged;
+use setfigures::figures;
 use tasks::set::TaskSet;
 ghost use mathlib.Core.Path.{_≡_};
 ghost use Rattle.rows.specs.Rows.{horizonOf};
-ghost use Rattle.plan.specs.Plan.{planMade, zeroPlan};
+ghost use Rattle.layout.specs.Made.{planMade};
+ghost use Rattle.plan.specs.Plan.{zeroPlan};
 ghost use Rattle.planner.specs.Planner.{Clear, answer, planOf};
 
 pub struct PlanAnswer {

@@ -1,7 +1,7 @@
 -- Laws of a plan's text: its length, and that its groups of lines are stored one behind the other.
 -- Assumes nothing.
 use Prim.Native.Nat.{ℕ, _+_, _*_, _≤_}
-use mathlib.Core.Path.{_≡_, refl, sym, _∙_, ap}
+use mathlib.Core.Path.{_≡_, sym, _∙_, ap}
 use mathlib.Core.List.{List, _++_, append-assoc}
 use native.Mathlib.Omega.{arith}
 use lib.ListN.{length, length-append}
@@ -12,9 +12,10 @@ use Rattle.framelines.specs.Lines.{joined}
 use Rattle.framelines.proofs.LinesLaws.{joined-length}
 use Rattle.tasks.specs.declared.set.TaskSet.{TaskSet}
 use Rattle.plan.specs.declared.plan.Plan.{Plan}
-use Rattle.plantext.specs.Text.{planLine, serverLine, placedLine, processorLine, planText, longestText}
-use Rattle.plantext.specs.Fit.{CountsFit}
-use Rattle.plantext.proofs.LineLaws.{plan-bytes, server-size, placed-size, processor-size, server-bytes, placed-bytes, processor-bytes}
+use Rattle.planlines.specs.Line.{planLine, serverLine, placedLine, processorLine}
+use Rattle.plantext.specs.Text.{planText, longestText}
+use Rattle.plantext.specs.Counts.{CountsFit}
+use Rattle.planlines.proofs.LineLaws.{plan-bytes, server-size, placed-size, processor-size, server-bytes, placed-bytes, processor-bytes}
 
 -- a text stored right behind one at the buffer's start
 behind : (b x y : List ℕ) (m : ℕ) → m ≡ length x → length x + length y ≤ length b → stored (stored b 0 x) m y ≡ stored b 0 (x ++ y)

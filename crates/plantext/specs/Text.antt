@@ -1,42 +1,20 @@
--- The text of a plan: one 11 line, then 12 by server, 13 in file order, 14 by processor; and the 1F line of a refusal.
+-- The text of a plan: one 11 line, then 12 by server, 13 in file order, 14 by processor.
 -- Document 01, "Lines of hexadecimal".
 use Prim.Native.Nat.{ℕ, _+_, _*_}
-use mathlib.Core.List.{List, [], _∷_, _++_}
+use mathlib.Core.List.{List, _++_}
 use Rattle.frames.specs.Table.{lengthOf}
-use Rattle.framewrite.specs.Line.{lineOf}
 use Rattle.framelines.specs.Lines.{joined}
-use Rattle.refusals.specs.Refused.{numberOf, placeOf}
 use Rattle.frames.specs.declared.table.Frame.{Frame}
-use Rattle.refusals.specs.declared.Refusal.{Refusal}
 use Rattle.tasks.specs.declared.set.TaskSet.{TaskSet}
 use Rattle.tasks.specs.Set.{mostTasks, mostProcessors}
 use Rattle.plan.specs.declared.plan.Plan.{Plan}
-use Rattle.planfigures.specs.Figures.{serverFigures, placedFigures, processorFigures}
-
--- the figures of the 11 line
-abbrev pub planFigures : Plan → List ℕ
-planFigures plan = plan .whole ∷ plan .ring ∷ plan .servers ∷ plan .slot ∷ plan .idle ∷ []
-
-unfoldable pub planLine : Plan → List ℕ
-planLine plan = lineOf Frame.Plan (planFigures plan)
-
-unfoldable pub serverLine : Plan → ℕ → List ℕ
-serverLine plan q = lineOf Frame.Server (serverFigures (plan .server) (plan .slot) q)
-
-unfoldable pub placedLine : TaskSet → Plan → ℕ → List ℕ
-placedLine set plan k = lineOf Frame.Placed (placedFigures (set .tasks) (plan .placement) k)
-
-unfoldable pub processorLine : Plan → ℕ → List ℕ
-processorLine plan p = lineOf Frame.Processor (processorFigures (plan .first) p)
+use Rattle.planlines.specs.Line.{planLine, serverLine, placedLine, processorLine}
 
 unfoldable pub planText : TaskSet → Plan → List ℕ
 planText set plan =
     planLine plan
     ++ (joined (serverLine plan) (plan .servers)
     ++ (joined (placedLine set plan) (set .count) ++ joined (processorLine plan) (plan .ring + plan .whole)))
-
-unfoldable pub refusalText : Refusal → List ℕ
-refusalText r = lineOf Frame.Refused (numberOf r ∷ placeOf r ∷ [])
 
 -- the bytes of the longest text: as many servers as tasks, and every processor
 abbrev pub longestText : ℕ

@@ -1,4 +1,41 @@
-// The text of a plan and the line of a refusal, into a lent buffer.
-pub mod fit; // fit.rt: a text into a lent buffer
-pub mod line; // line.rt: the first line of a plan, and the line of a refusal
-pub mod text; // text.rt: the text of a plan, its lines one after the other
+// The text of a plan: one 11 line, then 12 by server, 13 in file order, 14 by processor, one behind the other.
+// What it is stands in specs/Text.antt.
+use framelines::lines_length;
+use frames::table::Frame;
+use plan::plan::Plan;
+use planlines::put_plan;
+use planlines::put_processors;
+use planlines::put_servers;
+use planlines::put_tasks;
+use tasks::set::TaskSet;
+ghost use mathlib.Core.Path.{_≡_};
+ghost use Prim.Native.Nat.{_+_, _≤_};
+ghost use lib.ListN.{length as bytes};
+ghost use Rattle.digits.specs.Stored.{stored};
+ghost use Rattle.plantext.specs.Text.{planText};
+ghost use Rattle.plantext.specs.Counts.{CountsFit};
+
+pub fn text_length(set: TaskSet, plan: Plan) -> usize
+    requires { ⌜ CountsFit set plan ⌝ }
+    ensures { λ r. ⌜ r ≡ bytes (planText set plan) ⌝ }
+{
+    let first = lines_length(Frame::Plan, 1);
+    let servers = lines_length(Frame::Server, plan.servers as usize);
+    let tasks = lines_length(Frame::Placed, set.count);
+    let processors = lines_length(Frame::Processor, (plan.ring + plan.whole) as usize);
+    first + servers + tasks + processors
+}
+
+pub fn put_text(out: &mut [u8], set: TaskSet, plan: Plan)
+    requires { ⌜ CountsFit set plan × (bytes (planText set plan) ≤ bytes (now out)) ⌝ }
+    ensures { λ r. ⌜ now (out .exit) ≡ stored (now (out .entry)) 0 (planText set plan) ⌝ }
+{
+    let count = (plan.ring + plan.whole) as usize;
+    put_plan(out, plan);
+    let servers = lines_length(Frame::Plan, 1);
+    put_servers(out, servers, plan);
+    let tasks = servers + lines_length(Frame::Server, plan.servers as usize);
+    put_tasks(out, tasks, set, plan);
+    let processors = tasks + lines_length(Frame::Placed, set.count);
+    put_processors(out, processors, plan, count);
+}

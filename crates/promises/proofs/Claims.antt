@@ -14,10 +14,11 @@ use Rattle.taskask.proofs.Carried.{count-within, ask-count}
 use Rattle.rows.specs.Rows.{Chargeable}
 use Rattle.rows.proofs.Clears.{charged-clear}
 use Rattle.plan.specs.declared.plan.Plan.{Plan}
-use Rattle.plan.specs.Plan.{reservesIn, reservesWith, planWith, setPlacement, planMade}
+use Rattle.plan.specs.Plan.{reservesIn}
+use Rattle.layout.specs.Made.{reservesWith, planWith, setPlacement, planMade}
 use Rattle.planner.specs.Planner.{Clear}
 use Rattle.planner.proofs.Made.{plan-outcome, outcome-clear}
-use Rattle.plancheck.specs.Agrees.{SamePlan}
+use Rattle.planagree.specs.Agrees.{SamePlan}
 use Rattle.plancheck.proofs.Checked.{makes-done, same-made, placement-count}
 use Rattle.fitting_rotas.specs.Rota.{rotaOf}
 use Rattle.fitting_rotas.proofs.Claims.{clear-charged, fitting-stands, planner-fits}

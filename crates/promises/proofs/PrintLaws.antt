@@ -16,9 +16,10 @@ use Rattle.ring.specs.declared.cover.Stand.{Stand}
 use Rattle.ring.specs.Who.{firstReserve}
 use Rattle.plan.specs.declared.plan.Plan.{Plan}
 use Rattle.plan.specs.declared.server.Server.{Server}
-use Rattle.plan.specs.Plan.{noServer, zeroStand, serverAt, serverOf, laidOut}
-use Rattle.plan.proofs.LaidLaws.{laid-reserves, laid-server, laid-first}
-use Rattle.plancheck.specs.Agrees.{used, SamePlan}
+use Rattle.plan.specs.Plan.{noServer, zeroStand, serverAt}
+use Rattle.layout.specs.Layout.{serverOf, laidOut}
+use Rattle.layout.proofs.LaidLaws.{laid-reserves, laid-server, laid-first}
+use Rattle.planagree.specs.Agrees.{used, SamePlan}
 use Rattle.plancheck.proofs.Checked.{reserves-same}
 use Rattle.ring_claims.specs.Serves.{RingServer}
 use Rattle.ring_claims.specs.Rota.{PrintsRing}

@@ -10,14 +10,15 @@ use Rattle.wholes.specs.Multiple.{leastMultiple, leastMultipleOf}
 use Rattle.demand.specs.Charging.{effectiveDeadline, effectiveCost, entryLoss}
 use Rattle.demand.specs.Demand.{jobs, demand}
 use Rattle.demand.specs.Supply.{supplyPast, supply}
-use Rattle.verdict.specs.Search.{firstUpTo, firstAfter}
+use Rattle.search.specs.Search.{firstUpTo, firstAfter}
 use Rattle.verdict.specs.Verdict.{failing, ownHorizon, firstFailing, verdictAt, verdictOf, passing}
 use Rattle.verdict.specs.Reserve.{enough, smallestReserve}
 use Rattle.places.specs.Padded.{upTo}
 use Rattle.places.specs.Places.{chosen}
-use Rattle.members.specs.Charge.{cacheOf, chargedIn, serverLoads, serverLoss}
+use Rattle.loads.specs.Charge.{cacheOf, chargedIn, serverLoads, serverLoss}
 use Rattle.members.specs.Server.{passesWith, fits, reserveFor}
-use Rattle.servers.specs.Placement.{serversIn, takes, join, placeBy, fit, placementOf}
+use Rattle.servers.specs.Placement.{serversIn, join, placeBy, fit, placementOf}
+use Rattle.taking.specs.Takes.{takes}
 use Rattle.sizing.specs.Reserve.{reservesOf}
 use Rattle.reserves.specs.Reserves.{ringTicks, wholes}
 use Rattle.ring_claims.specs.Serves.{RingServer, WholeProcessor}
@@ -29,9 +30,10 @@ use Rattle.frames.specs.Table.{widthsOf}
 use Rattle.framesizes.specs.Overflow.{lineOverflows, someTooLarge}
 use Rattle.taskask.specs.Ask.{countRow, twiceRow, headerOverflows, taskOverflows, askRow}
 use Rattle.taskrows.specs.Rows.{boardRow, rangeRow, figuresOutcome}
-use Rattle.rows.specs.Figures.{setFigures}
-use Rattle.rows.specs.Rows.{slotRow, tightRow, horizonOf, horizonRow, chargedOutcome}
-use Rattle.plan.specs.Plan.{reservesWith, setPlacement, setReserves}
+use Rattle.setfigures.specs.Figures.{setFigures}
+use Rattle.tightrows.specs.Rows.{slotRow, tightRow}
+use Rattle.rows.specs.Rows.{horizonOf, horizonRow, chargedOutcome}
+use Rattle.layout.specs.Made.{reservesWith, setPlacement, setReserves}
 use Rattle.planner.specs.Planner.{needed, fullRow, planOutcome, planOf}
 use Rattle.fitting_rotas.specs.Rota.{rotaOf}
 use Rattle.promises.specs.Claims.{Accepted}

@@ -11,11 +11,12 @@ use Rattle.tasks.specs.Set.{mostTasks}
 use Rattle.ring.specs.Who.{whoOf}
 use Rattle.ring_claims.specs.Rota.{unrolled}
 use Rattle.servers.specs.Fitting.{Fitting}
-use Rattle.rows.specs.Figures.{setFigures}
+use Rattle.setfigures.specs.Figures.{setFigures}
 use Rattle.plan.specs.declared.plan.Plan.{Plan}
-use Rattle.plan.specs.Plan.{reservesIn, planWith, setPlacement}
+use Rattle.plan.specs.Plan.{reservesIn}
+use Rattle.layout.specs.Made.{planWith, setPlacement}
 use Rattle.planner.specs.Planner.{planOf}
-use Rattle.plancheck.specs.Agrees.{makes}
+use Rattle.plancheck.specs.Makes.{makes}
 use Rattle.rotas.specs.Rota.{Standing}
 use Rattle.fitting_rotas.specs.Rota.{rotaOf}
 use Rattle.promises.specs.Prints.{PrintsRota, printedOf}

@@ -19,8 +19,8 @@ use Rattle.refusals.specs.declared.Written.{Written}
 use Rattle.refusals.specs.declared.Written.the-variants.{Bytes, Refused as NotWritten}
 use Rattle.refusals.specs.First.{firstOf, when}
 use Rattle.refusals.specs.Leaves.{leaves}
-use Rattle.plantext.specs.Fit.{fitted}
-use Rattle.planfile.specs.File.{unless, filedOf}
+use Rattle.planfit.specs.Fit.{fitted}
+use Rattle.taskplan.specs.File.{unless, filedOf}
 use Rattle.switchfile.specs.OfFile.{listed}
 use Rattle.told.specs.Told.{statusOf, leavesNumbers}
 use Rattle.rack.specs.Rack.{listText, listNumbers, listTold, leavesText, listLeaves}

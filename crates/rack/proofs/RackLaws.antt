@@ -4,7 +4,7 @@ use Prim.Native.Nat.{ℕ}
 use mathlib.Core.List.{List}
 use mathlib.Core.Path.{_≡_, sym, _∙_, ap}
 use Rattle.refusals.specs.declared.Written.{Written}
-use Rattle.plantext.specs.Fit.{Fits}
+use Rattle.planfit.specs.Fit.{Fits}
 use Rattle.planfile.specs.Tool.{answered}
 use Rattle.rack.specs.Rack.{bytesOf, planBytes, planLeaves}
 

@@ -14,10 +14,10 @@ use Rattle.refusals.specs.declared.Written.{Written}
 use Rattle.refusals.specs.declared.Written.the-variants.{Bytes, Refused as NotWritten}
 use Rattle.refusals.specs.Leaves.{leaves}
 use Rattle.told.specs.Told.{toldOf, verdictNumbers}
-use Rattle.plantext.specs.Fit.{fitted}
-use Rattle.planfile.specs.File.{filedOf}
+use Rattle.planfit.specs.Fit.{fitted}
+use Rattle.taskplan.specs.File.{filedOf}
 use Rattle.planfile.specs.Tool.{answered}
-use Rattle.planfile.specs.OfFile.{whoIn, passIn}
+use Rattle.askfile.specs.OfFile.{whoIn, passIn}
 use Rattle.switchlist.specs.Write.{planSwitches}
 
 -- the bytes that were written

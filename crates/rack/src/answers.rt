@@ -1,7 +1,7 @@
 // The two questions of a task file, answered by numbers in lent memory.
 // A status of 0 says that the answer stands there; any other is the refusal, and the memory is as before.
-use planfile::of_file::pass_in;
-use planfile::of_file::who_in;
+use askfile::pass_in;
+use askfile::who_in;
 use refusals::Outcome;
 use ring::clock::Tick;
 use told::code;

@@ -1,16 +1,16 @@
 // The switch list of a task file into lent memory, and its number of bytes.
 // A status of 0 says that they stand there; any other is the refusal, and the memory is as before.
-use planfile::file::filed;
 use refusals::Outcome;
 use refusals::Refusal;
 use refusals::Written;
 use switchfile::list;
+use taskplan::filed;
 use told::code;
 ghost use mathlib.Core.Path.{_≡_};
 ghost use Rattle.refusals.specs.First.{firstOf};
 ghost use Rattle.refusals.specs.declared.Refusal.the-variants.{Room};
 ghost use Rattle.refusals.specs.declared.Outcome.the-variants.{Refused};
-ghost use Rattle.planfile.specs.File.{filedOf};
+ghost use Rattle.taskplan.specs.File.{filedOf};
 ghost use Rattle.told.specs.Told.{statusOf, leavesNumbers};
 ghost use Rattle.rack.specs.Rack.{listNumbers, listTold, listLeaves};
 

@@ -11,7 +11,7 @@ use Rattle.demand.specs.Lawful.{Lawful}
 use Rattle.demand.specs.Demand.{jobs, demand}
 use Rattle.demand.specs.Supply.{supplyPast, supply}
 use Rattle.demand.proofs.Claims.{loads-lawful}
-use Rattle.verdict.specs.Search.{firstUpTo}
+use Rattle.search.specs.Search.{firstUpTo}
 use Rattle.verdict.specs.Verdict.{failing, firstFailing, verdictAt, verdictOf, passing}
 use Rattle.verdict.specs.Reserve.{enough, smallestReserve, Smallest}
 use Rattle.verdict.proofs.Claims.{passing-means, reserve-means}

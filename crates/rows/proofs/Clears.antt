@@ -1,8 +1,8 @@
 -- A set whose rows are clear: its tasks may be charged, its slot, overheads and horizon are within bounds.
 -- Assumes nothing.
 use Prim.Native.Nat.{ℕ, zero, suc, _^_, _≤_, _<_}
-use mathlib.Core.Path.{_≡_, refl, sym, ap, _∙_}
-use mathlib.Core.Bool.{Bool, true, false, not, _&&_, _||_}
+use mathlib.Core.Path.{_≡_, refl, sym, ap}
+use mathlib.Core.Bool.{Bool, true, false, not, _&&_}
 use mathlib.Core.List.{List, [], _∷_, map}
 use native.Mathlib.Omega.{arith}
 use borrow.Author.Tests.{leb-true, leb-false, ltb-false, lt-ltb, le-ltb, eqb-false, not-false}
@@ -34,15 +34,16 @@ use Rattle.taskrows.specs.Rows.{boardRow, rangeRow, figuresOutcome}
 use Rattle.taskask.specs.Ask.{askRow}
 use Rattle.tasks.proofs.FirstLaws.{first-none}
 use Rattle.tasks.proofs.Firsts.{at-some}
-use Rattle.members.specs.Charge.{figuresOf, chargedIn, Member, Overheads, Timed}
-use Rattle.members.specs.Server.{fits, Filed}
+use Rattle.loads.specs.Charge.{figuresOf, chargedIn, Member, Overheads}
+use Rattle.members.specs.Server.{Timed, fits, Filed}
 use Rattle.members.proofs.HorizonLaws.{slot-divides}
 use Rattle.members.proofs.ServerLaws.{alone-fits}
-use Rattle.rows.specs.Figures.{setFigures, figureNumbers}
+use Rattle.setfigures.specs.Figures.{setFigures, figureNumbers}
 use Rattle.rows.specs.declared.rows.Rows.{Rows}
 use Rattle.rows.specs.declared.rows.Rows.the-variants.{Clear}
-use Rattle.rows.specs.Rows.{slotRow, tightRow, horizonOf, horizonRow, chargedOutcome, cleared, rowsOf, Chargeable, RowsClear}
-use Rattle.rows.proofs.FigureLaws.{figures-back, numbers-there}
+use Rattle.tightrows.specs.Rows.{slotRow, tightRow}
+use Rattle.rows.specs.Rows.{horizonOf, horizonRow, chargedOutcome, cleared, rowsOf, Chargeable, RowsClear}
+use Rattle.setfigures.proofs.FigureLaws.{figures-back, numbers-there}
 
 -- ---- a header and a task
 

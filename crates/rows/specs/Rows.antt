@@ -1,40 +1,23 @@
--- Rows 7 to 9 of the refusals, each by its own test, and the first of rows 5 to 9 that holds of a set.
+-- Row 9 of the refusals, by its own test, and the first of rows 5 to 9 that holds of a set.
 -- Document 01, "Refusal numbers and their order".
 use Prim.Native.Nat.{ℕ, _≤_}
 use mathlib.Core.List.{map}
 use mathlib.Core.Path.{_≡_}
-use mathlib.Core.Bool.{Bool, false, _||_}
-use lib.Dec.{leb, ltb}
+use mathlib.Core.Bool.{Bool, false}
+use lib.Dec.{ltb}
 use Rattle.refusals.specs.declared.Refusal.the-variants.{Slot, Tight, Horizon}
 use Rattle.refusals.specs.declared.Outcome.{Outcome}
 use Rattle.refusals.specs.declared.Outcome.the-variants.{Done}
 use Rattle.wholes.specs.Multiple.{leastMultipleOf}
-use Rattle.tasks.specs.declared.set.Header.{Header}
 use Rattle.tasks.specs.declared.set.Task.{Task}
 use Rattle.tasks.specs.declared.set.TaskSet.{TaskSet}
 use Rattle.tasks.specs.Set.{mostTasks, members, longestHorizon}
 use Rattle.refusals.specs.First.{firstOf, when}
 use Rattle.tasks.specs.Search.{firstTask, atTask}
 use Rattle.taskrows.specs.Rows.{boardRow, rangeRow, figuresOutcome}
-use Rattle.members.specs.Charge.{figuresOf, chargedIn}
-use Rattle.rows.specs.declared.rows.TaskRow.{TaskRow}
+use Rattle.tightrows.specs.Rows.{slotRow, tightRow}
 use Rattle.rows.specs.declared.rows.Rows.{Rows}
 use Rattle.rows.specs.declared.rows.Rows.the-variants.{Clear}
-
--- 7 SLOT: a task has D < S
-unfoldable pub slotRow : Header → Task → Bool
-slotRow h t = ltb (t .deadline) (h .slot)
-
--- 8 TIGHT: a task has RelJ ≥ D or c > d
-unfoldable pub tightRow : Header → Task → Bool
-tightRow h t =
-    leb (t .deadline) (h .relj) ||
-    ltb (chargedIn h (h .cpmdo) (figuresOf t) .deadline) (chargedIn h (h .cpmdo) (figuresOf t) .cost)
-
--- the rows that are tried on each task
-abbrev pub rowOf : TaskRow → Header → Task → Bool
-rowOf TaskRow.Slot = slotRow
-rowOf TaskRow.Tight = tightRow
 
 -- the horizon H: the least common multiple of S and every T of the file
 unfoldable pub horizonOf : TaskSet → ℕ

@@ -1,71 +1,18 @@
-// Rows 7 to 9 of the refusals over a set, each over all tasks, and rows 5 to 9 in order, with the horizon that row 9 finds.
+// Row 9 of the refusals over a set, and rows 5 to 9 in order, with the horizon that row 9 finds.
 // What they mean stands in specs/Rows.antt.
-use crate::figures;
-use demand::charging;
 use refusals::Outcome;
 use refusals::Refusal;
-use tasks::set::Header;
-use tasks::set::Task;
+use setfigures::figures;
 use tasks::set::TaskSet;
+use tightrows::TaskRow;
+use tightrows::first_broken;
 use wholes::Multiple;
 ghost use mathlib.Core.Path.{_≡_};
 ghost use mathlib.Core.Bool.{false};
 ghost use Prim.Native.Nat.{_≤_};
 ghost use Rattle.wholes.specs.Multiple.{within};
 ghost use Rattle.tasks.specs.Set.{members, mostTasks, longestHorizon};
-ghost use Rattle.tasks.specs.Search.{firstTask};
-ghost use Rattle.rows.specs.Rows.{tightRow, rowOf, horizonOf, horizonRow, rowsOf, Chargeable};
-
-// A row that is tried on each task: 7 SLOT or 8 TIGHT.
-pub enum TaskRow {
-    Slot,
-    Tight,
-}
-
-// 8 TIGHT.
-fn breaks_tight(header: Header, task: Task) -> bool
-    ensures { λ r. ⌜ r ≡ tightRow header task ⌝ }
-{
-    let jitter = header.relj as u32;
-    if task.deadline <= jitter {
-        return true;
-    }
-    let due = charging::charged_deadline(task.deadline as u64, header.relj as u64);
-    let cost = charging::charged_cost(
-        task.cost as u64,
-        header.relo as u64,
-        header.ctswo as u64,
-        header.cpmdo as u64,
-    );
-    due < cost
-}
-
-fn breaks(row: TaskRow, header: Header, task: Task) -> bool
-    ensures { λ r. ⌜ r ≡ rowOf row header task ⌝ }
-{
-    match row {
-        TaskRow::Slot => task.deadline < header.slot,
-        TaskRow::Tight => breaks_tight(header, task),
-    }
-}
-
-// The first task, from 1, that breaks the row, or 0.
-fn first_broken(set: TaskSet, row: TaskRow) -> usize
-    requires { ⌜ set .count ≤ mostTasks ⌝ }
-    ensures { λ r. ⌜ r ≡ firstTask (rowOf row (set .header)) (members set) ⌝ }
-{
-    let header = set.header;
-    let count = set.count;
-    let mut i = 0;
-    while i < count {
-        let task = set.tasks[i];
-        if breaks(row, header, task) {
-            return i + 1;
-        }
-        i += 1;
-    }
-    0
-}
+ghost use Rattle.rows.specs.Rows.{horizonOf, horizonRow, rowsOf, Chargeable};
 
 // The horizon of a set, or none where it is past the limit.
 fn horizon_within(set: TaskSet) -> Multiple

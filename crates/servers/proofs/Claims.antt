@@ -10,18 +10,20 @@ use lib.Seq.{take-at, getD-at, append-snoc}
 use Rattle.laws.proofs.Tests.{true-false}
 use Rattle.demand.specs.Load.{Load, Every}
 use Rattle.demand.proofs.Demand.{every-front, every-last}
-use Rattle.verdict.specs.Search.{NoneIn, Next}
+use Rattle.search.specs.Search.{NoneIn, Next}
 use Rattle.tasks.specs.declared.set.Header.{Header}
 use Rattle.places.specs.Places.{chosen}
-use Rattle.members.specs.Charge.{Member}
+use Rattle.loads.specs.Charge.{Member}
 use Rattle.members.specs.Server.{fits}
-use Rattle.servers.specs.Placement.{serversIn, takes, firstFit, fit, placementOf}
+use Rattle.servers.specs.Placement.{serversIn, firstFit, fit, placementOf}
+use Rattle.taking.specs.Takes.{takes}
 use Rattle.servers.specs.Fitting.{Fitting}
 use Rattle.servers.specs.Claims.{TakesOrOpens, FitAlone, FirstFitPicks, JoinTakesOrOpens, OneMoreFits, PlacedFits, PlannerFits, PassesWith, Lowest, Opened, FirstFit}
 use Rattle.members.proofs.ServerLaws.{fits-passes, passes-fits}
 use Rattle.servers.proofs.PlacementLaws.{placed, placed-length, placed-more, placed-keeps, placed-grows}
 use Rattle.servers.proofs.JoinLaws.{join-view, first-picked, fit-view}
-use Rattle.servers.proofs.FittingLaws.{in-range, fitting-none, few-more, members-with, fitting-more}
+use Rattle.servers.proofs.FittingLaws.{in-range, fitting-none, few-more, fitting-more}
+use Rattle.taking.proofs.ChargedLaws.{members-with}
 
 -- ---- one step, whatever the rule
 

@@ -3,24 +3,24 @@ use Prim.Native.Nat.{ℕ, suc, _+_, _≤_, _<_}
 use native.Mathlib.Omega.{arith}
 use native.Mathlib.Decide.{decLt, decLe, ℕ-discrete}
 use mathlib.Core.Path.{_≡_, refl, sym, ap, subst, _∙_}
-use mathlib.Core.Logic.{_⊎_, inl, inr, ⊎-elim}
-use mathlib.Core.Bool.{Bool, true, false}
+use mathlib.Core.Logic.{_⊎_, ⊎-elim}
+use mathlib.Core.Bool.{Bool, true}
 use mathlib.Core.List.{List, [], _∷_, _++_}
 use lib.ListN.{length, getD, length-append, List·getD-append}
 use lib.Seq.{getD-append-seam}
-use lib.Dec.{eqb}
 use borrow.Author.Tests.{ne-eqb}
 use Rattle.demand.specs.Load.{Load, Every}
-use Rattle.demand.proofs.Demand.{every-snoc, every-front, every-last}
 use Rattle.tasks.specs.declared.set.Header.{Header}
 use Rattle.places.specs.Places.{keep, chosen}
 use Rattle.places.proofs.PlacesLaws.{in-joined, in-apart}
-use Rattle.members.specs.Charge.{Member}
+use Rattle.loads.specs.Charge.{Member}
 use Rattle.members.specs.Server.{fits}
-use Rattle.servers.specs.Placement.{serversIn, takes}
+use Rattle.servers.specs.Placement.{serversIn}
+use Rattle.taking.specs.Takes.{takes}
 use Rattle.servers.specs.Fitting.{Parted, PassesWhole, Fitting}
 use Rattle.servers.specs.Claims.{TakesOrNew}
 use Rattle.members.proofs.ServerLaws.{fits-passes}
+use Rattle.taking.proofs.ChargedLaws.{members-with}
 use Rattle.servers.proofs.PlacementLaws.{servers-more}
 
 -- a server past the last has no task
@@ -30,17 +30,6 @@ in-none [] placement q h = refl
 in-none (l ∷ figures) [] q h = refl
 in-none (l ∷ figures) (a ∷ placement) q h =
     ap (λ (b : Bool). keep b l (chosen figures placement q)) (ne-eqb a q (omega arith)) ∙ in-none figures placement q (omega arith)
-
--- what holds of every task holds of every task of a server
-pub every-chosen : (P : Load → Type 0) (figures : List Load) (placement : List ℕ) (q : ℕ) → Every P figures → Every P (chosen figures placement q)
-unfolding chosen
-every-chosen P [] placement q e = tt
-every-chosen P (l ∷ figures) [] q e = tt
-every-chosen P (l ∷ figures) (a ∷ placement) q e = kept (eqb a q) (every-chosen P figures placement q (e .1))
-  where
-    kept : (b : Bool) → Every P (chosen figures placement q) → Every P (keep b l (chosen figures placement q))
-    kept true rest = (e .0, rest)
-    kept false rest = rest
 
 -- q is a server of the placement, or the next
 abbrev pub InRange : (placement : List ℕ) (q : ℕ) → Type 0
@@ -113,13 +102,6 @@ pub few-more : (placement : List ℕ) (q : ℕ) → InRange placement q → serv
 few-more placement q o h = omega (arith, servers-more placement q, length-append placement (q ∷ []), o .1)
 
 -- ---- every server passes
-
--- the members of a server with the task
-pub members-with : (h : Header) (done : List Load) (placement : List ℕ) (l : Load) → Every (Member h) (done ++ (l ∷ [])) →
-    (q : ℕ) → Every (Member h) (chosen done placement q ++ (l ∷ []))
-members-with h done placement l members q =
-    every-snoc (Member h) (chosen done placement q) l
-    (every-chosen (Member h) done placement q (every-front (Member h) done l members)) (every-last (Member h) done l members)
 
 module _ (h : Header) (done : List Load) (placement : List ℕ) (l : Load) (q : ℕ) (some : 1 ≤ h .slot)
     (members : Every (Member h) (done ++ (l ∷ []))) (alone : fits h (l ∷ []) ≡ true) where

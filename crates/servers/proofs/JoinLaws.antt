@@ -7,10 +7,11 @@ use mathlib.Core.Logic.{_⊎_, inl, inr, ⊎-elim}
 use mathlib.Core.Bool.{Bool, true}
 use mathlib.Core.List.{List}
 use Rattle.demand.specs.Load.{Load}
-use Rattle.verdict.specs.Search.{firstAfter, orElse, NoneIn, Next}
-use Rattle.verdict.proofs.Bounded.{after-none, after-zero, after-found, after-is}
+use Rattle.search.specs.Search.{firstAfter, orElse, NoneIn, Next}
+use Rattle.search.proofs.Bounded.{after-none, after-zero, after-found, after-is}
 use Rattle.tasks.specs.declared.set.Header.{Header}
-use Rattle.servers.specs.Placement.{serversIn, takes, Rule, firstFit, join, fit}
+use Rattle.servers.specs.Placement.{serversIn, Rule, firstFit, join, fit}
+use Rattle.taking.specs.Takes.{takes}
 use Rattle.servers.specs.Claims.{Picks}
 
 -- the first number stands where it is not 0

@@ -4,6 +4,5 @@ pub mod JoinLaws
 pub mod FittingLaws
 pub mod Claims
 pub mod TotalLaws
-pub mod ChargedLaws
 pub mod SoFarLaws
 pub mod Worked

@@ -1,6 +1,6 @@
 -- A placement as the code holds it while tasks come: the servers of the first i tasks, padded, how many servers there are, and their
 -- totals. What is known of it, and the same with one task more.
-use Prim.Native.Nat.{ℕ, suc, _+_, _-_, _≤_, _<_, max}
+use Prim.Native.Nat.{ℕ, _+_, _-_, _≤_, _<_, max}
 use native.Mathlib.Omega.{arith}
 use mathlib.Core.Path.{_≡_, refl, sym, ap, subst, _∙_}
 use mathlib.Core.List.{List, [], _∷_, _++_}
@@ -10,8 +10,10 @@ use Rattle.tasks.specs.declared.set.Header.{Header}
 use Rattle.tasks.specs.Set.{mostTasks}
 use Rattle.places.specs.Padded.{padded}
 use Rattle.places.proofs.PaddedLaws.{padded-length, padded-take, padded-more}
-use Rattle.servers.specs.Placement.{serversIn, takes, firstFit, join, fit, placeBy, placementOf, placed}
-use Rattle.servers.specs.Totals.{totalIn, Totals}
+use Rattle.servers.specs.Placement.{serversIn, firstFit, join, fit, placeBy, placementOf, placed}
+use Rattle.taking.specs.Takes.{takes}
+use Rattle.taking.specs.Totals.{totalIn}
+use Rattle.servers.specs.Totals.{Totals}
 use Rattle.servers.specs.Claims.{TakesOrNew}
 use Rattle.servers.specs.declared.placement.Placed.{Placed}
 use Rattle.servers.proofs.PlacementLaws.{servers-more, placement-length, placement-more}

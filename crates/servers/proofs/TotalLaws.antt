@@ -16,13 +16,17 @@ use Rattle.tasks.specs.declared.set.Header.{Header}
 use Rattle.tasks.specs.Set.{mostTasks}
 use Rattle.places.specs.Places.{chosen}
 use Rattle.places.proofs.PlacesLaws.{in-joined, in-apart}
-use Rattle.members.specs.Charge.{cacheOf, chargedIn, serverLoads, Member}
-use Rattle.members.specs.Server.{fits, totalOf}
-use Rattle.servers.specs.Placement.{serversIn, takes}
-use Rattle.servers.specs.Totals.{totalIn, Totals}
+use Rattle.loads.specs.Charge.{cacheOf, chargedIn, serverLoads, Member}
+use Rattle.members.specs.Server.{totalOf}
+use Rattle.servers.specs.Placement.{serversIn}
+use Rattle.taking.specs.Takes.{takes}
+use Rattle.taking.specs.Totals.{totalIn}
+use Rattle.servers.specs.Totals.{Totals}
 use Rattle.servers.specs.Claims.{TakesOrNew}
 use Rattle.members.proofs.ServerLaws.{total-fails}
-use Rattle.servers.proofs.FittingLaws.{in-none, every-chosen, members-with}
+use Rattle.servers.proofs.FittingLaws.{in-none}
+use Rattle.members.proofs.FiledLaws.{every-chosen}
+use Rattle.taking.proofs.ChargedLaws.{members-with}
 
 -- the totals of two parts add up
 total-append : (H : ℕ) (ls ks : List Load) → totalOf H (ls ++ ks) ≡ totalOf H ls + totalOf H ks

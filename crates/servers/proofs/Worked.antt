@@ -7,12 +7,13 @@ use Rattle.wholes.specs.Multiple.{leastMultiple, leastMultipleOf}
 use Rattle.demand.specs.Charging.{effectiveDeadline, effectiveCost, entryLoss}
 use Rattle.demand.specs.Demand.{jobs, demand}
 use Rattle.demand.specs.Supply.{supplyPast, supply}
-use Rattle.verdict.specs.Search.{firstUpTo, firstAfter}
+use Rattle.search.specs.Search.{firstUpTo, firstAfter}
 use Rattle.verdict.specs.Verdict.{failing, ownHorizon, firstFailing, verdictAt, verdictOf, passing}
 use Rattle.places.specs.Places.{chosen}
-use Rattle.members.specs.Charge.{cacheOf, chargedIn, serverLoads, serverLoss}
+use Rattle.loads.specs.Charge.{cacheOf, chargedIn, serverLoads, serverLoss}
 use Rattle.members.specs.Server.{passesWith, fits}
-use Rattle.servers.specs.Placement.{serversIn, takes, join, placeBy, fit, placementOf}
+use Rattle.servers.specs.Placement.{serversIn, join, placeBy, fit, placementOf}
+use Rattle.taking.specs.Takes.{takes}
 
 -- a task that server 1 cannot take goes to 2, and a later one that it can take goes back to 1
 pub goes-back :

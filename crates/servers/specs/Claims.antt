@@ -9,9 +9,10 @@ use lib.ListN.{length, getD, take}
 use Rattle.demand.specs.Load.{Load, Every}
 use Rattle.tasks.specs.declared.set.Header.{Header}
 use Rattle.places.specs.Places.{chosen}
-use Rattle.members.specs.Charge.{Member}
+use Rattle.loads.specs.Charge.{Member}
 use Rattle.members.specs.Server.{fits}
-use Rattle.servers.specs.Placement.{serversIn, takes, Rule, firstFit, join, Step, placeBy, placementOf}
+use Rattle.servers.specs.Placement.{serversIn, Rule, firstFit, join, Step, placeBy, placementOf}
+use Rattle.taking.specs.Takes.{takes}
 use Rattle.servers.specs.Fitting.{PassesWhole, Fitting}
 
 -- ---- one step, whatever the rule

@@ -8,7 +8,7 @@ use Rattle.demand.specs.Load.{Load}
 use Rattle.demand.specs.Passes.{Passes}
 use Rattle.tasks.specs.declared.set.Header.{Header}
 use Rattle.places.specs.Places.{chosen}
-use Rattle.members.specs.Charge.{serverLoss}
+use Rattle.loads.specs.Charge.{serverLoss}
 use Rattle.members.specs.Server.{serverDemand}
 use Rattle.servers.specs.Placement.{serversIn}
 

@@ -1,25 +1,20 @@
 -- Placing: each task in file order joins a server that takes it, otherwise it opens a new one. By first fit that server is the
 -- lowest-numbered. A placement is the list of each task's server, in file order; servers count from 1.
--- Document 01, "From tasks to servers to ring", rule 1 (the report's Alg. 1 and Ineq. 1).
+-- Document 01, "From tasks to servers to ring", rule 1 (the report's Alg. 1).
 use Prim.Native.Nat.{ℕ, suc, max}
 use mathlib.Core.List.{List, [], _∷_, _++_}
 use mathlib.Core.Bool.{Bool}
 use Rattle.demand.specs.Load.{Load}
-use Rattle.verdict.specs.Search.{firstAfter, orElse}
+use Rattle.search.specs.Search.{firstAfter, orElse}
 use Rattle.tasks.specs.declared.set.Header.{Header}
 use Rattle.places.specs.Padded.{padded}
-use Rattle.places.specs.Places.{chosen}
-use Rattle.members.specs.Server.{fits}
+use Rattle.taking.specs.Takes.{takes}
 use Rattle.servers.specs.declared.placement.Placed.{Placed}
 
 -- how many servers there are: they are numbered without gaps
 unfoldable pub serversIn : (placement : List ℕ) → ℕ
 serversIn [] = 0
 serversIn (a ∷ placement) = max a (serversIn placement)
-
--- server q passes with the task added, with a whole processor; `done` are the tasks that are placed
-unfoldable pub takes : Header → (done : List Load) → (placement : List ℕ) → Load → (q : ℕ) → Bool
-takes h done placement l q = fits h (chosen done placement q ++ (l ∷ []))
 
 -- a rule picks a number above lo, up to hi, that is a candidate; or 0
 abbrev pub Rule : Type 0

@@ -8,12 +8,7 @@ use Rattle.demand.specs.Load.{Load}
 use Rattle.tasks.specs.declared.set.Header.{Header}
 use Rattle.tasks.specs.Set.{mostTasks}
 use Rattle.places.specs.Places.{chosen}
-use Rattle.members.specs.Charge.{serverLoads}
-use Rattle.members.specs.Server.{totalOf}
-
--- the total of a server of these members
-abbrev pub totalIn : Header → (H : ℕ) → (members : List Load) → ℕ
-totalIn h H members = totalOf H (serverLoads h members)
+use Rattle.taking.specs.Totals.{totalIn}
 
 -- a row of totals, server by server; servers that there are not yet have none
 pub record Totals (h : Header) (H : ℕ) (done : List Load) (placement totals : List ℕ) : Type 0 where

@@ -1,62 +1,18 @@
-// Placing by first fit in file order: whether a server takes a task, the server for a task, and the servers of all tasks.
+// Placing by first fit in file order: the server for a task, and the servers of all tasks.
 // What they mean stands in specs/Placement.antt. The server of each task stands in a slice, of which the first i are placed.
-use members::charge;
-use members::horizon_of;
-use places::places_of;
+use taking::share;
+use taking::takes_task;
 use tasks::set::Header;
 use tasks::set::TaskSet;
-use wholes::Multiple;
 ghost use mathlib.Core.Path.{_≡_};
-ghost use mathlib.Core.List.{[], _∷_};
 ghost use Prim.Native.Nat.{_+_, _≤_, _<_};
 ghost use lib.ListN.{length, take};
 ghost use Rattle.demand.specs.Load.{loadAt, loadsOf};
 ghost use Rattle.tasks.specs.Set.{mostTasks};
 ghost use Rattle.members.specs.Server.{Filed};
-ghost use Rattle.servers.specs.Placement.{takes, firstFit, join, placementOf, placed};
-ghost use Rattle.servers.specs.Totals.{totalIn, Totals};
-
-// What task i, alone, asks of the horizon.
-fn share(header: Header, figures: &[u64], i: usize, horizon: u64) -> u64
-    requires { ⌜ Filed header (now figures) (i + 1) horizon ⌝ }
-    ensures { λ r. ⌜ r ≡ totalIn header horizon (loadAt (now (figures .entry)) i ∷ []) ⌝ }
-{
-    let at = 3 * i;
-    let cost = demand::charging::charged_cost(
-        figures[at],
-        header.relo as u64,
-        header.ctswo as u64,
-        header.cpmdo as u64,
-    );
-    cost * (horizon / figures[at + 2])
-}
-
-// Server q passes with task i added: its members and the task behind them, charged, by their own horizon. A whole processor has no
-// entry loss.
-pub fn takes_task(
-    header: Header,
-    figures: &[u64],
-    placement: &[u64],
-    i: usize,
-    q: u64,
-    horizon: u64,
-) -> bool
-    requires { ⌜ Filed header (now figures) (i + 1) horizon ⌝ }
-    requires { ⌜ i ≤ length (now placement) ⌝ }
-    ensures { λ r. ⌜ r ≡ takes header (loadsOf (now (figures .entry)) i) (take i (now (placement .entry))) (loadAt (now (figures .entry)) i) q ⌝ }
-{
-    let mut places = [0u8; TaskSet::MOST_TASKS];
-    let before = places_of(placement, i, q, &mut places);
-    places[before] = i as u8;
-    let n = before + 1;
-    let mut loads = [0u64; 3 * TaskSet::MOST_TASKS];
-    charge(header, header.cpmdo as u64, figures, &places, n, &mut loads);
-    let slot = header.slot as u64;
-    let Multiple::Within(own) = horizon_of(&loads, n, slot, horizon) else {
-        return false;
-    };
-    verdict::judge::passes(&loads, n, slot, 0, slot, own)
-}
+ghost use Rattle.taking.specs.Takes.{takes};
+ghost use Rattle.servers.specs.Placement.{firstFit, join, placementOf, placed};
+ghost use Rattle.servers.specs.Totals.{Totals};
 
 // One step of placing: the lowest-numbered server above lo that takes task i, otherwise a new one. A server whose total leaves no room
 // for the task's share cannot take it, and its members are not looked at.

@@ -13,12 +13,12 @@ use Rattle.verdict.proofs.Claims.{reserve-means}
 use Rattle.tasks.specs.declared.set.Header.{Header}
 use Rattle.places.specs.Places.{chosen}
 use Rattle.places.proofs.PaddedLaws.{up-length, up-at}
-use Rattle.members.specs.Charge.{serverLoss, Member}
+use Rattle.loads.specs.Charge.{serverLoss, Member}
 use Rattle.members.specs.Server.{serverDemand, serverHorizon, reserveFor}
 use Rattle.members.proofs.ServerLaws.{server-lawful}
 use Rattle.servers.specs.Placement.{serversIn}
 use Rattle.servers.specs.Fitting.{PassesWhole, Fitting}
-use Rattle.servers.proofs.FittingLaws.{every-chosen}
+use Rattle.members.proofs.FiledLaws.{every-chosen}
 use Rattle.sizing.specs.Reserve.{reserveIn, reservesOf}
 use Rattle.sizing.specs.Claims.{SmallestReserves}
 

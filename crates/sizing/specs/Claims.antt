@@ -8,7 +8,7 @@ use Rattle.demand.specs.Load.{Load, Every}
 use Rattle.verdict.specs.Reserve.{Smallest}
 use Rattle.tasks.specs.declared.set.Header.{Header}
 use Rattle.places.specs.Places.{chosen}
-use Rattle.members.specs.Charge.{serverLoss, Member}
+use Rattle.loads.specs.Charge.{serverLoss, Member}
 use Rattle.members.specs.Server.{serverDemand}
 use Rattle.servers.specs.Placement.{serversIn}
 use Rattle.servers.specs.Fitting.{Fitting}

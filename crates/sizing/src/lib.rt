@@ -1,6 +1,6 @@
 // Sizing: the smallest reserve of each server of a placement; and placing and sizing in one. What they mean stands in specs/Reserve.antt.
 // The tasks' own figures stand in one slice, three for each, and the server of each task in another, of which the first n count.
-use members::charge;
+use loads::charge;
 use members::horizon_of;
 use members::loss;
 use places::places_of;

@@ -17,12 +17,12 @@ use Rattle.turn.specs.Count.{longestSwitches}
 use Rattle.turn_claims.proofs.Claims.{no-switches, switches-fit}
 use Rattle.plan.specs.declared.plan.Plan.{Plan}
 use Rattle.plan.specs.Plan.{reservesIn}
-use Rattle.plancheck.specs.Agrees.{makes}
+use Rattle.plancheck.specs.Makes.{makes}
 use Rattle.plancheck.proofs.Checked.{reserves-same}
 use Rattle.whoruns.specs.declared.WhoAnswer.{WhoAnswer}
-use Rattle.plantext.specs.Fit.{fitted, writeOf}
-use Rattle.plantext.proofs.FitLaws.{fitted-bytes}
-use Rattle.planfile.specs.File.{unless, filedOf}
+use Rattle.planfit.specs.Fit.{fitted, writeOf}
+use Rattle.planfit.proofs.FitLaws.{fitted-bytes}
+use Rattle.taskplan.specs.File.{unless, filedOf}
 use Rattle.refusals.specs.Refused.{numberOf}
 use Rattle.tasks_claims.proofs.Claims.{read-refuses}
 use Rattle.plan_claims.specs.Claims.{PlannerRow, ASK, BOARD, RANGE, SLOT, TIGHT, HORIZON, FULL, refusalOf}

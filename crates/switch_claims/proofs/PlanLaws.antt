@@ -18,11 +18,13 @@ use Rattle.turn_claims.specs.List.{named}
 use Rattle.turn_claims.proofs.Claims.{switches-replay}
 use Rattle.plan.specs.declared.plan.Plan.{Plan}
 use Rattle.plan.specs.declared.server.Server.{Server}
-use Rattle.plan.specs.Plan.{reservesIn, setPlacement}
-use Rattle.plancheck.specs.Agrees.{makes}
+use Rattle.plan.specs.Plan.{reservesIn}
+use Rattle.layout.specs.Made.{setPlacement}
+use Rattle.plancheck.specs.Makes.{makes}
 use Rattle.planfile.proofs.AcceptLaws.{makes-counted}
 use Rattle.whoruns.specs.declared.WhoAnswer.{WhoAnswer}
-use Rattle.whoruns.specs.WhoRuns.{isProcessor, whoRuns}
+use Rattle.planprocessor.specs.Standing.{isProcessor}
+use Rattle.whoruns.specs.WhoRuns.{whoRuns}
 use Rattle.whoruns.proofs.WhoLaws.{who-there}
 use Rattle.whoruns.proofs.StandingLaws.{who-same}
 use Rattle.rotas.proofs.Claims.{standing-slotted}

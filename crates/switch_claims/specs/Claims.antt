@@ -14,9 +14,10 @@ use Rattle.turn.specs.Count.{longestSwitches}
 use Rattle.turn_claims.specs.List.{named}
 use Rattle.plan.specs.declared.plan.Plan.{Plan}
 use Rattle.plan.specs.Plan.{reservesIn}
-use Rattle.plancheck.specs.Agrees.{SamePlan, makes}
+use Rattle.planagree.specs.Agrees.{SamePlan}
+use Rattle.plancheck.specs.Makes.{makes}
 use Rattle.whoruns.specs.WhoRuns.{whoRuns}
-use Rattle.planfile.specs.OfFile.{whoIn}
+use Rattle.askfile.specs.OfFile.{whoIn}
 use Rattle.planfile_claims.specs.Claims.{RowsExactly}
 use Rattle.filed_claims.specs.Claims.{FileAccepted, planIn}
 use Rattle.switchlist.specs.Write.{planSwitches, writeSwitches}

@@ -8,10 +8,10 @@ use Rattle.refusals.specs.declared.Outcome.the-variants.{Done, Refused as Refus
 use Rattle.refusals.specs.declared.Written.{Written}
 use Rattle.refusals.specs.declared.Written.the-variants.{Refused}
 use Rattle.refusals.specs.Leaves.{leaves}
-use Rattle.plantext.specs.Fit.{fitted, Fits}
-use Rattle.planfile.specs.declared.file.FileAnswer.{FileAnswer}
-use Rattle.planfile.specs.File.{filedOf}
-use Rattle.planfile.proofs.FileLaws.{when-done, when-refused}
+use Rattle.planfit.specs.Fit.{fitted, Fits}
+use Rattle.taskplan.specs.declared.FileAnswer.{FileAnswer}
+use Rattle.taskplan.specs.File.{filedOf}
+use Rattle.taskplan.proofs.FileLaws.{when-done, when-refused}
 use Rattle.switchlist.specs.Write.{planSwitches}
 use Rattle.switchfile.specs.OfFile.{listed}
 

@@ -4,10 +4,10 @@ use Prim.Native.Nat.{ℕ}
 use mathlib.Core.List.{List}
 use Rattle.refusals.specs.declared.Written.{Written}
 use Rattle.refusals.specs.declared.Written.the-variants.{Refused}
-use Rattle.plantext.specs.Text.{refusalText}
-use Rattle.plantext.specs.Fit.{fitted}
-use Rattle.planfile.specs.declared.file.FileAnswer.{FileAnswer}
-use Rattle.planfile.specs.File.{unless, filedOf}
+use Rattle.planlines.specs.Line.{refusalText}
+use Rattle.planfit.specs.Fit.{fitted}
+use Rattle.taskplan.specs.declared.FileAnswer.{FileAnswer}
+use Rattle.taskplan.specs.File.{unless, filedOf}
 use Rattle.switchlist.specs.Write.{planSwitches}
 
 -- what the program `switches` prints: the list, or one 1F line

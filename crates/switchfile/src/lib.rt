@@ -1,13 +1,13 @@
 // The switch list of a task file, into a lent buffer. What is answered stands in specs/OfFile.antt.
-use planfile::file::filed;
-use plantext::fit::fit_refusal;
+use planfit::fit_refusal;
 use refusals::Outcome;
 use refusals::Written;
 use switchlist::fit_switches;
+use taskplan::filed;
 ghost use mathlib.Core.Path.{_≡_};
 ghost use Rattle.refusals.specs.Leaves.{leaves};
-ghost use Rattle.plantext.specs.Fit.{Fits};
-ghost use Rattle.planfile.specs.File.{filedOf};
+ghost use Rattle.planfit.specs.Fit.{Fits};
+ghost use Rattle.taskplan.specs.File.{filedOf};
 ghost use Rattle.switchlist.specs.Write.{planSwitches};
 ghost use Rattle.switchfile.specs.OfFile.{switched, listed};
 

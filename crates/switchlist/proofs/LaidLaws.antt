@@ -23,10 +23,13 @@ use Rattle.turn.proofs.CountLaws.{turn-count, count-most}
 use Rattle.ring_claims.specs.Slotted.{Slotted}
 use Rattle.plan.specs.declared.plan.Plan.{Plan}
 use Rattle.plan.specs.declared.server.Server.{Server}
-use Rattle.plan.specs.Plan.{reservesIn, setReserves, setPlacement, reservesWith, laidOut, planWith, planMade}
-use Rattle.plan.proofs.LaidLaws.{take-map}
-use Rattle.plancheck.specs.Agrees.{makes, SamePlan}
-use Rattle.plancheck.proofs.AgreeLaws.{agree-same}
+use Rattle.plan.specs.Plan.{reservesIn}
+use Rattle.layout.specs.Made.{setReserves, setPlacement, reservesWith, planWith, planMade}
+use Rattle.layout.specs.Layout.{laidOut}
+use Rattle.plan.proofs.RecordLaws.{take-map}
+use Rattle.plancheck.specs.Makes.{makes}
+use Rattle.planagree.specs.Agrees.{SamePlan}
+use Rattle.planagree.proofs.AgreeLaws.{agree-same}
 use Rattle.plancheck.proofs.Checked.{OfSet, of-set, laid-in, makes-agrees}
 use Rattle.planfile.proofs.AcceptLaws.{makes-counted}
 use Rattle.switchlist.specs.Write.{planSwitches}

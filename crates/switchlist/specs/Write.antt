@@ -7,8 +7,8 @@ use Rattle.tasks.specs.declared.set.TaskSet.{TaskSet}
 use Rattle.turn.specs.Switches.{switchText}
 use Rattle.plan.specs.declared.plan.Plan.{Plan}
 use Rattle.plan.specs.Plan.{reservesIn}
-use Rattle.plancheck.specs.Agrees.{makes}
-use Rattle.plantext.specs.Fit.{writeOf}
+use Rattle.plancheck.specs.Makes.{makes}
+use Rattle.planfit.specs.Fit.{writeOf}
 
 -- the text of a plan's switches
 abbrev pub planSwitches : Plan → List ℕ

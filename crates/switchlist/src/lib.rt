@@ -16,8 +16,8 @@ use walk::put_turn;
 ghost use mathlib.Core.Path.{_≡_};
 ghost use mathlib.Core.Bool.{true};
 ghost use Rattle.refusals.specs.Leaves.{leaves};
-ghost use Rattle.plancheck.specs.Agrees.{makes};
-ghost use Rattle.plantext.specs.Fit.{Fits};
+ghost use Rattle.plancheck.specs.Makes.{makes};
+ghost use Rattle.planfit.specs.Fit.{Fits};
 ghost use Rattle.turn.specs.Count.{longestSwitches};
 ghost use Rattle.switchlist.specs.Write.{planSwitches, writeSwitches};
 

@@ -21,13 +21,13 @@ use Rattle.tasks.specs.declared.set.Header.{Header}
 use Rattle.tasks.specs.declared.set.Task.{Task}
 use Rattle.tasks.specs.declared.set.TaskSet.{TaskSet}
 use Rattle.headerline.specs.declared.HeaderLine.{HeaderLine}
-use Rattle.taskline.specs.declared.TaskLine.{TaskLine}
+use Rattle.listedline.specs.declared.TaskLine.{TaskLine}
 use Rattle.tasks.specs.Set.{mostTasks, setOf, zeroSet, withTask}
 use Rattle.taskrows.specs.Rows.{figuresOutcome}
 use Rattle.taskfile.specs.File.{past, empty, lineRow, orderRow, countLineRow, lineOutcome, headerAt, taskAt, tasksAmong, fileTasks}
 use Rattle.taskfile.specs.Taken.{Taken, idsOf}
 use Rattle.headerline.specs.Answer.{headerOr, ofHeader}
-use Rattle.taskline.specs.Answer.{taskOr, ofTask}
+use Rattle.listedline.specs.Answer.{taskOr, ofTask}
 use Rattle.taskread.specs.Read.{readOf, readOutcome, fileSet, answer}
 use Rattle.refusals.proofs.FirstLaws.{stays, till-suc}
 use Rattle.tasks.proofs.SetLaws.{set-more}
@@ -35,7 +35,7 @@ use Rattle.taskfile.proofs.Past.{past-formed}
 use Rattle.taskfile.proofs.AmongLaws.{among-none, among-task, among-other, among-all}
 use Rattle.taskfile.proofs.Lines.{header-no-task, refused-within, clear-header, clear-task, clear-room, clear-past}
 use Rattle.headerline.proofs.Answers.{of-header, header-given, header-refused}
-use Rattle.taskline.proofs.Answers.{of-task, task-given, task-refused}
+use Rattle.listedline.proofs.Answers.{of-task, task-given, task-refused}
 use Rattle.taskfile.proofs.Standing.{byte-there}
 
 -- ---- the answer of a text

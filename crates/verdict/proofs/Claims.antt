@@ -7,22 +7,13 @@ use mathlib.Core.Path.{_≡_, sym, _∙_}
 use mathlib.Core.Logic.{⊎-elim}
 use mathlib.Core.Bool.{false≢true}
 use Rattle.demand.specs.Supply.{Ring}
-use Rattle.verdict.specs.Search.{firstUpTo}
+use Rattle.search.specs.Search.{firstUpTo}
 use Rattle.verdict.specs.Reserve.{enough}
-use Rattle.verdict.specs.Claims.{LastMeans, FirstMeans, FirstAfterMeans, AnyHorizon, OwnHorizon, PassingMeans, VerdictMeans, PassingStays, ReserveMeans, ReserveOne, OneLess}
-use Rattle.verdict.proofs.Bounded.{last-none, last-zero, last-found, last-is, first-none, first-zero, first-found, first-is, first-view, after-none, after-zero, after-found, after-is}
+use Rattle.verdict.specs.Claims.{AnyHorizon, OwnHorizon, PassingMeans, VerdictMeans, PassingStays, ReserveMeans, ReserveOne, OneLess}
+use Rattle.search.proofs.Bounded.{first-view}
 use Rattle.verdict.proofs.Verdict.{same-first, passes-zero, passing-passes, passes-passing, passing-rises, verdict-yes, no-fails, fails-no, is-yes}
 use Rattle.verdict.proofs.Horizons.{own-lawful}
 use Rattle.verdict.proofs.ReserveLaws.{reserve-whole, reserve-part, whole-smallest, part-smallest}
-
-pub last-means : LastMeans
-last-means p n = ((λ t h. ((λ e. last-found p n t e h), last-is p n t)), (last-zero p n, last-none p n))
-
-pub first-means : FirstMeans
-first-means p n = ((λ t h. ((λ e. first-found p n t e h), (λ f. first-is p n t (f .0) (f .1)))), (first-zero p n, first-none p n))
-
-pub first-after-means : FirstAfterMeans
-first-after-means p lo n = ((λ t h. ((λ e. after-found p lo n t e h), (λ f. after-is p lo n t (f .0) (f .1)))), (after-zero p lo n, after-none p lo n))
 
 pub passing-means : PassingMeans
 passing-means g H S L R lawful slot =

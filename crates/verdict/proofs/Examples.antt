@@ -7,7 +7,7 @@ use Rattle.wholes.specs.Multiple.{leastMultiple, leastMultipleOf}
 use Rattle.demand.specs.Load.{Load}
 use Rattle.demand.specs.Demand.{jobs, demand}
 use Rattle.demand.specs.Supply.{supplyPast, supply}
-use Rattle.verdict.specs.Search.{firstUpTo}
+use Rattle.search.specs.Search.{firstUpTo}
 use Rattle.verdict.specs.Verdict.{failing, ownHorizon, firstFailing, verdictAt, verdictOf, passing}
 use Rattle.verdict.specs.Reserve.{enough, smallestReserve}
 use Rattle.verdict.specs.declared.answer.Verdict.the-variants.{Yes, No}

@@ -9,10 +9,10 @@ use lib.Dec.{eqb}
 use borrow.Author.Tests.{eq-eqb, ne-eqb}
 use Rattle.demand.specs.Supply.{Ring, Allowed, gap, supplyPast, supply}
 use Rattle.demand.proofs.Supply.{supply-gap, gap-below}
-use Rattle.verdict.specs.Search.{short, lastUpTo, firstUpTo, firstAfter, Last, Searched}
+use Rattle.search.specs.Search.{short, lastUpTo, firstUpTo, firstAfter, Last, Searched}
 use Rattle.verdict.specs.Verdict.{failing, firstFailing, passing, verdictOf, Testable}
 use Rattle.verdict.specs.declared.answer.Verdict.the-variants.{Yes, No}
-use Rattle.verdict.proofs.Bounded.{last-zero, last-found, none-has, after-all}
+use Rattle.search.proofs.Bounded.{last-zero, last-found, none-has, after-all}
 use Rattle.verdict.proofs.Verdict.{zero-none, none-zero, passing-yes, passing-no, verdict-yes, verdict-no}
 
 -- with no extra, a length is short past the reserve's gap exactly when it fails

@@ -1,7 +1,3 @@
-pub mod Bounded
-pub mod Reach
-pub mod Descent
-pub mod Halving
 pub mod Verdict
 pub mod ReserveLaws
 pub mod Horizons

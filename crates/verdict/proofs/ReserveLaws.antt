@@ -12,10 +12,10 @@ use Rattle.laws.proofs.Tests.{and-parts}
 use Rattle.demand.specs.Lawful.{Lawful}
 use Rattle.demand.specs.Supply.{Ring}
 use Rattle.demand.specs.Passes.{Passes}
-use Rattle.verdict.specs.Search.{NoneIn, First}
+use Rattle.search.specs.Search.{NoneIn, First}
 use Rattle.verdict.specs.Verdict.{passing}
 use Rattle.verdict.specs.Reserve.{enough, smallestReserve, Smallest}
-use Rattle.verdict.proofs.Bounded.{none-has, first-none, first-is}
+use Rattle.search.proofs.Bounded.{none-has, first-none, first-is}
 use Rattle.verdict.proofs.Verdict.{passing-passes, passes-passing}
 
 -- enough, from its two parts and to them

@@ -6,10 +6,10 @@ use mathlib.Core.Path.{_≡_, refl, sym, _∙_}
 use mathlib.Core.Logic.{_⊎_, inl, inr, ⊎-elim}
 use mathlib.Core.Bool.{Bool, true, false, false≢true}
 use Rattle.demand.specs.Supply.{Allowed}
-use Rattle.verdict.specs.Search.{NoneIn}
+use Rattle.search.specs.Search.{NoneIn}
 use Rattle.verdict.specs.Verdict.{passing}
 use Rattle.verdict.specs.Reserve.{enough, smallestReserve}
-use Rattle.verdict.proofs.Bounded.{none-less, none-join}
+use Rattle.search.proofs.Bounded.{none-less, none-join}
 use Rattle.verdict.proofs.ReserveLaws.{is-enough, enough-parts, loss-not-enough, fails-not-enough, reserve-whole, reserve-part}
 use Rattle.verdict.proofs.Verdict.{passing-rises}
 

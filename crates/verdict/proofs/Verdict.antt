@@ -11,13 +11,13 @@ use Rattle.demand.specs.Supply.{Allowed, supply}
 use Rattle.demand.specs.Passes.{Passes}
 use Rattle.demand.proofs.Claims.{demand-decides}
 use Rattle.demand.proofs.Reserve.{supply-rises}
-use Rattle.verdict.specs.Search.{NoneIn, First}
+use Rattle.search.specs.Search.{NoneIn, First}
 use Rattle.verdict.specs.Verdict.{failing, firstFailing, verdictAt, verdictOf, isYes, passing}
 use Rattle.verdict.specs.Claims.{FailsFirst}
 use Rattle.verdict.specs.declared.answer.Reading.{Reading}
 use Rattle.verdict.specs.declared.answer.Verdict.{Verdict}
 use Rattle.verdict.specs.declared.answer.Verdict.the-variants.{Yes, No}
-use Rattle.verdict.proofs.Bounded.{first-none, first-zero, first-found, first-view, first-same}
+use Rattle.search.proofs.Bounded.{first-none, first-zero, first-found, first-view, first-same}
 
 -- a length fails, or it does not
 pub fails : (g : ℕ → ℕ) (S L R t : ℕ) → supply S L R t < g t → failing g S L R t ≡ true

@@ -2,35 +2,16 @@
 use Prim.Native.Nat.{ℕ, _-_, _≤_, _<_}
 use mathlib.Core.Path.{_≡_}
 use mathlib.Core.Logic.{_↔_}
-use mathlib.Core.Bool.{Bool, true, false}
+use mathlib.Core.Bool.{true, false}
 use mathlib.Core.List.{List}
 use Rattle.demand.specs.Load.{Load, Sound, Every}
 use Rattle.demand.specs.Lawful.{Lawful}
 use Rattle.demand.specs.Demand.{demand}
 use Rattle.demand.specs.Supply.{Allowed, supply}
 use Rattle.demand.specs.Passes.{Passes}
-use Rattle.verdict.specs.Search.{lastUpTo, firstUpTo, firstAfter, NoneIn, Last, First, Next}
 use Rattle.verdict.specs.Verdict.{firstFailing, verdictOf, passing, ownHorizon}
 use Rattle.verdict.specs.Reserve.{smallestReserve, Smallest}
 use Rattle.verdict.specs.declared.answer.Verdict.the-variants.{Yes, No}
-
--- lastUpTo answers t exactly when t is the largest in 1..n, and 0 exactly when there is none
-abbrev pub LastMeans : Type 0
-LastMeans =
-    (p : ℕ → Bool) (n : ℕ)
-    → ((t : ℕ) → 1 ≤ t → (lastUpTo p n ≡ t) ↔ Last p n t) × ((lastUpTo p n ≡ 0) ↔ NoneIn p 0 n)
-
--- firstUpTo answers t exactly when t is the smallest of all and within n, and 0 exactly when there is none in 1..n
-abbrev pub FirstMeans : Type 0
-FirstMeans =
-    (p : ℕ → Bool) (n : ℕ)
-    → ((t : ℕ) → 1 ≤ t → (firstUpTo p n ≡ t) ↔ ((t ≤ n) × First p t)) × ((firstUpTo p n ≡ 0) ↔ NoneIn p 0 n)
-
--- firstAfter answers t exactly when t is the smallest above lo and within n, and 0 exactly when there is none
-abbrev pub FirstAfterMeans : Type 0
-FirstAfterMeans =
-    (p : ℕ → Bool) (lo n : ℕ)
-    → ((t : ℕ) → 1 ≤ t → (firstAfter p lo n ≡ t) ↔ ((t ≤ n) × Next p lo t)) × ((firstAfter p lo n ≡ 0) ↔ NoneIn p lo n)
 
 -- a lawful demand is passing exactly when demand ≤ supply at every length, with no bound on the length
 abbrev pub PassingMeans : Type 0

@@ -1,4 +1,3 @@
-pub mod Search
 pub mod Verdict
 pub mod Reserve
 pub mod Claims

@@ -5,7 +5,7 @@ use mathlib.Core.Bool.{Bool, _&&_}
 use lib.Dec.{ltb}
 use Rattle.demand.specs.Supply.{Allowed}
 use Rattle.demand.specs.Passes.{Passes}
-use Rattle.verdict.specs.Search.{firstUpTo, orElse}
+use Rattle.search.specs.Search.{firstUpTo, orElse}
 use Rattle.verdict.specs.Verdict.{passing}
 
 -- R is past the entry loss, and the demand passes with it

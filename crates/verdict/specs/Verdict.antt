@@ -7,7 +7,7 @@ use lib.Dec.{ltb}
 use Rattle.wholes.specs.Multiple.{leastMultipleOf}
 use Rattle.demand.specs.Load.{Load}
 use Rattle.demand.specs.Supply.{supply}
-use Rattle.verdict.specs.Search.{firstUpTo}
+use Rattle.search.specs.Search.{firstUpTo}
 use Rattle.verdict.specs.declared.answer.Verdict.{Verdict}
 use Rattle.verdict.specs.declared.answer.Verdict.the-variants.{Yes, No}
 

@@ -2,8 +2,8 @@
 // What they mean stands in specs/Verdict.antt. Lengths up to the horizon are looked at.
 use crate::answer::Reading;
 use crate::answer::Verdict;
-use crate::search::first_short;
-use crate::search::last_short;
+use search::first_short;
+use search::last_short;
 ghost use mathlib.Core.Path.{_≡_};
 ghost use Rattle.demand.specs.Load.{Loaded, loadsOf};
 ghost use Rattle.demand.specs.Demand.{demand};

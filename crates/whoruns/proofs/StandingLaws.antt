@@ -1,28 +1,27 @@
 -- A plan that is checked may be asked, and answers as the set's own reserves do.
 -- Assumes nothing.
-use Prim.Native.Nat.{ℕ, _+_, _≤_}
+use Prim.Native.Nat.{ℕ, _+_}
 use mathlib.Core.Path.{_≡_, sym, ap, subst, _∙_}
 use mathlib.Core.Bool.{true}
 use mathlib.Core.List.{List, map}
 use native.Mathlib.Omega.{arith}
 use borrow.Author.Tests.{leb-true}
 use lib.Dec.{leb}
-use lib.ListN.{length, take}
+use lib.ListN.{length}
 use Rattle.laws.proofs.Tests.{and-left, and-right}
 use Rattle.reserves.specs.Slotted.{SlottedFirst}
-use Rattle.reserves.specs.Reserves.{processorsOf}
 use Rattle.ring.specs.declared.clock.Tick.{Tick}
 use Rattle.ring.specs.Who.{whoOf}
 use Rattle.tasks.specs.Set.{mostTasks}
 use Rattle.tasks.specs.declared.set.TaskSet.{TaskSet}
 use Rattle.plan.specs.declared.plan.Plan.{Plan}
 use Rattle.plan.specs.declared.server.Server.{Server}
-use Rattle.plan.specs.Plan.{reservesIn, setReserves}
+use Rattle.plan.specs.Plan.{reservesIn}
+use Rattle.layout.specs.Made.{setReserves}
 use Rattle.planner.specs.Planner.{needed}
-use Rattle.plan.proofs.LaidLaws.{take-map}
-use Rattle.plancheck.specs.Agrees.{makes}
+use Rattle.plancheck.specs.Makes.{makes}
 use Rattle.plancheck.proofs.Checked.{OfSet, of-set, laid-in}
-use Rattle.whoruns.specs.WhoRuns.{isProcessor, Standing}
+use Rattle.planprocessor.specs.Standing.{isProcessor, Standing}
 
 module _ (set : TaskSet) (full : length (set .tasks) ≡ mostTasks) (plan : Plan) (e : makes set plan ≡ true) where
   own : OfSet set plan
@@ -40,18 +39,3 @@ module _ (set : TaskSet) (full : length (set .tasks) ≡ mostTasks) (plan : Plan
   -- who runs by the plan's own reserves is who runs by the set's
   pub who-same : (p : ℕ) (x : Tick) → whoOf (plan .slot) (reservesIn plan) p x ≡ whoOf (set .header .slot) (setReserves set) p x
   who-same p x = ap (λ (S : ℕ). whoOf S (reservesIn plan) p x) (own .slot) ∙ ap (λ (rs : List ℕ). whoOf (set .header .slot) rs p x) (own .reserves)
-
--- the row of a plan's reserves, of which its servers count
-module _ (plan : Plan) {row : List ℕ} (e : row ≡ map (λ (s : Server). s .reserve) (plan .server)) where
-  row-front : take (plan .servers) row ≡ reservesIn plan
-  row-front = ap (take (plan .servers)) e ∙ take-map (λ (s : Server). s .reserve) (plan .servers) (plan .server)
-
-  -- it may be asked where the plan may
-  pub row-stands : {p : ℕ} → Standing plan p →
-      SlottedFirst (plan .slot) row (plan .servers) × (1 ≤ p) × (p ≤ processorsOf (plan .slot) (take (plan .servers) row))
-  row-stands s =
-      (subst (λ (r : List ℕ). SlottedFirst (plan .slot) r (plan .servers)) (sym e) (s .laid), s .from-one, rw row-front (s .there))
-
-  -- and answers as the plan does
-  pub row-who : (p : ℕ) (x : Tick) → whoOf (plan .slot) (take (plan .servers) row) p x ≡ whoOf (plan .slot) (reservesIn plan) p x
-  row-who p x = ap (λ (rs : List ℕ). whoOf (plan .slot) rs p x) row-front

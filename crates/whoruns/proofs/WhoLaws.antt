@@ -10,10 +10,10 @@ use Rattle.ring.specs.declared.cover.Stand.{Stand}
 use Rattle.ring.specs.Who.{whoOf}
 use Rattle.tasks.specs.declared.set.TaskSet.{TaskSet}
 use Rattle.plan.specs.declared.plan.Plan.{Plan}
-use Rattle.plan.specs.Plan.{setReserves}
-use Rattle.plancheck.specs.Agrees.{makes}
-use Rattle.whoruns.specs.declared.WhoAnswer.{WhoAnswer}
-use Rattle.whoruns.specs.WhoRuns.{refusedWho, whoRuns, isProcessor}
+use Rattle.layout.specs.Made.{setReserves}
+use Rattle.plancheck.specs.Makes.{makes}
+use Rattle.whoruns.specs.WhoRuns.{refusedWho, whoRuns}
+use Rattle.planprocessor.specs.Standing.{isProcessor}
 
 -- a plan that the planner makes of its set
 module _ (set : TaskSet) (plan : Plan) (m : makes set plan ≡ true) where

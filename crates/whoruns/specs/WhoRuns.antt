@@ -1,33 +1,19 @@
 -- The question who runs on a processor at a tick, about a set and its plan.
 -- Document 01, "From tasks to servers to ring" and row 11 of the refusals.
-use Prim.Native.Nat.{ℕ, _+_, _≤_}
-use mathlib.Core.Bool.{Bool, cond, _&&_}
-use mathlib.Core.List.{map}
-use lib.Dec.{leb}
+use Prim.Native.Nat.{ℕ}
+use mathlib.Core.Bool.{cond, _&&_}
 use Rattle.refusals.specs.declared.Refusal.{Refusal}
 use Rattle.refusals.specs.declared.Refusal.the-variants.{Ask}
 use Rattle.refusals.specs.declared.Outcome.the-variants.{Done, Refused}
 use Rattle.ring.specs.declared.clock.Tick.{Tick}
 use Rattle.ring.specs.declared.cover.Stand.{Stand}
-use Rattle.reserves.specs.Slotted.{SlottedFirst}
-use Rattle.reserves.specs.Reserves.{processorsOf}
 use Rattle.ring.specs.Who.{whoOf}
 use Rattle.tasks.specs.declared.set.TaskSet.{TaskSet}
 use Rattle.plan.specs.declared.plan.Plan.{Plan}
-use Rattle.plan.specs.declared.server.Server.{Server}
-use Rattle.plan.specs.Plan.{reservesIn, setReserves}
-use Rattle.plancheck.specs.Agrees.{makes}
+use Rattle.layout.specs.Made.{setReserves}
+use Rattle.plancheck.specs.Makes.{makes}
+use Rattle.planprocessor.specs.Standing.{isProcessor}
 use Rattle.whoruns.specs.declared.WhoAnswer.{WhoAnswer}
-
--- the processors that are there: 1 to r + whole
-unfoldable pub isProcessor : Plan → ℕ → Bool
-isProcessor plan p = leb 1 p && leb p (plan .ring + plan .whole)
-
--- what asking a plan that is checked already asks: its reserves are laid, and the processor is there
-pub record Standing (plan : Plan) (p : ℕ) : Type 0 where
-  pub laid : SlottedFirst (plan .slot) (map (λ (s : Server). s .reserve) (plan .server)) (plan .servers)
-  pub from-one : 1 ≤ p
-  pub there : p ≤ processorsOf (plan .slot) (reservesIn plan)
 
 -- a refused question has zeros
 abbrev pub refusedWho : Refusal → WhoAnswer

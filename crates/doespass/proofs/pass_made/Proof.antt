@@ -4,7 +4,7 @@ use borrow.Author.Needs.{needs}
 use borrow.Author.Tests.{not-true, not-false}
 use mathlib.Core.Path.{_≡_, sym, _∙_}
 use mathlib.Core.Bool.{true, false, not}
-use Rattle.doespass.specs.DoesPass.{isServer, allowedTo}
+use Rattle.planserver.specs.Named.{isServer, allowedTo}
 use Rattle.doespass.proofs.PassLaws.{pass-absent, pass-barred, pass-there}
 use Rattle.doespass.proofs.pass_made.Statement.{statement}
 use Rattle.doespass.proofs.pass_made.Tie as tie

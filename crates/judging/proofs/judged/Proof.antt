@@ -11,7 +11,7 @@ use Rattle.wholes.specs.declared.Multiple.{Multiple}
 use Rattle.wholes.specs.declared.Multiple.the-variants.{Within}
 use Rattle.demand.specs.Load.{loadsOf}
 use Rattle.verdict.specs.Verdict.{ownHorizon}
-use Rattle.members.specs.Charge.{membersAt, Overheads}
+use Rattle.loads.specs.Charge.{membersAt, Overheads}
 use Rattle.members.specs.Server.{serverHorizon}
 use Rattle.judging.proofs.ServedLaws.{small-cache, may-charge, own-loss, may-test, charged-loaded, charged-timed, horizon-found, horizon-not-past, same-verdict}
 use Rattle.judging.proofs.judged.Statement.{statement}

@@ -1,6 +1,6 @@
 -- `horizon_of` meets its contract. The loop's invariant: m is the horizon of the loads passed, and at most the limit.
 -- The measure is how many are left. Assumes nothing.
-use Prim.Native.Nat.{_+_, _*_, _-_, _≤_, _<_}
+use Prim.Native.Nat.{_-_, _≤_, _<_}
 use mathlib.Core.Path.{_≡_, refl, sym, _∙_}
 use borrow.Author.Needs.{needs}
 use native.Mathlib.Omega.{arith}

@@ -6,9 +6,8 @@ use lib.ListN.{length, length-map}
 use native.Mathlib.Omega.{arith}
 use Rattle.tasks.specs.Set.{mostTasks}
 use Rattle.refusals.specs.declared.Outcome.the-variants.{Done}
-use Rattle.plan.specs.declared.plan.Plan.{Plan}
 use Rattle.planner.specs.declared.PlanAnswer.{PlanAnswer}
-use Rattle.plan.specs.Plan.{planMade}
+use Rattle.layout.specs.Made.{planMade}
 use Rattle.planner.specs.Planner.{planOutcome}
 use Rattle.planner.proofs.Made.{count-most, plan-outcome, plan-is, outcome-clear}
 use Rattle.plancheck.proofs.Checked.{makes-refused, makes-by, made-room}

@@ -15,9 +15,9 @@ use Rattle.verdict.specs.Verdict.{ownHorizon}
 use Rattle.verdict.specs.Reserve.{smallestReserve}
 use Rattle.tasks.specs.declared.set.Header.{Header}
 use Rattle.places.specs.Places.{chosen}
-use Rattle.members.specs.Charge.{cacheOf, serverLoads, serverLoss, Overheads}
+use Rattle.loads.specs.Charge.{cacheOf, serverLoads, serverLoss, Overheads}
 use Rattle.members.specs.Server.{serverDemand, serverHorizon, reserveFor}
-use Rattle.servers.proofs.ChargedLaws.{Standing, standing-found, may-charge, own-testable, charged-loads, charged-loaded, charged-timed, horizon-found, horizon-not-past}
+use Rattle.taking.proofs.ChargedLaws.{Standing, standing-found, may-charge, own-testable, charged-loads, charged-loaded, charged-timed, horizon-found, horizon-not-past}
 use Rattle.sizing.proofs.reserve_of.Statement.{statement}
 use Rattle.sizing.proofs.reserve_of.Tie as tie
 

@@ -1,9 +1,9 @@
 -- A file's answer taken apart: the list of its plan, or its refusal's line.
 -- Assumes nothing.
-use Rattle.plantext.specs.Text.{refusalText}
-use Rattle.plantext.proofs.FitLaws.{fits-as}
-use Rattle.planfile.specs.declared.file.FileAnswer.{FileAnswer}
-use Rattle.planfile.proofs.FileLaws.{when-done, when-refused, filed-makes}
+use Rattle.planlines.specs.Line.{refusalText}
+use Rattle.planfit.proofs.FitLaws.{fits-as}
+use Rattle.taskplan.specs.declared.FileAnswer.{FileAnswer}
+use Rattle.taskplan.proofs.FileLaws.{when-done, when-refused, filed-makes}
 use Rattle.switchlist.specs.Write.{planSwitches}
 use Rattle.switchfile.specs.OfFile.{switched}
 use borrow.Author.Needs.{needs}

@@ -1,6 +1,6 @@
 -- A file's list as it fits, or its refusal handed on.
 -- Assumes nothing.
-use Rattle.planfile.proofs.FileLaws.{filed-makes}
+use Rattle.taskplan.proofs.FileLaws.{filed-makes}
 use Rattle.switchfile.proofs.ListLaws.{list-fits, list-refused}
 use borrow.Author.Needs.{needs}
 use Rattle.switchfile.proofs.list.Statement.{statement}

@@ -11,7 +11,7 @@ use Rattle.tasks.specs.Set.{mostTasks}
 use Rattle.turn.specs.Stretch.{Laid}
 use Rattle.turn.specs.Switches.{switchText}
 use Rattle.plan.specs.Plan.{reservesIn}
-use Rattle.plantext.proofs.FitLaws.{no-room, stored-whole}
+use Rattle.planfit.proofs.FitLaws.{no-room, stored-whole}
 use Rattle.planfile.proofs.AcceptLaws.{makes-counted}
 use Rattle.switchlist.specs.Write.{planSwitches}
 use Rattle.switchlist.proofs.LaidLaws.{turnOf, row-front, plan-laid, count-few, list-bytes}

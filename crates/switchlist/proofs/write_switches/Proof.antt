@@ -3,7 +3,7 @@
 use mathlib.Core.Path.{sym, _∙_}
 use borrow.Author.Tests.{not-true, not-false}
 use borrow.Author.Needs.{needs}
-use Rattle.plantext.proofs.FitLaws.{write-fits, write-asks}
+use Rattle.planfit.proofs.FitLaws.{write-fits, write-asks}
 use Rattle.switchlist.specs.Write.{planSwitches}
 use Rattle.switchlist.proofs.write_switches.Statement.{statement}
 use Rattle.switchlist.proofs.write_switches.Tie as tie

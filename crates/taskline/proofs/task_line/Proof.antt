@@ -9,9 +9,9 @@ use Rattle.frameread.specs.Line.{formed, kindAt}
 use Rattle.frames.specs.declared.table.Frame.{Frame}
 use Rattle.frameread.specs.declared.Found.{Found}
 use Rattle.refusals.specs.declared.Outcome.{Outcome}
-use Rattle.taskline.specs.declared.TaskLine.{TaskLine}
+use Rattle.listedline.specs.declared.TaskLine.{TaskLine}
 use Rattle.taskfile.specs.File.{taskAt}
-use Rattle.taskline.specs.Answer.{taskOr}
+use Rattle.listedline.specs.Answer.{taskOr}
 use Rattle.frameread.proofs.KindLaws.{kind-formed, kind-none}
 use Rattle.taskfile.proofs.Lines.{admits-none}
 use Rattle.taskfile.proofs.Standing.{other-frame, said-line, said-order}

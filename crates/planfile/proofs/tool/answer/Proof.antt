@@ -1,11 +1,12 @@
 -- A file's answer taken apart: the text of its plan, or its refusal's line.
 -- Assumes nothing.
-use Rattle.plantext.specs.Text.{planText, refusalText}
-use Rattle.plantext.proofs.FitLaws.{fits-as}
-use Rattle.planfile.specs.declared.file.FileAnswer.{FileAnswer}
+use Rattle.plantext.specs.Text.{planText}
+use Rattle.planlines.specs.Line.{refusalText}
+use Rattle.planfit.proofs.FitLaws.{fits-as}
+use Rattle.taskplan.specs.declared.FileAnswer.{FileAnswer}
 use Rattle.planfile.specs.Tool.{answered}
 use Rattle.planfile.proofs.AcceptLaws.{makes-counted}
-use Rattle.planfile.proofs.FileLaws.{when-done, when-refused, filed-makes}
+use Rattle.taskplan.proofs.FileLaws.{when-done, when-refused, filed-makes}
 use borrow.Author.Needs.{needs}
 use Rattle.planfile.proofs.tool.answer.Statement.{statement}
 use Rattle.planfile.proofs.tool.answer.Tie as tie

@@ -2,7 +2,7 @@
 -- Assumes nothing.
 use mathlib.Core.Path.{sym, _∙_}
 use Rattle.plantext.specs.Text.{planText}
-use Rattle.plantext.proofs.FitLaws.{write-fits, write-asks}
+use Rattle.planfit.proofs.FitLaws.{write-fits, write-asks}
 use Rattle.planfile.proofs.AcceptLaws.{makes-counted}
 use borrow.Author.Tests.{not-true, not-false}
 use borrow.Author.Needs.{needs}

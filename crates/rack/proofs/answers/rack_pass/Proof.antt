@@ -4,7 +4,7 @@ use mathlib.Core.Path.{_≡_, subst}
 use mathlib.Core.List.{List}
 use Rattle.refusals.specs.declared.Outcome.{Outcome}
 use Rattle.doespass.specs.declared.PassAnswer.{PassAnswer}
-use Rattle.planfile.specs.OfFile.{passIn}
+use Rattle.askfile.specs.OfFile.{passIn}
 use Rattle.told.specs.Told.{statusOf, leavesNumbers, verdictNumbers}
 use Rattle.rack.specs.Rack.{passNumbers, passTold}
 use Rattle.told.proofs.ToldLaws.{Told, told-by, told-refused}

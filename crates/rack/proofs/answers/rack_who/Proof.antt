@@ -4,7 +4,7 @@ use mathlib.Core.Path.{_≡_}
 use mathlib.Core.List.{List, [], _∷_}
 use Rattle.refusals.specs.declared.Outcome.{Outcome}
 use Rattle.whoruns.specs.declared.WhoAnswer.{WhoAnswer}
-use Rattle.planfile.specs.OfFile.{whoIn}
+use Rattle.askfile.specs.OfFile.{whoIn}
 use Rattle.told.specs.Told.{statusOf, leavesNumbers}
 use Rattle.rack.specs.Rack.{whoNumbers, whoTold}
 use Rattle.told.proofs.ToldLaws.{Told, told-by, told-refused}

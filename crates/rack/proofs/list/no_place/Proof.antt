@@ -5,8 +5,8 @@ use Rattle.refusals.specs.declared.Refusal.the-variants.{Room}
 use Rattle.refusals.specs.declared.Outcome.{Outcome}
 use Rattle.refusals.specs.declared.Outcome.the-variants.{Refused}
 use Rattle.refusals.specs.First.{firstOf}
-use Rattle.planfile.specs.declared.file.FileAnswer.{FileAnswer}
-use Rattle.planfile.specs.File.{filedOf}
+use Rattle.taskplan.specs.declared.FileAnswer.{FileAnswer}
+use Rattle.taskplan.specs.File.{filedOf}
 use Rattle.told.specs.Told.{statusOf}
 use Rattle.rack.proofs.list.no_place.Statement.{statement}
 use Rattle.rack.proofs.list.no_place.Tie as tie

@@ -11,7 +11,7 @@ use Rattle.tasks.specs.Search.{firstTask}
 use Rattle.taskrows.specs.Rows.{figuresOutcome}
 use Rattle.tasks.proofs.Firsts.{first-within}
 use Rattle.tasks.proofs.SetLaws.{members-length}
-use Rattle.rows.specs.Rows.{slotRow, tightRow}
+use Rattle.tightrows.specs.Rows.{slotRow, tightRow}
 use Rattle.rows.proofs.Clears.{chargeable, charged-figures, charged-slot, charged-tight, charged-past, charged-found}
 use Rattle.rows.proofs.rows.charged.Statement.{statement}
 use Rattle.rows.proofs.rows.charged.Tie as tie

@@ -10,8 +10,7 @@ use Rattle.wholes.specs.Multiple.{within}
 use Rattle.demand.specs.Load.{Load, loadsOf}
 use Rattle.verdict.specs.Verdict.{ownHorizon}
 use Rattle.tasks.specs.Set.{longestHorizon}
-use Rattle.members.specs.Charge.{Timed}
-use Rattle.rows.proofs.FigureLaws.{figures-back}
+use Rattle.setfigures.proofs.FigureLaws.{figures-back}
 use Rattle.rows.proofs.Clears.{set-timed, horizon-of-figures}
 use Rattle.rows.proofs.rows.horizon_within.Statement.{statement}
 use Rattle.rows.proofs.rows.horizon_within.Tie as tie

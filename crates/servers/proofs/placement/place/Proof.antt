@@ -3,7 +3,7 @@
 use Prim.Native.Nat.{ℕ, suc, _+_, _-_, _≤_, _<_, max}
 use mathlib.Core.Path.{_≡_, refl, sym, ap, subst, _∙_}
 use mathlib.Core.Logic.{⊎-elim}
-use mathlib.Core.List.{List, [], _∷_}
+use mathlib.Core.List.{List}
 use borrow.Author.Needs.{needs}
 use native.Mathlib.Omega.{arith}
 use lib.ListN.{set, take, getD}
@@ -13,7 +13,7 @@ use Rattle.tasks.specs.Set.{mostTasks}
 use Rattle.members.proofs.FiledLaws.{filed-first}
 use Rattle.places.specs.Places.{chosen}
 use Rattle.servers.specs.Placement.{fit, placementOf, placed}
-use Rattle.servers.specs.Totals.{totalIn}
+use Rattle.taking.specs.Totals.{totalIn}
 use Rattle.servers.proofs.TotalLaws.{joined-total}
 use Rattle.servers.proofs.SoFarLaws.{SoFar, so-far-none, so-far-room, so-far-few, so-far-totals, so-far-fit, so-far-takes, so-far-range, so-far-next, so-far-placed}
 use Rattle.servers.proofs.placement.place.Statement.{statement}

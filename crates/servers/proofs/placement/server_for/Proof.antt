@@ -1,26 +1,26 @@
 -- `server_for` meets its contract. The loop's invariant: no server above lo, up to q, takes the task.
 -- The measure is what is left of the servers. Assumes nothing.
-use Prim.Native.Nat.{ℕ, suc, _+_, _-_, _≤_, _<_, _∣_}
+use Prim.Native.Nat.{ℕ, suc, _+_, _-_, _≤_, _<_}
 use mathlib.Core.Path.{_≡_, refl, sym, ap, _∙_}
 use mathlib.Core.Logic.{⊎-elim}
-use mathlib.Core.Bool.{Bool, true, false}
+use mathlib.Core.Bool.{Bool, false}
 use mathlib.Core.List.{List, [], _∷_}
 use borrow.Author.Needs.{needs}
 use native.Mathlib.Numerals.{add-one}
 use native.Mathlib.Omega.{arith}
 use lib.ListN.{take, getD}
 use Rattle.laws.proofs.Orders.{le-or-lt}
-use Rattle.demand.specs.Load.{Load, Every, loadAt, loadsOf}
+use Rattle.demand.specs.Load.{loadAt, loadsOf}
 use Rattle.demand.proofs.Demand.{loads-next}
-use Rattle.verdict.specs.Search.{NoneIn, Next}
-use Rattle.verdict.proofs.Bounded.{none-less}
+use Rattle.search.specs.Search.{NoneIn}
+use Rattle.search.proofs.Bounded.{none-less}
 use Rattle.tasks.specs.declared.set.Header.{Header}
 use Rattle.tasks.specs.Set.{mostTasks}
 use Rattle.places.specs.Places.{chosen}
-use Rattle.members.specs.Charge.{Member}
 use Rattle.members.specs.Server.{Filed}
-use Rattle.servers.specs.Placement.{takes, firstFit, join}
-use Rattle.servers.specs.Totals.{totalIn, Totals}
+use Rattle.taking.specs.Takes.{takes}
+use Rattle.taking.specs.Totals.{totalIn}
+use Rattle.servers.specs.Totals.{Totals}
 use Rattle.servers.proofs.JoinLaws.{join-first, join-none}
 use Rattle.servers.proofs.TotalLaws.{no-room}
 use Rattle.servers.proofs.placement.server_for.Statement.{statement}

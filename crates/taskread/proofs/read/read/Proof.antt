@@ -14,11 +14,11 @@ use Rattle.frames.proofs.Tables.{length-most}
 use Rattle.refusals.specs.declared.Outcome.{Outcome}
 use Rattle.tasks.specs.declared.set.Task.{Task}
 use Rattle.tasks.specs.declared.set.TaskSet.{TaskSet}
-use Rattle.taskline.specs.declared.TaskLine.{TaskLine}
+use Rattle.listedline.specs.declared.TaskLine.{TaskLine}
 use Rattle.tasks.specs.Set.{mostTasks}
 use Rattle.taskfile.specs.File.{lineOutcome, taskAt}
 use Rattle.taskfile.specs.Taken.{Taken}
-use Rattle.taskline.specs.Answer.{taskOr}
+use Rattle.listedline.specs.Answer.{taskOr}
 use Rattle.taskread.specs.Read.{answer}
 use Rattle.taskread.proofs.Reading.{Held, held-few, first-refused, later-refused, held-header, held-task, task-room, ended-all, ended-none}
 use Rattle.taskread.proofs.read.read.Statement.{statement}

@@ -4,8 +4,8 @@ use native.Mathlib.Omega.{arith}
 use native.Mathlib.Nat.{le-of-lt}
 use Rattle.demand.specs.Load.{loadsOf}
 use Rattle.demand.specs.Demand.{demand}
-use Rattle.verdict.specs.Search.{short}
-use Rattle.verdict.proofs.Bounded.{after-within}
+use Rattle.search.specs.Search.{short}
+use Rattle.search.proofs.Bounded.{after-within}
 use Rattle.verdict.proofs.Judged.{gap-asked, gap-usable, searched, judged-yes, judged-no}
 use Rattle.verdict.proofs.judge.verdict.Statement.{statement}
 use Rattle.verdict.proofs.judge.verdict.Tie as tie

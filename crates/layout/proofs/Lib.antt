@@ -1,0 +1,4 @@
+pub mod RingStarts
+pub mod RecordLaws
+pub mod Layouts
+pub mod LaidLaws

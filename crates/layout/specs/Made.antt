@@ -1,0 +1,28 @@
+-- The plan that document 01 gives a set, with its placement and its reserves, and that of a set with any placement.
+-- Document 01, "From tasks to servers to ring".
+use Prim.Native.Nat.{ℕ}
+use mathlib.Core.List.{List}
+use Rattle.tasks.specs.declared.set.TaskSet.{TaskSet}
+use Rattle.servers.specs.Placement.{placementOf}
+use Rattle.sizing.specs.Reserve.{reservesOf}
+use Rattle.setfigures.specs.Figures.{setFigures}
+use Rattle.plan.specs.declared.plan.Plan.{Plan}
+use Rattle.layout.specs.Layout.{laidOut}
+
+-- the reserve that document 01 gives each server of a placement of a set's tasks
+unfoldable pub reservesWith : TaskSet → (placement : List ℕ) → List ℕ
+reservesWith set placement = reservesOf (set .header) (setFigures set) placement
+
+-- the plan of a set with any placement
+unfoldable pub planWith : TaskSet → (placement : List ℕ) → Plan
+planWith set placement = laidOut (set .header .slot) (set .header .cpmdo) placement (reservesWith set placement)
+
+-- the placement that document 01 gives a set, its reserves and its plan
+unfoldable pub setPlacement : TaskSet → List ℕ
+setPlacement set = placementOf (set .header) (setFigures set)
+
+unfoldable pub setReserves : TaskSet → List ℕ
+setReserves set = reservesWith set (setPlacement set)
+
+unfoldable pub planMade : TaskSet → Plan
+planMade set = planWith set (setPlacement set)

@@ -1,0 +1,140 @@
+// From placed and sized servers to the plan: the record of each server, and the first reserve of each processor.
+// What they mean stands in specs/Layout.antt. The reserves stand in a slice, of which the first n count.
+use places::places_of;
+use plan::plan::Plan;
+use plan::server::Server;
+use reserves::sums::ring_processors;
+use reserves::sums::ring_ticks;
+use reserves::sums::start;
+use reserves::sums::whole_count;
+use ring::clock::Position;
+use ring::cover::Stand;
+use sizing::Servers;
+use tasks::set::TaskSet;
+ghost use mathlib.Core.Path.{_≡_};
+ghost use Prim.Native.Nat.{_≤_};
+ghost use lib.ListN.{length, take};
+ghost use Rattle.tasks.specs.Set.{mostTasks};
+ghost use Rattle.places.specs.Padded.{padWith, upTo};
+ghost use Rattle.reserves.specs.Slotted.{SlottedFirst};
+ghost use Rattle.reserves.specs.Reserves.{processorsOf};
+ghost use Rattle.ring.specs.Who.{firstReserve};
+ghost use Rattle.layout.specs.Layout.{ringStart, serverOf, laidOut};
+ghost use Rattle.plan.specs.Plan.{zeroServer, zeroStand};
+ghost use Rattle.layout.specs.Layable.{Layable};
+
+// Where server q stands on the ring; 0 for a server that has a whole processor.
+fn start_of(reserves: &[u64], n: usize, slot: u64, q: usize) -> u64
+    requires { ⌜ SlottedFirst slot (now reserves) n × (1 ≤ q) × (q ≤ n) ⌝ }
+    ensures { λ r. ⌜ r ≡ ringStart slot (take n (now (reserves .entry))) q ⌝ }
+{
+    let before = q - 1;
+    if reserves[before] < slot {
+        start(reserves, n, slot, q as u64)
+    } else {
+        0
+    }
+}
+
+// The record of server q.
+fn server_of<'a>(
+    placement: &'a [u64],
+    tasks: usize,
+    reserves: &'a [u64],
+    n: usize,
+    slot: u64,
+    cache: u64,
+    q: usize,
+) -> Server
+    requires { ⌜ (tasks ≤ length (now placement)) × (tasks ≤ mostTasks) ⌝ }
+    requires { ⌜ SlottedFirst slot (now reserves) n × (1 ≤ q) × (q ≤ n) ⌝ }
+    ensures { λ r. ⌜ r ≡ serverOf slot cache (take tasks (now (placement .entry))) (take n (now (reserves .entry))) q ⌝ }
+{
+    let mut places = [0u8; TaskSet::MOST_TASKS];
+    let count = places_of(placement, tasks, q as u64, &mut places);
+    let before = q - 1;
+    let reserve = reserves[before];
+    let start = Position(start_of(reserves, n, slot, q));
+    Server {
+        count,
+        places,
+        reserve,
+        start,
+        cache,
+    }
+}
+
+// The records of all servers.
+fn records<'a>(
+    placement: &'a [u64],
+    tasks: usize,
+    reserves: &'a [u64],
+    n: usize,
+    slot: u64,
+    cache: u64,
+) -> [Server; TaskSet::MOST_TASKS]
+    requires { ⌜ (tasks ≤ length (now placement)) × (tasks ≤ mostTasks) ⌝ }
+    requires { ⌜ SlottedFirst slot (now reserves) n × (n ≤ mostTasks) ⌝ }
+    ensures { λ r. ⌜ r ≡ padWith zeroServer (upTo (serverOf slot cache (take tasks (now (placement .entry))) (take n (now (reserves .entry)))) n) ⌝ }
+{
+    let places = [0u8; TaskSet::MOST_TASKS];
+    let none = Server {
+        count: 0,
+        places,
+        reserve: 0,
+        start: Position(0),
+        cache: 0,
+    };
+    let mut server = [none; TaskSet::MOST_TASKS];
+    let mut i: usize = 0;
+    while i < n {
+        server[i] = server_of(placement, tasks, reserves, n, slot, cache, i + 1);
+        i += 1;
+    }
+    server
+}
+
+// The first server of each processor, and the ticks of that reserve.
+fn first_reserves(
+    reserves: &[u64],
+    n: usize,
+    slot: u64,
+    processors: usize,
+) -> [Stand; TaskSet::MOST_TASKS]
+    requires { ⌜ SlottedFirst slot (now reserves) n × (processors ≤ processorsOf slot (take n (now reserves))) × (processors ≤ mostTasks) ⌝ }
+    ensures { λ r. ⌜ r ≡ padWith zeroStand (upTo (firstReserve slot (take n (now (reserves .entry)))) processors) ⌝ }
+{
+    let none = Stand { server: 0, left: 0 };
+    let mut first = [none; TaskSet::MOST_TASKS];
+    let mut i: usize = 0;
+    while i < processors {
+        first[i] = ring::who::first(reserves, n, slot, i as u64 + 1);
+        i += 1;
+    }
+    first
+}
+
+// The plan of so many tasks, placed and sized.
+pub fn lay_out(served: Servers, tasks: usize, slot: u64, cache: u64) -> Plan
+    requires { ⌜ Layable served tasks slot ⌝ }
+    ensures { λ r. ⌜ r ≡ laidOut slot cache (take tasks (served .placement)) (take (served .count) (served .reserve)) ⌝ }
+{
+    let n = served.count as usize;
+    let reserve = served.reserve;
+    let placement = served.placement;
+    let whole = whole_count(&reserve, n, slot);
+    let ring = ring_processors(&reserve, n, slot);
+    let idle = ring * slot - ring_ticks(&reserve, n, slot);
+    let server = records(&placement, tasks, &reserve, n, slot, cache);
+    let first = first_reserves(&reserve, n, slot, (ring + whole) as usize);
+    Plan {
+        whole,
+        ring,
+        servers: served.count,
+        slot,
+        idle,
+        server,
+        placement,
+        first,
+    }
+}

@@ -1,0 +1,5 @@
+pub mod Bounded
+pub mod Reach
+pub mod Descent
+pub mod Halving
+pub mod Claims

@@ -1,0 +1,125 @@
+-- `last_short` meets its contract. The loop's invariant: `supply` is the supply at t, and no length above t is short.
+-- The measure is t. Assumes nothing.
+use Prim.Native.Nat.{ℕ, _+_, _-_, _^_, _<_}
+use native.Mathlib.Omega.{arith}
+use borrow.Author.Needs.{needs}
+use Rattle.demand.specs.Load.{loadsOf}
+use Rattle.demand.specs.Demand.{demand}
+use Rattle.demand.specs.Lawful.{Rising}
+use Rattle.demand.proofs.Demand.{demand-room}
+use Rattle.demand.proofs.Claims.{loads-lawful}
+use Rattle.search.proofs.Reach.{lastWith}
+use Rattle.search.proofs.Descent.{Descended, descent-starts, descent-finds, descent-ends, descent-clears, descent-next}
+use Rattle.search.proofs.last_short.Statement.{statement}
+use Rattle.search.proofs.last_short.Tie as tie
+
+abbrev Inv-loop : tie.InvT-loop
+Inv-loop loads n slot gap extra hi usable t₀ supply₀ t supply = Descended (demand (loadsOf loads n)) slot gap extra hi t supply
+
+abbrev μ-loop : tie.MeasureT-loop
+μ-loop loads n slot gap extra hi usable t₀ supply₀ t supply = t
+
+-- the demand of the loads, and why it never falls
+abbrev asked : tie.Start Inv-loop μ-loop → ℕ → ℕ
+asked s = demand (loadsOf (s .args .loads .now) (s .args .n))
+
+rising : (s : tie.Start Inv-loop μ-loop) → Rising (asked s)
+rising s = loads-lawful .rising (loadsOf (s .args .loads .now) (s .args .n)) (s .pre .0 .sound)
+
+sub-usable : tie.Need-sub-usable Inv-loop μ-loop
+sub-usable c = omega arith
+
+supply-at-requires : tie.Need-supply-at-requires Inv-loop μ-loop
+supply-at-requires c κs = omega arith
+
+loop-holds : tie.Need-loop-holds Inv-loop μ-loop
+loop-holds c = descent-starts (c .supply-at .ensures)
+
+add-w : tie.Need-add-w Inv-loop μ-loop
+add-w c =
+    let s = c .before .before .before .before .before in
+    let a = s .args in
+    let room = demand-room (a .loads .now) (a .n) (a .n) (c .before .before .loop .t) (s .pre .0) (omega arith) (omega arith) in
+    omega (arith, c .demand-at .ensures, room)
+
+returns : tie.Need-returns Inv-loop μ-loop
+returns c =
+    let l = c .before .before .before .loop in
+    descent-finds (l .inv) (c .before .before .loop-test .taken) (omega (arith, c .if1 .taken, c .before .demand-at .ensures))
+
+returns-2 : tie.Need-returns-2 Inv-loop μ-loop
+returns-2 c =
+    let s = c .before .before .before .before .before .before .before in
+    descent-clears (rising s) (c .before .before .before .before .loop .inv) (omega (arith, c .if2 .taken, c .before .before .demand-at .ensures))
+
+sub-supply : tie.Need-sub-supply Inv-loop μ-loop
+sub-supply c = omega arith
+
+-- the turn's jump
+next : (c : tie.Else2 Inv-loop μ-loop) →
+    let s = c .before .before .before .before .before .before .before in
+    let v = c .before .before .demand-at .result + s .args .extra - 1 in
+    Descended (asked s) (s .args .slot) (s .args .gap) (s .args .extra) (s .args .hi) (lastWith (s .args .slot) (s .args .gap) v) v
+    × (lastWith (s .args .slot) (s .args .gap) v < c .before .before .before .before .loop .t)
+next c =
+    let s = c .before .before .before .before .before .before .before in
+    let w = c .before .before .demand-at in
+    descent-next (rising s) (c .before .before .before .before .loop .inv) (w .result + s .args .extra) (s .pre .1 .usable) (omega (arith, w .ensures)) (c .if2 .left) (c .before .if1 .left)
+
+-- so the sums and products on the way fit
+room : (c : tie.Else2 Inv-loop μ-loop) →
+    let s = c .before .before .before .before .before .before .before in
+    lastWith (s .args .slot) (s .args .gap) (c .before .before .demand-at .result + s .args .extra - 1) < 2 ^ 36
+room c = omega (arith, next c .1, c .before .before .before .before .loop .inv .within, c .before .before .before .before .before .before .before .pre .1 .small)
+
+div-t : tie.Need-div-t Inv-loop μ-loop
+div-t c = omega arith
+
+mul-t : tie.Need-mul-t Inv-loop μ-loop
+unfolding lastWith
+mul-t c = omega (arith, room c)
+
+rem-t : tie.Need-rem-t Inv-loop μ-loop
+rem-t c = omega arith
+
+add-t : tie.Need-add-t Inv-loop μ-loop
+unfolding lastWith
+add-t c = omega (arith, room c)
+
+add-t-2 : tie.Need-add-t-2 Inv-loop μ-loop
+unfolding lastWith
+add-t-2 c = omega (arith, room c)
+
+loop-less : tie.Need-loop-less Inv-loop μ-loop
+unfolding lastWith
+loop-less c = next c .1
+
+loop-again : tie.Need-loop-again Inv-loop μ-loop
+unfolding lastWith
+loop-again c = next c .0
+
+returns-3 : tie.Need-returns-3 Inv-loop μ-loop
+returns-3 c = descent-ends (c .before .loop .inv) (omega arith)
+
+pub last-short-spec : {M : Type 1} → statement M
+last-short-spec =
+    tie.close
+    (tie.spec
+    Inv-loop
+    μ-loop
+    sub-usable
+    supply-at-requires
+    loop-holds
+    (λ c κs. search needs)
+    add-w
+    returns
+    returns-2
+    sub-supply
+    div-t
+    mul-t
+    rem-t
+    add-t
+    add-t-2
+    loop-less
+    loop-again
+    returns-3)

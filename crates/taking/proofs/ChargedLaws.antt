@@ -1,0 +1,235 @@
+-- A server's members at their places among a file's tasks, as the code finds them, and what is left of them charged: the server's
+-- loads, with its horizon, for which the test may be asked.
+use Prim.Native.Nat.{ℕ, zero, suc, _+_, _*_, _^_, _≤_, _<_}
+use native.Mathlib.Omega.{arith}
+use mathlib.Core.Path.{_≡_, refl, sym, ap, ap₂, subst, _∙_}
+use mathlib.Core.Bool.{Bool, true, false}
+use mathlib.Core.Logic.{_⊎_, inl, inr}
+use mathlib.Core.List.{List, [], _∷_, _++_, map, map-append}
+use lib.Dec.{eqb}
+use lib.ListN.{length, getD, take, set, length-append, List·getD-append}
+use lib.Seq.{take-suc, take-at, length-take-le, getD-append-seam}
+use Rattle.laws.proofs.Orders.{le-or-lt}
+use Rattle.laws.proofs.Tests.{clash, same-test}
+use Rattle.digits.specs.Stored.{stored}
+use Rattle.digits.proofs.Stored.{stored-byte, stored-length}
+use Rattle.wholes.specs.Multiple.{within}
+use Rattle.wholes.specs.declared.Multiple.{Multiple}
+use Rattle.wholes.specs.declared.Multiple.the-variants.{Within, Past}
+use Rattle.demand.specs.Load.{Load, Every, Loaded, loadAt, loadsOf}
+use Rattle.demand.specs.Lawful.{Lawful}
+use Rattle.demand.specs.Passes.{Passes}
+use Rattle.demand.proofs.Demand.{loads-length, every-snoc, every-front, every-last}
+use Rattle.demand.proofs.Supply.{supply-all}
+use Rattle.verdict.specs.Verdict.{ownHorizon, passing, Testable}
+use Rattle.verdict.proofs.Verdict.{passing-passes, passes-passing}
+use Rattle.tasks.specs.declared.set.Header.{Header}
+use Rattle.tasks.specs.Set.{mostTasks}
+use Rattle.places.specs.Places.{keep, placesFrom, placesIn, chosen}
+use Rattle.places.proofs.PlacesLaws.{in-more, places-more, places-few, places-below}
+use Rattle.loads.specs.Charge.{numbersOf, cacheOf, chargedIn, serverLoads, serverLoss, membersAt, Member, Overheads, Charging}
+use Rattle.members.specs.Server.{Timed, serverDemand, serverHorizon, fits, passesWith, Filed}
+use Rattle.members.proofs.ServerLaws.{server-lawful}
+use Rattle.members.proofs.FiledLaws.{Below, every-chosen, placed-members, placed-periods, placed-charging, placed-testable, left-loads, left-loaded, left-timed, left-horizon}
+
+-- ---- the places of a server's tasks
+
+-- what is kept or left out, of each place its load
+keep-load : (figures : List ℕ) (b : Bool) (i : ℕ) → map (loadAt figures) (keep b i []) ≡ keep b (loadAt figures i) []
+keep-load figures true i = refl
+keep-load figures false i = refl
+
+-- the loads at the places of a server's tasks are its members
+places-members : (figures placement : List ℕ) (n q : ℕ) → n ≤ length placement →
+    membersAt figures (placesIn (take n placement) q) ≡ chosen (loadsOf figures n) (take n placement) q
+unfolding placesFrom chosen loadsOf
+places-members figures placement zero q h = refl
+places-members figures placement (suc n) q h =
+    ap (λ (p : List ℕ). membersAt figures (placesIn p q)) next ∙
+    ap (map (loadAt figures)) (places-more (take n placement) a q) ∙
+    map-append (loadAt figures) (placesIn (take n placement) q) (keep (eqb a q) (length (take n placement)) []) ∙
+    ap₂ (λ (ks js : List Load). ks ++ js)
+    (places-members figures placement n q (omega arith))
+    (keep-load figures (eqb a q) (length (take n placement)) ∙ ap (λ (k : ℕ). keep (eqb a q) (loadAt figures k) []) as-long) ∙
+    sym (in-more (loadsOf figures n) (take n placement) (loadAt figures n) a q (as-long ∙ sym (loads-length figures n))) ∙
+    ap (λ (p : List ℕ). chosen (loadsOf figures n ++ (loadAt figures n ∷ [])) p q) (sym next)
+  where
+    a : ℕ
+    a = getD placement n 0
+
+    as-long : length (take n placement) ≡ n
+    as-long = length-take-le n placement (omega arith)
+
+    next : take (suc n) placement ≡ take n placement ++ (a ∷ [])
+    next = take-suc placement n 0 h
+
+-- the first n of `places` are those of these members among the first m tasks of a file
+pub record Standing (figures : List ℕ) (m : ℕ) (members : List Load) (places : List ℕ) (n : ℕ) : Type 0 where
+  pub there : n ≤ length places
+  pub few : n ≤ mostTasks
+  pub below : Below m (take n places)
+  pub is : membersAt figures (take n places) ≡ members
+
+-- what stands in front of a slice where it is stored
+stored-front : (b x : List ℕ) → take (length x) (stored b 0 x) ≡ x
+unfolding stored
+stored-front b x = take-at x _ (length x) refl
+
+module _ (figures placement b : List ℕ) (n q : ℕ) (h : n ≤ length placement) (room : length b ≡ mostTasks) where
+  abbrev found : List ℕ
+  found = placesIn (take n placement) q
+
+  as-few : length found ≤ n
+  as-few = omega (arith, places-few (take n placement) q, length-take-le n placement h)
+
+  found-below : Below n found
+  found-below j g = omega (arith, places-below (take n placement) q j g, length-take-le n placement h)
+
+  module _ {places : List ℕ} {k : ℕ} (e : k ≡ length found) (s : places ≡ stored b 0 found) where
+    -- the places of a server's tasks
+    pub standing-found : n ≤ mostTasks → Standing figures n (chosen (loadsOf figures n) (take n placement) q) places k
+    standing-found few =
+        record {
+          there = omega (arith, as-few, long);
+          few = omega (arith, as-few);
+          below = subst (Below n) (sym front) found-below;
+          is = ap (membersAt figures) front ∙ places-members figures placement n q h;
+        }
+      where
+        long : length places ≡ mostTasks
+        long = ap length s ∙ stored-length b 0 found (omega (arith, as-few)) ∙ room
+
+        front : take k places ≡ found
+        front = ap₂ take e s ∙ stored-front b found
+
+    -- there is room for one more
+    pub place-free : n < mostTasks → k < mostTasks
+    place-free few = omega (arith, as-few)
+
+    -- with task n's own place behind them
+    pub standing-joined : n < mostTasks →
+        Standing figures (n + 1) (chosen (loadsOf figures n) (take n placement) q ++ (loadAt figures n ∷ [])) (set places k n) (k + 1)
+    standing-joined few =
+        record {
+          there = omega (arith, as-few, long);
+          few = omega (arith, as-few);
+          below = subst (Below (n + 1)) (sym front) below;
+          is =
+              ap (membersAt figures) front ∙ map-append (loadAt figures) found (n ∷ []) ∙
+              ap (λ (ks : List Load). ks ++ (loadAt figures n ∷ [])) (places-members figures placement n q h);
+        }
+      where
+        joined : List ℕ
+        joined = found ++ (n ∷ [])
+
+        one : length joined ≡ length found + 1
+        one = length-append found (n ∷ [])
+
+        set-is : set places k n ≡ stored b 0 joined
+        set-is =
+            let behind : k ≡ 0 + length found = omega arith in
+            ap₂ (λ (p : List ℕ) (j : ℕ). set p j n) s behind ∙ stored-byte b 0 found n (omega (arith, as-few))
+
+        long : length (set places k n) ≡ mostTasks
+        long = ap length set-is ∙ stored-length b 0 joined (omega (arith, as-few, one)) ∙ room
+
+        front : take (k + 1) (set places k n) ≡ joined
+        front =
+            let all : k + 1 ≡ length joined = omega (arith, one, e) in
+            ap₂ take all set-is ∙ stored-front b joined
+
+        below : Below (n + 1) joined
+        below j g = by (le-or-lt (length found) j)
+          where
+            by : (length found ≤ j) ⊎ (j < length found) → getD joined j 0 < n + 1
+            by (inl past) =
+                let here : j ≡ length found = omega (arith, one) in
+                rw (here, getD-append-seam found n [] 0) (omega arith)
+            by (inr old) = rw (List·getD-append found (n ∷ []) 0 j old) (omega (arith, found-below j old))
+
+-- ---- charged
+
+same-within : {a b : ℕ} → Within a ≡ Within b → a ≡ b
+same-within e = cc
+
+past-within : {A : Type 0} {a : ℕ} → Past ≡ Within a → A
+past-within e = clash (cc)
+
+module _ {h : Header} {figures : List ℕ} {m H : ℕ} {members : List Load} {places : List ℕ} {n : ℕ}
+    (file : Filed h figures m H) (w : Standing figures m members places n) where
+  -- they may be charged
+  pub may-charge : (cache : ℕ) (loads : List ℕ) → cache < 2 ^ 32 → length loads ≡ 3 * mostTasks → Charging h cache figures places n loads
+  may-charge cache loads small room = placed-charging file places n cache loads (w .there) (omega (arith, w .few)) small (w .below)
+
+  members-ok : Every (Member h) (membersAt figures (take n places))
+  members-ok = placed-members file (take n places) (w .below)
+
+  -- the test of such members with a whole processor may be asked
+  pub whole-testable : {own : ℕ} → own ≡ serverHorizon h members → Overheads h → Testable own (h .slot) 0
+  whole-testable {own} e o =
+      let t = placed-testable file (take n places) (w .below) o (e ∙ ap (serverHorizon h) (sym (w .is))) refl in
+      record { slot-some = t .slot-some; slot-small = t .slot-small; loss-small = omega arith; horizon-small = t .horizon-small }
+
+  -- and so that with their own entry loss
+  pub own-testable : {own loss : ℕ} → own ≡ serverHorizon h members → loss ≡ serverLoss h members → Overheads h → Testable own (h .slot) loss
+  own-testable {own} {loss} e g o =
+      placed-testable file (take n places) (w .below) o (e ∙ ap (serverHorizon h) (sym (w .is))) (g ∙ ap (serverLoss h) (sym (w .is)))
+
+  -- what charging leaves, with the header's cache cost
+  module _ (b : List ℕ) {out : List ℕ} (room : length b ≡ 3 * mostTasks)
+      (is : out ≡ stored b 0 (numbersOf (map (chargedIn h (h .cpmdo)) (membersAt figures (take n places))))) where
+    enough : 3 * n ≤ length b
+    enough = omega (arith, w .few)
+
+    same : h .cpmdo ≡ cacheOf h (membersAt figures (take n places))
+    unfolding cacheOf
+    same = refl
+
+    pub charged-loads : loadsOf out n ≡ serverLoads h members
+    charged-loads = left-loads h figures places n (h .cpmdo) b is same (w .there) ∙ ap (serverLoads h) (w .is)
+
+    pub charged-loaded : Overheads h → Loaded out n
+    charged-loaded o = left-loaded h figures places n (h .cpmdo) b is same (w .there) members-ok enough o (omega (arith, w .few))
+
+    pub charged-timed : Timed out n (h .slot)
+    charged-timed = left-timed h figures places n (h .cpmdo) b is same (w .there) members-ok enough (file .slot)
+
+    horizon-within : within H (ownHorizon (h .slot) (loadsOf out n)) ≡ Within (serverHorizon h members)
+    horizon-within =
+        left-horizon h figures places n (h .cpmdo) b is same (w .there) members-ok enough H (file .some) (file .of-slot)
+        (placed-periods file (take n places) (w .below)) ∙
+        ap (λ (ms : List Load). Within (serverHorizon h ms)) (w .is)
+
+    -- their horizon is within the file's
+    pub horizon-found : {r : Multiple} {own : ℕ} → r ≡ within H (ownHorizon (h .slot) (loadsOf out n)) → r ≡ Within own → own ≡ serverHorizon h members
+    horizon-found e f = same-within (sym f ∙ e ∙ horizon-within)
+
+    pub horizon-not-past : {A : Type 0} {r : Multiple} → r ≡ within H (ownHorizon (h .slot) (loadsOf out n)) → r ≡ Past → A
+    horizon-not-past e f = past-within (sym f ∙ e ∙ horizon-within)
+
+-- ---- a whole processor has no entry loss
+
+other-loss : (g : ℕ → ℕ) (S L L′ : ℕ) → Passes g S L S → Passes g S L′ S
+other-loss g S L L′ p t h = omega (arith, p t h, supply-all S L S t refl, supply-all S L′ S t refl)
+
+same-whole : (g : ℕ → ℕ) (H S L L′ : ℕ) → Lawful g H → 1 ≤ S → passing g H S L S ≡ passing g H S L′ S
+same-whole g H S L L′ lawful some =
+    same-test (passing g H S L S) (passing g H S L′ S)
+    (λ e. passes-passing g H S L′ S (other-loss g S L L′ (passing-passes g H S L S lawful some e)))
+    (λ e. passes-passing g H S L S (other-loss g S L′ L (passing-passes g H S L′ S lawful some e)))
+
+-- so the test of members that is asked with none is whether they fit
+pub fits-whole : (h : Header) (members : List Load) → Every (Member h) members → 1 ≤ h .slot →
+    passing (serverDemand h members) (serverHorizon h members) (h .slot) 0 (h .slot) ≡ fits h members
+unfolding fits passesWith
+fits-whole h members ok some =
+    same-whole (serverDemand h members) (serverHorizon h members) (h .slot) 0 (serverLoss h members) (server-lawful h members ok some) some
+
+-- ---- a server with a task more
+
+-- the members of a server with the task
+pub members-with : (h : Header) (done : List Load) (placement : List ℕ) (l : Load) → Every (Member h) (done ++ (l ∷ [])) →
+    (q : ℕ) → Every (Member h) (chosen done placement q ++ (l ∷ []))
+members-with h done placement l members q =
+    every-snoc (Member h) (chosen done placement q) l
+    (every-chosen (Member h) done placement q (every-front (Member h) done l members)) (every-last (Member h) done l members)
