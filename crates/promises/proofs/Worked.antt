@@ -17,7 +17,8 @@ use Rattle.places.specs.Padded.{upTo}
 use Rattle.places.specs.Places.{chosen}
 use Rattle.loads.specs.Charge.{cacheOf, chargedIn, serverLoads, serverLoss}
 use Rattle.members.specs.Server.{passesWith, fits, reserveFor}
-use Rattle.servers.specs.Placement.{serversIn, join, placeBy, fit, placementOf}
+use Rattle.servers.specs.Placement.{serversIn, placeBy, fit, placementOf}
+use Rattle.joining.specs.Join.{join}
 use Rattle.taking.specs.Takes.{takes}
 use Rattle.sizing.specs.Reserve.{reservesOf}
 use Rattle.reserves.specs.Reserves.{ringTicks, wholes}
