@@ -20,11 +20,11 @@ use Rattle.places.specs.Places.{chosen}
 use Rattle.members.specs.Server.{Filed}
 use Rattle.taking.specs.Takes.{takes}
 use Rattle.taking.specs.Totals.{totalIn}
-use Rattle.servers.specs.Totals.{Totals}
-use Rattle.servers.proofs.JoinLaws.{join-first, join-none}
-use Rattle.servers.proofs.TotalLaws.{no-room}
-use Rattle.servers.proofs.placement.server_for.Statement.{statement}
-use Rattle.servers.proofs.placement.server_for.Tie as tie
+use Rattle.joining.specs.Totals.{Totals}
+use Rattle.joining.proofs.JoinLaws.{join-first, join-none}
+use Rattle.joining.proofs.TotalLaws.{no-room}
+use Rattle.joining.proofs.server_for.Statement.{statement}
+use Rattle.joining.proofs.server_for.Tie as tie
 
 -- the servers that take task i
 abbrev candidates : Header → (figures placement : List ℕ) → (i : ℕ) → ℕ → Bool

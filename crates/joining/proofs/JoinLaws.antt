@@ -1,18 +1,14 @@
 -- One step of placing: what joining answers by any rule that picks candidates, and by first fit.
+-- Assumes nothing.
 use Prim.Native.Nat.{ℕ, zero, suc, _≤_, _<_}
 use native.Mathlib.Omega.{arith}
 use native.Mathlib.Nat.{eq-zero-or-pos}
 use mathlib.Core.Path.{_≡_, refl, sym, ap, subst, _∙_}
 use mathlib.Core.Logic.{_⊎_, inl, inr, ⊎-elim}
 use mathlib.Core.Bool.{Bool, true}
-use mathlib.Core.List.{List}
-use Rattle.demand.specs.Load.{Load}
 use Rattle.search.specs.Search.{firstAfter, orElse, NoneIn, Next}
 use Rattle.search.proofs.Bounded.{after-none, after-zero, after-found, after-is}
-use Rattle.tasks.specs.declared.set.Header.{Header}
-use Rattle.servers.specs.Placement.{serversIn, Rule, firstFit, join, fit}
-use Rattle.taking.specs.Takes.{takes}
-use Rattle.servers.specs.Claims.{Picks}
+use Rattle.joining.specs.Join.{Rule, firstFit, join, Picks}
 
 -- the first number stands where it is not 0
 or-else-some : (a b : ℕ) → 1 ≤ a → orElse a b ≡ a
@@ -69,10 +65,3 @@ module _ (candidate : ℕ → Bool) (lo hi : ℕ) where
       let w = after-found candidate lo hi (firstAfter candidate lo hi) refl h in
       inr (subst (λ (q : ℕ). (q ≤ hi) × Next candidate lo q) (sym (join-first (firstAfter candidate lo hi) (w .0) (w .1))) w))
       (eq-zero-or-pos (firstAfter candidate lo hi))
-
--- the planner's step
-pub fit-view : (h : Header) (done : List Load) (placement : List ℕ) (l : Load) →
-    ((fit h done placement l ≡ suc (serversIn placement)) × NoneIn (takes h done placement l) 0 (serversIn placement))
-    ⊎ ((fit h done placement l ≤ serversIn placement) × Next (takes h done placement l) 0 (fit h done placement l))
-unfolding fit
-fit-view h done placement l = join-first-view (takes h done placement l) 0 (serversIn placement)

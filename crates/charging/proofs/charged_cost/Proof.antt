@@ -1,9 +1,9 @@
--- `charging::charged_cost` meets its contract: the sums fit, and the result is the definition's.
+-- `charged_cost` meets its contract: the sums fit, and the result is the definition's.
 -- Assumes nothing.
 use borrow.Author.Needs.{needs}
-use Rattle.demand.specs.Charging.{effectiveCost}
-use Rattle.demand.proofs.charging.charged_cost.Statement.{statement}
-use Rattle.demand.proofs.charging.charged_cost.Tie as tie
+use Rattle.charging.specs.Charging.{effectiveCost}
+use Rattle.charging.proofs.charged_cost.Statement.{statement}
+use Rattle.charging.proofs.charged_cost.Tie as tie
 
 returns : tie.Need-returns
 unfolding effectiveCost

@@ -2,7 +2,7 @@
 // What they mean stands in specs/Charging.antt.
 ghost use mathlib.Core.Path.{_≡_};
 ghost use Prim.Native.Nat.{_<_, _≤_, _^_};
-ghost use Rattle.demand.specs.Charging.{effectiveDeadline, effectiveCost, entryLoss};
+ghost use Rattle.charging.specs.Charging.{effectiveDeadline, effectiveCost, entryLoss};
 
 pub fn charged_deadline(d: u64, relj: u64) -> u64
     requires { ⌜ relj ≤ d ⌝ }
