@@ -1,6 +1,6 @@
 -- Each claim of specs/Claims.antt, proved.
 -- Assumes nothing.
-use Prim.Native.Nat.{ℕ, _≤_}
+use Prim.Native.Nat.{ℕ, _≤_, _<_, _^_}
 use mathlib.Core.Path.{_≡_, refl, sym, ap, _∙_}
 use mathlib.Core.List.{List, []}
 use native.Mathlib.Omega.{arith}
@@ -14,7 +14,7 @@ use Rattle.refusals.specs.declared.Written.the-variants.{Refused}
 use Rattle.frames.specs.Table.{widthsOf, sum}
 use Rattle.turn.specs.Switches.{switchText}
 use Rattle.turn.specs.Count.{longestSwitches}
-use Rattle.turn_claims.proofs.Claims.{no-switches, switches-fit}
+use Rattle.turn_claims.proofs.Claims.{switches-exactly, no-switches, switches-fit, switches-whole}
 use Rattle.plan.specs.Plan.{reservesIn}
 use Rattle.plancheck.specs.Makes.{makes}
 use Rattle.plancheck.proofs.Checked.{reserves-same}
@@ -30,14 +30,14 @@ use Rattle.tasks_claims.proofs.Claims.{read-refuses}
 use Rattle.plan_claims.specs.Claims.{PlannerRow, ASK, BOARD, RANGE, SLOT, TIGHT, HORIZON, FULL, refusalOf}
 use Rattle.plan_claims.proofs.Claims.{plan-only}
 use Rattle.planfile_claims.proofs.AnswerLaws.{rows-exactly}
-use Rattle.planfile_claims.proofs.Claims.{same-filed}
+use Rattle.planfile_claims.proofs.Claims.{same-filed, nothing-cut-off}
 use Rattle.planfile_claims.proofs.RefusedLaws.{refused-by}
 use Rattle.filed_claims.specs.Claims.{setIn, planIn}
 use Rattle.filed_claims.proofs.FiledLaws.{filed-full, filed-made, filed-who}
 use Rattle.switchlist.specs.Write.{planSwitches}
 use Rattle.switchlist.proofs.LaidLaws.{plan-ring}
 use Rattle.switchfile.specs.OfFile.{switched, listed}
-use Rattle.switch_claims.specs.Claims.{SwitchesWritten, NoRingNoLines, StartListed, RingHasLines, BootList, ListShort, ListRoomIgnored, FileBootList, FileListFits, SwitchedShort, ListPrefix}
+use Rattle.switch_claims.specs.Claims.{SwitchesWritten, NoRingNoLines, StartListed, RingHasLines, BootList, ListShort, ListWhole, ListRoomIgnored, FileBootList, FileListFits, SwitchedShort, ListPrefix}
 use Rattle.switch_claims.proofs.PlanLaws.{plan-slotted, plan-few, list-names, list-starts, list-some}
 
 pub switches-written : SwitchesWritten
@@ -60,6 +60,13 @@ boot-list set plan p x full m some l = list-names set full plan m p x some l
 
 pub list-short : ListShort
 list-short set plan full m = switches-fit (plan .slot) (reservesIn plan) (plan-slotted set full plan m) (plan-few set full plan m)
+
+pub list-whole : ListWhole
+unfolding widthsOf
+list-whole set plan s full m at =
+    let S = plan .slot in
+    let slot : S < 16 ^ 6 = omega (arith, nothing-cut-off set plan full m .figures .each 3) in
+    switches-whole S (reservesIn plan) s (plan-slotted set full plan m) slot (plan-few set full plan m) (switches-exactly S (reservesIn plan) s .0 at)
 
 pub list-room-ignored : ListRoomIgnored
 list-room-ignored n a b same =

@@ -2,11 +2,13 @@
 -- The proofs stand in proofs/Claims.antt, one for each claim. What the list of a ring holds is claimed in turn_claims.
 use Prim.Native.Nat.{ℕ, _*_, _%_, _≤_}
 use mathlib.Core.Path.{_≡_}
-use mathlib.Core.List.{List, []}
-use mathlib.Core.Bool.{true}
+use mathlib.Core.List.{List, [], _∷_}
+use mathlib.Core.Bool.{true, false}
 use lib.ListN.{length, take}
 use Rattle.refusals.specs.declared.Refusal.the-variants.{Room}
 use Rattle.refusals.specs.declared.Written.the-variants.{Bytes, Refused}
+use Rattle.frames.specs.declared.table.Frame.{Frame}
+use Rattle.framesizes.specs.Overflow.{lineOverflows}
 use Rattle.tasks.specs.declared.set.TaskSet.{TaskSet}
 use Rattle.tasks.specs.Set.{mostTasks}
 use Rattle.taskread.specs.Read.{furthest}
@@ -62,6 +64,12 @@ BootList =
 -- The most bytes that a list can have.
 abbrev pub ListShort : Type 0
 ListShort = (set : TaskSet) (plan : Plan) → length (set .tasks) ≡ mostTasks → makes set plan ≡ true → length (planSwitches plan) ≤ longestSwitches
+
+-- Nothing is cut off: the figures of every line fit their fields.
+abbrev pub ListWhole : Type 0
+ListWhole =
+    (set : TaskSet) (plan : Plan) (s : Switch) → length (set .tasks) ≡ mostTasks → makes set plan ≡ true → StandsIn s (switchesIn plan) →
+    lineOverflows Frame.Switch (s .tick ∷ s .processor ∷ s .server ∷ []) ≡ false
 
 -- Unused room never shows.
 abbrev pub ListRoomIgnored : Type 0
