@@ -14,7 +14,7 @@ use told::put_numbers;
 use whoruns::who;
 ghost use mathlib.Core.Path.{_≡_};
 ghost use Rattle.told.specs.Told.{statusOf, leavesNumbers};
-ghost use Rattle.plancheck.specs.Agrees.{makes};
+ghost use Rattle.plancheck.specs.Makes.{makes};
 ghost use Rattle.handed.specs.Handed.{setFrom, planFrom};
 ghost use Rattle.called.specs.Called.{plannedNumbers, plannedTold, whoNumbers, whoTold, passNumbers, passTold};
 

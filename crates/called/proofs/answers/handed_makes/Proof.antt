@@ -1,7 +1,7 @@
 -- `answers::handed_makes` meets its contract: the check of the set and the plan that the numbers give. Assumes nothing.
 use mathlib.Core.Path.{_∙_, ap₂}
 use borrow.Author.Needs.{needs}
-use Rattle.plancheck.specs.Agrees.{makes}
+use Rattle.plancheck.specs.Makes.{makes}
 use Rattle.called.proofs.answers.handed_makes.Statement.{statement}
 use Rattle.called.proofs.answers.handed_makes.Tie as tie
 
