@@ -15,12 +15,12 @@ use Rattle.frames.proofs.Tables.{length-most}
 use Rattle.reserves.specs.Reserves.{ringProcessors}
 use Rattle.ring.specs.declared.cover.Stand.{Stand}
 use Rattle.turn.specs.Stretch.{Laid}
-use Rattle.walk.specs.Walk.{serverBefore, untilBefore, leastOf}
-use Rattle.walk.proofs.LaidLaws.{laid-slotted, laid-length, laid-room, left-within}
-use Rattle.walk.proofs.LeastLaws.{least-none, least-next}
-use Rattle.walk.proofs.TickLaws.{Walked, walked-none, walked-room, walked-over, walked-on, walked-all, servers-there, untils-there, until-here, until-reached, server-here}
-use Rattle.walk.proofs.put_tick.Statement.{statement}
-use Rattle.walk.proofs.put_tick.Tie as tie
+use Rattle.ticklines.specs.Walk.{serverBefore, untilBefore, leastOf}
+use Rattle.ticklines.proofs.LaidLaws.{laid-slotted, laid-length, laid-room, left-within}
+use Rattle.ticklines.proofs.LeastLaws.{least-none, least-next}
+use Rattle.ticklines.proofs.TickLaws.{Walked, walked-none, walked-room, walked-over, walked-on, walked-all, servers-there, untils-there, until-here, until-reached, server-here}
+use Rattle.ticklines.proofs.put_tick.Statement.{statement}
+use Rattle.ticklines.proofs.put_tick.Tie as tie
 
 abbrev Inv-loop : tie.InvT-loop
 Inv-loop out₀ at servers₀ until₀ reserves turn row tick ring next₀ least₀ i₀ out servers until next least i =

@@ -4,7 +4,7 @@ use Prim.Native.Nat.{ℕ, zero, suc, min, _≤_}
 use mathlib.Core.Path.{_≡_, refl}
 use native.Mathlib.Decide.{decLt}
 use native.Mathlib.Omega.{arith}
-use Rattle.walk.specs.Walk.{leastOf}
+use Rattle.ticklines.specs.Walk.{leastOf}
 
 module _ (f : ℕ → ℕ) (most : ℕ) where
   pub least-none : leastOf f most 0 ≡ most
