@@ -16,6 +16,7 @@ extern "C" {
     fn handed_pass(set: *const u64, set_len: usize, plan: *const u64, plan_len: usize, server: u64, reserve: u64, answer: *mut u64, answer_len: usize) -> u64;
     fn handed_write(set: *const u64, set_len: usize, out: *mut u8, out_len: usize, length: *mut usize) -> u64;
     fn handed_write_plan(set: *const u64, set_len: usize, plan: *const u64, plan_len: usize, out: *mut u8, out_len: usize, length: *mut usize) -> u64;
+    fn handed_write_switches(set: *const u64, set_len: usize, plan: *const u64, plan_len: usize, out: *mut u8, out_len: usize, length: *mut usize) -> u64;
 }
 
 // a set's numbers, and a plan's
@@ -56,7 +57,7 @@ fn told(answer: Result<&[u64], Refusal>, room: usize) -> (u64, Vec<u64>) {
 // The same for a call that writes a text, whose length comes in a lent number; also in rooms that are one byte short, exact, and longer.
 fn same_text(text: Result<&str, Refusal>, call: impl Fn(*mut u8, usize, *mut usize) -> u64, what: &str) {
     let exact = text.map_or(100, |text| text.len());
-    for room in [0, exact - 1, exact, exact + 9] {
+    for room in [0, exact.saturating_sub(1), exact, exact + 9] {
         let (mut out, mut length) = (vec![0xA5; room], 77);
         let got = call(out.as_mut_ptr(), room, &mut length);
         let mut left = vec![0xA5; room];
@@ -133,7 +134,7 @@ impl Case {
         same(unsafe { handed_makes(numbers, n, plan.as_ptr(), plan.len()) }, self.makes(plan), "the check");
     }
 
-    // The check, the questions and the writer of plans, with a plan that is handed in.
+    // The check, the questions and the writers of plans and of switch lists, with a plan that is handed in.
     fn with(&self, plan: &[u64], random: &mut Random) {
         let (sp, sn, pp, pn) = (self.numbers.as_ptr(), self.numbers.len(), plan.as_ptr(), plan.len());
         let own = if self.makes(plan) { Some((self.set.as_ref().unwrap(), self.plan.as_ref().unwrap())) } else { None };
@@ -158,6 +159,8 @@ impl Case {
         }
         let text = own.map(|(set, plan)| oracle::text(set, plan)).ok_or((11, 0));
         same_text(text.as_deref().map_err(|r| *r), |out, room, length| unsafe { handed_write_plan(sp, sn, pp, pn, out, room, length) }, "the writer of plans");
+        let list = own.map(|(set, plan)| oracle::switches(set, plan)).ok_or((11, 0));
+        same_text(list.as_deref().map_err(|r| *r), |out, room, length| unsafe { handed_write_switches(sp, sn, pp, pn, out, room, length) }, "the writer of switch lists");
     }
 
     fn all(&self, random: &mut Random) {

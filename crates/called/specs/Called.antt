@@ -14,6 +14,7 @@ use Rattle.doespass.specs.declared.PassAnswer.{PassAnswer}
 use Rattle.doespass.specs.DoesPass.{doesPass}
 use Rattle.taskwrite.specs.Write.{writeOf}
 use Rattle.planfile.specs.Write.{writePlan}
+use Rattle.switchlist.specs.Write.{writeSwitches}
 use Rattle.handed.specs.Handed.{setFrom, planFrom}
 use Rattle.numbered.specs.Numbered.{planNumbers}
 
@@ -50,6 +51,9 @@ setWritten set out = writeOf (setFrom set) out
 
 abbrev pub planWritten : (set plan out : List ℕ) → Written
 planWritten set plan out = writePlan (setFrom set) (planFrom plan) out
+
+abbrev pub switchesWritten : (set plan out : List ℕ) → Written
+switchesWritten set plan out = writeSwitches (setFrom set) (planFrom plan) out
 
 -- 0, or the refusal
 abbrev pub writtenStatus : Written → ℕ
