@@ -9,7 +9,7 @@ use stretch::stand_after;
 use turn::Turn;
 ghost use mathlib.Core.Path.{_≡_};
 ghost use Prim.Native.Nat.{suc, _+_, _*_, _≤_, _<_};
-ghost use lib.ListN.{length as count, take};
+ghost use lib.ListN.{length as count, take, drop};
 ghost use Rattle.digits.specs.Stored.{stored};
 ghost use Rattle.frames.specs.declared.table.Frame.{Frame};
 ghost use Rattle.frames.specs.Table.{lengthOf, rowOf};
@@ -73,7 +73,7 @@ fn put_switch(
     }
 }
 
-// Writes the lines of a tick, and carries every processor past it.
+// Writes the lines of a tick, and carries every processor past it. Places behind the ring processors' stay as they were.
 pub fn put_tick(
     out: &mut [u8],
     at: usize,
@@ -90,6 +90,7 @@ pub fn put_tick(
     ensures { λ r. ⌜ r ≡ record { at = at + count (switchLines (switchesAt (turn .slot) (take (turn .servers) (now (reserves .entry))) tick (turn .ring))); tick = leastOf (λ p. untilBefore (turn .slot) (take (turn .servers) (now (reserves .entry))) p (suc tick)) (turn .ring * turn .slot) (turn .ring) } ⌝ }
     ensures { λ r. ⌜ now (out .exit) ≡ stored (now (out .entry)) at (switchLines (switchesAt (turn .slot) (take (turn .servers) (now (reserves .entry))) tick (turn .ring))) ⌝ }
     ensures { λ r. ⌜ Carried (turn .slot) (take (turn .servers) (now (reserves .entry))) (suc tick) 0 (turn .ring) (now (servers .exit)) (now (until .exit)) ⌝ }
+    ensures { λ r. ⌜ (drop (turn .ring) (now (servers .exit)) ≡ drop (turn .ring) (now (servers .entry))) × (drop (turn .ring) (now (until .exit)) ≡ drop (turn .ring) (now (until .entry))) ⌝ }
 {
     let ring = turn.ring as usize;
     let mut next = at;

@@ -7,8 +7,8 @@ use mathlib.Core.List.{List}
 use borrow.Author.Needs.{needs}
 use native.Mathlib.Numerals.{add-one}
 use native.Mathlib.Omega.{arith}
-use lib.ListN.{length, take, getD, length-set}
-use lib.Seq.{getD-set-same}
+use lib.ListN.{length, take, drop, getD, length-set}
+use lib.Seq.{getD-set-same, drop-set-lt}
 use Rattle.frames.specs.declared.table.Frame.{Frame}
 use Rattle.frames.specs.Table.{lengthOf, widthsOf, fieldsIn}
 use Rattle.frames.proofs.Tables.{length-most}
@@ -27,6 +27,7 @@ Inv-loop out₀ at servers₀ until₀ reserves turn row tick ring next₀ least
     Walked (turn .slot) (take (turn .servers) reserves) tick (turn .ring) out₀ at out servers until next i
     × (least ≡ leastOf (λ p. untilBefore (turn .slot) (take (turn .servers) reserves) p (suc tick)) (turn .ring * turn .slot) i)
     × (length servers ≡ length servers₀) × (length until ≡ length until₀)
+    × (drop (turn .ring) servers ≡ drop (turn .ring) servers₀) × (drop (turn .ring) until ≡ drop (turn .ring) until₀)
 
 abbrev μ-loop : tie.MeasureT-loop
 μ-loop out₀ at servers₀ until₀ reserves turn row tick ring next₀ least₀ i₀ out servers until next least i = ring - i
@@ -35,7 +36,7 @@ mul-least : tie.Need-mul-least Inv-loop μ-loop
 mul-least c = omega (arith, laid-room (c .before .before .before .before .before .pre .0 .0))
 
 loop-holds : tie.Need-loop-holds Inv-loop μ-loop
-loop-holds c = (walked-none _ _ (c .before .before .before .before .before .pre .1 .0), sym (least-none _ _), refl, refl)
+loop-holds c = (walked-none _ _ (c .before .before .before .before .before .pre .1 .0), sym (least-none _ _), refl, refl, refl, refl)
 
 -- the next processor of the ring
 module _ (c : tie.In-loop Inv-loop μ-loop) where
@@ -138,16 +139,24 @@ passed c =
     rw (w .1, w .2, w .3, w .4) (walked-on slotted (few l) (now .inv .0) (below l) on))
     (c .if1 .came)
 
--- the slices keep their lengths
+-- the slices keep their lengths, and what stands behind the ring processors' places
 kept : (c : tie.Joined1 Inv-loop μ-loop) →
     let l = c .before .before in
+    let r = start l .args .turn .ring in
     (length (c .if1 .servers) ≡ length (start l .args .servers .now)) × (length (c .if1 .until) ≡ length (start l .args .until .now))
+    × (drop r (c .if1 .servers) ≡ drop r (start l .args .servers .now)) × (drop r (c .if1 .until) ≡ drop r (start l .args .until .now))
 kept c =
     let l = c .before .before in
     let now = l .before .loop in
     ⊎-elim
-    (λ w. rw (w .7, w .8) (length-set (now .servers) (now .i) _ ∙ now .inv .2, length-set (now .until) (now .i) _ ∙ now .inv .3))
-    (λ w. rw (w .2, w .3) (now .inv .2, now .inv .3))
+    (λ w.
+    rw (w .7, w .8) (
+      length-set (now .servers) (now .i) _ ∙ now .inv .2,
+      length-set (now .until) (now .i) _ ∙ now .inv .3,
+      drop-set-lt _ (now .servers) (now .i) _ (below l) ∙ now .inv .4,
+      drop-set-lt _ (now .until) (now .i) _ (below l) ∙ now .inv .5,
+    ))
+    (λ w. rw (w .2, w .3) (now .inv .2, now .inv .3, now .inv .4, now .inv .5))
     (c .if1 .came)
 
 -- and until when its time runs is told
@@ -183,7 +192,7 @@ lower c =
 loop-again : tie.Need-loop-again Inv-loop μ-loop
 loop-again c =
     let j = c .before in
-    rw (add-one (j .before .before .before .loop .i)) (passed j, lower c, kept j .0, kept j .1)
+    rw (add-one (j .before .before .before .loop .i)) (passed j, lower c, kept j .0, kept j .1, kept j .2, kept j .3)
 
 same-length : tie.Need-same-length Inv-loop μ-loop
 same-length c = c .before .loop .inv .0 .same
@@ -202,7 +211,7 @@ returns c =
     let e : c .before .loop .i ≡ s .args .turn .ring = omega (arith, past, c .before .loop .inv .0 .within) in (
       ap₂ (λ (a t : ℕ). record { at = a; tick = t }) (w .there)
           (c .before .loop .inv .1 ∙ ap (leastOf (λ p. untilBefore (s .args .turn .slot) (take (s .args .turn .servers) (s .args .reserves .now)) p (suc (s .args .tick))) (s .args .turn .ring * s .args .turn .slot)) e),
-      (w .holds, w .past),
+      (w .holds, (w .past, (c .before .loop .inv .4, c .before .loop .inv .5))),
     )
 
 pub put-tick-spec : {M : Type 1} → statement M

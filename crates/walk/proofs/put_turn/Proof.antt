@@ -67,7 +67,7 @@ loop-again c =
     let put = c .before .before .before .before .put-tick in
     let l = c .before .before .before .before .before .before .before .before in
     let w = l .before .loop .inv in (
-      rw (put .ensures .0) (turned-next (laid-slotted (laid l)) (laid l .ring) (w .0) (below l) (start l .pre .1) (put .ensures .1 .0) (put .kept .0) (put .ensures .1 .1)),
+      rw (put .ensures .0) (turned-next (laid-slotted (laid l)) (laid l .ring) (w .0) (below l) (start l .pre .1) (put .ensures .1 .0) (put .kept .0) (put .ensures .1 .1 .0)),
       put .kept .1 .1 .0 ∙ w .1,
       put .kept .1 .1 .1 .0 ∙ w .2,
     )
