@@ -1,5 +1,5 @@
 -- The two questions of a task file: a file that is refused, or whose plan is, refuses the question as it was refused.
--- Document 01, "From tasks to servers to ring" and "a refused question zeros".
+-- Document 01, "From tasks to servers to ring" (RULES 4.1 and 4.2) and "a refused question zeros".
 use Prim.Native.Nat.{ℕ}
 use mathlib.Core.List.{List}
 use Rattle.ring.specs.declared.clock.Tick.{Tick}

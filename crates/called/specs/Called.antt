@@ -1,12 +1,13 @@
 -- What the entry points answer to a set and a plan that are handed in as numbers: a status with numbers in lent memory, or a text.
--- Document 01, the two questions, and "Refusal numbers and their order".
+-- Document 01, the two questions (RULES 4.1 and 4.2), and "Refusal numbers and their order" (RULES 6).
 use Prim.Native.Nat.{ℕ}
 use mathlib.Core.List.{List, [], _∷_}
 use Rattle.refusals.specs.declared.Outcome.{Outcome}
 use Rattle.refusals.specs.declared.Outcome.the-variants.{Refused}
 use Rattle.refusals.specs.declared.Written.{Written}
 use Rattle.refusals.specs.declared.Written.the-variants.{Bytes, Refused as NotWritten}
-use Rattle.told.specs.Told.{statusOf, toldOf, verdictNumbers}
+use Rattle.verdict.specs.Numbers.{verdictNumbers}
+use Rattle.told.specs.Told.{statusOf, toldOf}
 use Rattle.planner.specs.Planner.{planOf}
 use Rattle.whoruns.specs.declared.WhoAnswer.{WhoAnswer}
 use Rattle.whoruns.specs.WhoRuns.{whoRuns}

@@ -1,5 +1,5 @@
 -- House charging: what the board's overheads make of a task's figures. The one place that turns tasks into loads.
--- Document 01, "The numbers of a task set".
+-- Document 01, "The numbers of a task set" (RULES 1.3).
 use Prim.Native.Nat.{ℕ, _+_, _*_, _-_}
 
 -- d = D − RelJ

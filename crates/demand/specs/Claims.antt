@@ -1,5 +1,5 @@
 -- What is claimed of demand and supply, each claim as a type. They are proved in proofs/Claims.antt.
--- Document 01, "Demand, supply, and the report's test", and "Shortcuts that give wrong rotas".
+-- Document 01, "Demand, supply, and the report's test" (RULES 2), and "Shortcuts that give wrong rotas".
 use Prim.Native.Nat.{ℕ, _+_, _-_, _/_, _≤_, _<_, _∣_}
 use mathlib.Core.Path.{_≡_}
 use mathlib.Core.Logic.{_↔_}

@@ -1,5 +1,5 @@
 -- Demand of a server at a length: the ticks that its tasks must have had in a window of that length.
--- Document 01, "Demand, supply, and the report's test".
+-- Document 01, "Demand, supply, and the report's test" (RULES 2.1).
 use Prim.Native.Nat.{ℕ, _+_, _*_, _-_, _/_}
 use mathlib.Core.List.{List, [], _∷_}
 use mathlib.Core.Bool.{cond}

@@ -1,5 +1,5 @@
 -- When a demand passes with a reserve: at every length, no tick bound. The report's fake-task form beside it.
--- Document 01, "Demand, supply, and the report's test"; the report's Eq. 13 to 16.
+-- Document 01, "Demand, supply, and the report's test" (RULES 2.4); the report's Eq. 13 to 16.
 use Prim.Native.Nat.{ℕ, _+_, _*_, _-_, _≤_}
 use Rattle.demand.specs.Demand.{jobs}
 use Rattle.demand.specs.Supply.{supply}

@@ -1,5 +1,5 @@
 -- The lengths at which a demand steps: those at which one more deadline falls into the window.
--- Document 01, "Demand, supply, and the report's test": the lengths that decide in the supply form.
+-- Document 01, "Demand, supply, and the report's test" (RULES 2.4): the lengths that decide in the supply form.
 use Prim.Native.Nat.{ℕ, _+_, _*_, _≤_}
 use mathlib.Core.Path.{_≡_}
 use mathlib.Core.Logic.{_⊎_}

@@ -1,5 +1,5 @@
 -- Allowed reserves, and the ticks that a reserve supplies in the worst window of a length.
--- Document 01, "Demand, supply, and the report's test".
+-- Document 01, "Demand, supply, and the report's test" (RULES 2.3).
 use Prim.Native.Nat.{ℕ, _+_, _*_, _-_, _/_, _%_, _≤_}
 use mathlib.Core.Path.{_≡_}
 use mathlib.Core.Bool.{cond}

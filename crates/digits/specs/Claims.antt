@@ -1,5 +1,5 @@
 -- What is promised of digits: a number written at a width and the digits of a number undo one another.
--- Document 01, "Lines of hexadecimal".
+-- Document 01, "Lines of hexadecimal" (RULES 5).
 use Prim.Native.Nat.{ℕ}
 use mathlib.Core.Path.{_≡_}
 use mathlib.Core.Bool.{true, false}

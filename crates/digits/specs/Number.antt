@@ -1,5 +1,5 @@
 -- A number and its digits in base 16, the highest digit first, at any width.
--- Document 01, "Lines of hexadecimal": field widths in digits.
+-- Document 01, "Lines of hexadecimal" (RULES 5): field widths in digits.
 use Prim.Native.Nat.{ℕ, zero, suc, _+_, _*_, _/_, _%_, _^_}
 use mathlib.Core.List.{List, [], _∷_, _++_}
 use mathlib.Core.Bool.{Bool}

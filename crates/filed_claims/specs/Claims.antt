@@ -1,6 +1,6 @@
 -- What holds of the plan of every accepted task file, each claim as a type: nothing is asked but that the file is accepted. And that
 -- unused room never shows. The proofs stand under the same names in proofs/Claims.antt.
--- The note's demands 2 and 3; document 01, "Demand, supply, and the report's test" and "From tasks to servers to ring".
+-- The note's demands 2 and 3; document 01, "Demand, supply, and the report's test" (RULES 2) and "From tasks to servers to ring" (RULES 3).
 use Prim.Native.Nat.{ℕ, _+_, _-_, _≤_, _<_}
 use mathlib.Core.Path.{_≡_}
 use mathlib.Core.Logic.{_↔_, _⊎_}

@@ -1,5 +1,5 @@
 -- The text of several lines of a frame, one behind the other, and lists joined.
--- Document 01, "Lines of hexadecimal".
+-- Document 01, "Lines of hexadecimal" (RULES 5).
 use Prim.Native.Nat.{ℕ, zero, suc}
 use mathlib.Core.List.{List, [], _++_}
 use lib.ListN.{drop}

@@ -1,5 +1,5 @@
 -- A line read: when the text from a line's start holds a frame's line, which frame's, and its fields.
--- Document 01, "Lines of hexadecimal" and row 1 of the refusals.
+-- Document 01, "Lines of hexadecimal" (RULES 5) and row 1 of the refusals (RULES 6.1).
 use Prim.Native.Nat.{ℕ}
 use mathlib.Core.List.{List, [], _∷_}
 use mathlib.Core.Bool.{Bool, false, cond, _&&_, _||_}

@@ -1,5 +1,5 @@
 -- The table of frames: each kind with its field widths in digits, and the lengths that follow.
--- Document 01, "Lines of hexadecimal".
+-- Document 01, "Lines of hexadecimal" (RULES 5.1).
 use Prim.Native.Nat.{ℕ, zero, suc, _+_}
 use mathlib.Core.List.{List, [], _∷_, _++_}
 use lib.ListN.{length, getD, take, replicate}

@@ -1,5 +1,5 @@
 -- What is promised of frames: the line lengths that the table gives, that no two kinds are alike, and that reading and writing a line undo one another.
--- Document 01, "Lines of hexadecimal".
+-- Document 01, "Lines of hexadecimal" (RULES 5).
 use Prim.Native.Nat.{ℕ}
 use mathlib.Core.Path.{_≡_}
 use mathlib.Core.Bool.{true, false}

@@ -1,5 +1,5 @@
 -- The values of all fields of a line, in order.
--- Document 01, "Lines of hexadecimal".
+-- Document 01, "Lines of hexadecimal" (RULES 5).
 use Prim.Native.Nat.{ℕ, zero, suc}
 use mathlib.Core.List.{List, [], _∷_}
 use Rattle.frames.specs.declared.table.Frame.{Frame}

@@ -1,5 +1,5 @@
 -- How the reader takes the answer of line 1 apart.
--- Document 01, "Reading takes lines in order".
+-- Document 01, "Reading takes lines in order" (RULES 6.2).
 use Rattle.refusals.specs.declared.Outcome.{Outcome}
 use Rattle.refusals.specs.declared.Outcome.the-variants.{Done, Refused}
 use Rattle.tasks.specs.declared.set.Header.{Header}

@@ -1,5 +1,5 @@
 -- One step of placing: a task joins the server that a rule picks of those that take it, otherwise it opens a new one. By first fit that
--- server is the lowest-numbered. Document 01, "From tasks to servers to ring", rule 1 (the report's Alg. 1).
+-- server is the lowest-numbered. Document 01, "From tasks to servers to ring", rule 1 (RULES 3.1) (the report's Alg. 1).
 use Prim.Native.Nat.{ℕ, suc, _≤_, _<_}
 use mathlib.Core.Path.{_≡_}
 use mathlib.Core.Logic.{_⊎_}

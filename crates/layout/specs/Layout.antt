@@ -1,5 +1,5 @@
 -- The plan of a slot, a placement and its reserves: each server's places, reserve and ring start, and the first reserves.
--- Document 01, "From tasks to servers to ring" and "Lines of hexadecimal".
+-- Document 01, "From tasks to servers to ring" (RULES 3) and "Lines of hexadecimal" (RULES 5).
 use Prim.Native.Nat.{ℕ}
 use mathlib.Core.List.{List}
 use mathlib.Core.Bool.{cond}

@@ -1,5 +1,5 @@
 -- The plan that document 01 gives a set, with its placement and its reserves, and that of a set with any placement.
--- Document 01, "From tasks to servers to ring".
+-- Document 01, "From tasks to servers to ring" (RULES 3).
 use Prim.Native.Nat.{ℕ}
 use mathlib.Core.List.{List}
 use Rattle.tasks.specs.declared.set.TaskSet.{TaskSet}

@@ -1,5 +1,5 @@
 -- A server's loads and its entry loss, from the header and its members: house charging applied to the members' own figures.
--- Document 01, "The numbers of a task set". Members are loads of own figures, C, D and T; charged they are c, d and T.
+-- Document 01, "The numbers of a task set" (RULES 1.3). Members are loads of own figures, C, D and T; charged they are c, d and T.
 use Prim.Native.Nat.{ℕ, _+_, _*_, _^_, _≤_, _<_}
 use mathlib.Core.List.{List, [], _∷_, map}
 use lib.ListN.{length, getD}

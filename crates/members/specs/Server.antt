@@ -1,5 +1,5 @@
 -- What a server of these members asks, and whether it passes: its demand, horizon, verdict and reserve, from the header and the
--- members' own figures. Document 01, "From tasks to servers to ring".
+-- members' own figures. Document 01, "From tasks to servers to ring" (RULES 3).
 use Prim.Native.Nat.{ℕ, _+_, _*_, _/_, _≤_, _∣_}
 use mathlib.Core.List.{List, [], _∷_}
 use mathlib.Core.Bool.{Bool}

@@ -1,5 +1,5 @@
 -- A list in mostTasks places, the unused room at a filler: the form in which answers carry a list. For numbers the filler is zero.
--- Document 01: "Unused room is zero in every answer and is not compared."
+-- Document 01: "Unused room is zero in every answer and is not compared." (RULES 6.6)
 use Prim.Native.Nat.{ℕ, zero, suc, _-_}
 use mathlib.Core.List.{List, [], _∷_, _++_}
 use lib.ListN.{length, replicate}

@@ -1,5 +1,5 @@
 -- The tasks of one server. A placement is the list of each task's server, in file order; a task's place is its index there, from 0.
--- Document 01, "From tasks to servers to ring", rule 1.
+-- Document 01, "From tasks to servers to ring", rule 1 (RULES 3.1).
 use Prim.Native.Nat.{ℕ, suc}
 use mathlib.Core.List.{List, [], _∷_}
 use mathlib.Core.Bool.{Bool, true, false}

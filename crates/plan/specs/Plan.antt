@@ -1,5 +1,5 @@
 -- The plan as a value: the all-zero plan, and the servers and reserves of a plan.
--- Document 01, "From tasks to servers to ring" and "Lines of hexadecimal".
+-- Document 01, "From tasks to servers to ring" (RULES 3) and "Lines of hexadecimal" (RULES 5).
 use Prim.Native.Nat.{ℕ, pred}
 use mathlib.Core.List.{List, [], map}
 use lib.ListN.{take, getD, replicate}

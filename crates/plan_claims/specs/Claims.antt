@@ -1,5 +1,5 @@
 -- What is promised of planning, of the check of a plan and of the two questions, each promise as a type. The proofs stand
--- under the same names in proofs/Claims. Document 01, "Refusal numbers and their order" and "From tasks to servers to ring".
+-- under the same names in proofs/Claims. Document 01, "Refusal numbers and their order" (RULES 6) and "From tasks to servers to ring" (RULES 3).
 use Prim.Native.Nat.{ℕ, _+_, _-_, _≤_, _<_}
 use mathlib.Core.Path.{_≡_}
 use mathlib.Core.Logic.{_↔_, _⊎_}

@@ -1,5 +1,5 @@
 -- When a plan that is handed in is the one that the planner makes of a set.
--- Document 01, "Refusal numbers and their order".
+-- Document 01, "Refusal numbers and their order" (RULES 6.5).
 use mathlib.Core.Bool.{Bool, true, false, _&&_}
 use Rattle.refusals.specs.declared.Outcome.{Outcome}
 use Rattle.refusals.specs.declared.Outcome.the-variants.{Done, Refused}

@@ -1,5 +1,5 @@
 -- The whole tool, from the bytes of a task file to the bytes that `rota` prints: a plan, or one 1F line.
--- Document 01, "Lines of hexadecimal".
+-- Document 01, "Lines of hexadecimal" (RULES 5).
 use Prim.Native.Nat.{ℕ}
 use mathlib.Core.List.{List}
 use Rattle.plantext.specs.Text.{planText}

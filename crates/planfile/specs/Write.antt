@@ -1,5 +1,5 @@
 -- What writing a plan answers: ASK where the planner does not make it of the set, then ROOM, else the length of the exact text.
--- Document 01, rows 11 and 12 of the refusals.
+-- Document 01, rows 11 and 12 of the refusals (RULES 6.5).
 use Prim.Native.Nat.{ℕ}
 use mathlib.Core.List.{List}
 use Rattle.refusals.specs.declared.Written.{Written}

@@ -1,5 +1,5 @@
 -- What is promised of the texts and of the whole tool, each claim as a type. The proofs stand under the same names in proofs/.
--- Document 01, "Lines of hexadecimal", rows 11 and 12 of the refusals and "How tight each promise is".
+-- Document 01, "Lines of hexadecimal" (RULES 5), rows 11 and 12 of the refusals (RULES 6.5) and "How tight each promise is".
 use Prim.Native.Nat.{ℕ, _+_, _^_, _≤_, _<_}
 use mathlib.Core.List.{List, _++_}
 use mathlib.Core.Bool.{Bool, true, false}

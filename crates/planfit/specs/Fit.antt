@@ -1,5 +1,5 @@
 -- A text into a lent buffer: its length where it fits, ROOM where it does not, ASK first for a plan that is not made of its set.
--- Document 01, rows 11 and 12 of the refusals and "An accepted write changes only the text's bytes at the buffer's start".
+-- Document 01, rows 11 and 12 of the refusals (RULES 6.5) and "An accepted write changes only the text's bytes at the buffer's start".
 use Prim.Native.Nat.{ℕ}
 use mathlib.Core.List.{List}
 use mathlib.Core.Bool.{Bool, cond}

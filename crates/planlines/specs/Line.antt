@@ -1,5 +1,5 @@
 -- The lines of a plan, one kind after the other, and the 1F line of a refusal.
--- Document 01, "Lines of hexadecimal".
+-- Document 01, "Lines of hexadecimal" (RULES 5).
 use Prim.Native.Nat.{ℕ}
 use mathlib.Core.List.{List, [], _∷_}
 use Rattle.framewrite.specs.Line.{lineOf}

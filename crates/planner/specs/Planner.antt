@@ -1,5 +1,5 @@
 -- What planning a set answers: the first refusal of row 11 and rows 5 to 10, or the plan.
--- Document 01, "Refusal numbers and their order".
+-- Document 01, "Refusal numbers and their order" (RULES 6).
 use Prim.Native.Nat.{ℕ}
 use mathlib.Core.Bool.{Bool, false}
 use mathlib.Core.Path.{_≡_}

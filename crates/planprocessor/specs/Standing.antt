@@ -1,5 +1,5 @@
 -- One processor of a plan: is it there, and what asking who runs on it asks of the plan.
--- Document 01, "From tasks to servers to ring" and row 11 of the refusals.
+-- Document 01, "From tasks to servers to ring" (RULES 3) and row 11 of the refusals (RULES 6.5).
 use Prim.Native.Nat.{ℕ, _+_, _≤_}
 use mathlib.Core.Bool.{Bool, _&&_}
 use mathlib.Core.List.{map}

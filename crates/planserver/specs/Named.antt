@@ -1,5 +1,5 @@
 -- The server and the reserve that a question names: is the server there, who are its members, is the reserve allowed.
--- Document 01, "From tasks to servers to ring" and row 11 of the refusals.
+-- Document 01, "From tasks to servers to ring" (RULES 3) and row 11 of the refusals (RULES 6.5).
 use Prim.Native.Nat.{ℕ, _+_}
 use mathlib.Core.Bool.{Bool, _&&_, _||_}
 use mathlib.Core.List.{List}

@@ -1,5 +1,5 @@
 -- The text of a plan: one 11 line, then 12 by server, 13 in file order, 14 by processor.
--- Document 01, "Lines of hexadecimal".
+-- Document 01, "Lines of hexadecimal" (RULES 5.2).
 use Prim.Native.Nat.{ℕ, _+_, _*_}
 use mathlib.Core.List.{List, _++_}
 use Rattle.frames.specs.Table.{lengthOf}

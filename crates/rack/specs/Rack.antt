@@ -1,5 +1,5 @@
 -- What the four functions for C and Rust answer: a text's length or 0, and a status with numbers in lent memory.
--- Document 01, "Lines of hexadecimal", the two questions, and "Refusal numbers and their order"; document 02, Req 01.
+-- Document 01, "Lines of hexadecimal" (RULES 5), the two questions (RULES 4.1 and 4.2), and "Refusal numbers and their order" (RULES 6); document 02, Req 01 (RULES 4.3 to 4.5).
 use Prim.Native.Nat.{ℕ}
 use mathlib.Core.List.{List, [], _∷_}
 use mathlib.Core.Bool.{_||_}
@@ -13,7 +13,8 @@ use Rattle.refusals.specs.First.{firstOf, when}
 use Rattle.refusals.specs.declared.Written.{Written}
 use Rattle.refusals.specs.declared.Written.the-variants.{Bytes, Refused as NotWritten}
 use Rattle.refusals.specs.Leaves.{leaves}
-use Rattle.told.specs.Told.{toldOf, verdictNumbers}
+use Rattle.verdict.specs.Numbers.{verdictNumbers}
+use Rattle.told.specs.Told.{toldOf}
 use Rattle.planfit.specs.Fit.{fitted}
 use Rattle.taskplan.specs.File.{filedOf}
 use Rattle.planfile.specs.Tool.{answered}

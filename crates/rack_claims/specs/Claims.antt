@@ -1,5 +1,5 @@
 -- What is promised of the four functions beside their contracts, each claim as a type. The proofs stand under the same names in proofs/.
--- Document 01, "How tight each promise is" and "a refused write stores nothing"; document 02, Req 01.
+-- Document 01, "How tight each promise is" and "a refused write stores nothing"; document 02, Req 01 (RULES 4.3 to 4.5).
 use Prim.Native.Nat.{ℕ, _+_, _*_, _≤_, _<_}
 use mathlib.Core.List.{List, _∷_, _++_}
 use mathlib.Core.Logic.{_↔_, _⊎_}

@@ -1,5 +1,5 @@
 -- The first refusal of several rows in order.
--- Document 01, "where several hold, only the first in this order is given".
+-- Document 01, "where several hold, only the first in this order is given" (RULES 6.2).
 use Prim.Native.Nat.{ℕ, zero, suc}
 use mathlib.Core.Bool.{Bool, true, false}
 use Rattle.refusals.specs.declared.Refusal.{Refusal}

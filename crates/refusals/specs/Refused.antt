@@ -1,5 +1,5 @@
 -- The number and the place of each refusal, and the answers that are done or refused.
--- Document 01, "Refusal numbers and their order".
+-- Document 01, "Refusal numbers and their order" (RULES 6.1).
 use Prim.Native.Nat.{ℕ}
 use Rattle.refusals.specs.declared.Refusal.{Refusal}
 use Rattle.refusals.specs.declared.Refusal.the-variants.{Line, Order, Count, Twice, Board, Range, Slot, Tight, Horizon, Full, Ask, Room}

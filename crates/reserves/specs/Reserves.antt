@@ -1,5 +1,5 @@
 -- The reserves of all servers in server order, and where those below a slot stand on the ring.
--- Document 01, "From tasks to servers to ring", rule 3.
+-- Document 01, "From tasks to servers to ring", rule 3 (RULES 3.3).
 use Prim.Native.Nat.{ℕ, pred, _+_, _*_, _-_}
 use mathlib.Core.List.{List, [], _∷_}
 use lib.ListN.{getD, take}

@@ -1,5 +1,5 @@
 -- What the functions of the ring ask of the reserves that they are lent.
--- Document 01, "Demand, supply, and the report's test": a reserve is 1 to S − 1 (ring), or S (a whole processor).
+-- Document 01, "Demand, supply, and the report's test" (RULES 2.2): a reserve is 1 to S − 1 (ring), or S (a whole processor).
 use Prim.Native.Nat.{ℕ, _≤_, _<_, _^_}
 use mathlib.Core.List.{List}
 use lib.ListN.{length, getD}

@@ -1,5 +1,5 @@
 -- The servers that have a whole processor, in server order.
--- Document 01, "From tasks to servers to ring", rule 4.
+-- Document 01, "From tasks to servers to ring", rule 4 (RULES 3.4).
 use Prim.Native.Nat.{ℕ, zero, suc}
 use mathlib.Core.List.{List, [], _∷_}
 use mathlib.Core.Bool.{cond}

@@ -1,5 +1,5 @@
 -- Which server's reserve covers a position of the ring, and the ticks to that reserve's end.
--- Document 01, "From tasks to servers to ring", rules 3 and 5.
+-- Document 01, "From tasks to servers to ring", rules 3 and 5 (RULES 3.3 and 3.5).
 use Prim.Native.Nat.{ℕ, zero, suc, _+_, _-_}
 use mathlib.Core.List.{List}
 use mathlib.Core.Bool.{Bool, true, false, cond, _&&_}

@@ -1,5 +1,5 @@
 -- The phase rule: the one place that turns a tick and a ring processor into a position.
--- Document 01, "From tasks to servers to ring", rule 4.
+-- Document 01, "From tasks to servers to ring", rule 4 (RULES 3.4).
 use Prim.Native.Nat.{ℕ, _+_, _*_, _-_, _%_}
 use Rattle.ring.specs.declared.clock.Tick.{Tick}
 use Rattle.ring.specs.declared.clock.Position.{Position}

@@ -1,5 +1,5 @@
 -- Who runs on a processor at a tick, and for how long; and the first reserve of each processor.
--- Document 01, "From tasks to servers to ring", rules 4 and 5, and the question "who runs".
+-- Document 01, "From tasks to servers to ring", rules 4 and 5 (RULES 3.4 and 3.5), and the question "who runs".
 use Prim.Native.Nat.{ℕ, _-_, _*_, _%_}
 use mathlib.Core.List.{List}
 use mathlib.Core.Bool.{cond}

@@ -1,5 +1,5 @@
 -- The processor ticks that a server holds, counted from the rota: at each tick, over the processors that are there.
--- Document 01: "In any S consecutive ticks a server holds exactly R processor ticks, counted from the rota tick by tick".
+-- Document 01: "In any S consecutive ticks a server holds exactly R processor ticks, counted from the rota tick by tick" (RULES 3.6).
 use Prim.Native.Nat.{ℕ, zero, suc, _+_}
 use mathlib.Core.List.{List}
 use mathlib.Core.Bool.{Bool, cond}

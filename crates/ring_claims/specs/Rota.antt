@@ -1,5 +1,5 @@
 -- The printed rota unrolled, from what a boot code has: the printed plan, and nothing else.
--- Document 01, "From tasks to servers to ring", rules 3 to 5, and "Lines of hexadecimal": a processor starts with its first reserve;
+-- Document 01, "From tasks to servers to ring", rules 3 to 5 (RULES 3.3 to 3.5), and "Lines of hexadecimal" (RULES 5): a processor starts with its first reserve;
 -- each duration is counted down; then comes whoever starts where it ended, or the idle positions, and at the ring's end position 0.
 use Prim.Native.Nat.{ℕ, zero, suc, _+_, _*_, _-_, _%_, _≤_}
 use mathlib.Core.Path.{_≡_}

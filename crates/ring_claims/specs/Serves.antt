@@ -1,5 +1,5 @@
 -- Which server a processor serves at a tick, and which ticks are usable to a server.
--- Document 01, "From tasks to servers to ring", rules 3 to 5 and what follows them.
+-- Document 01, "From tasks to servers to ring", rules 3 to 5 (RULES 3.3 to 3.5) and what follows them.
 use Prim.Native.Nat.{ℕ, _+_, _-_, _%_, _≤_, _<_}
 use mathlib.Core.Path.{_≡_}
 use mathlib.Core.List.{List}

@@ -1,5 +1,5 @@
 -- Counting ticks of a window one by one, and the ticks that a reserve makes usable where it stands.
--- Document 01, "From tasks to servers to ring": usable ticks; a cut reserve; a smaller reserve for a whole-processor server.
+-- Document 01, "From tasks to servers to ring" (RULES 3): usable ticks; a cut reserve; a smaller reserve for a whole-processor server.
 use Prim.Native.Nat.{ℕ, zero, suc, _+_, _%_, _≤_, _<_}
 use mathlib.Core.Path.{_≡_}
 use mathlib.Core.List.{List}

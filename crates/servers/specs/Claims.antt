@@ -1,5 +1,5 @@
 -- What is claimed of placing, each claim as a type. The proofs stand under the same names in proofs/Claims.antt.
--- Document 01, "From tasks to servers to ring", rule 1.
+-- Document 01, "From tasks to servers to ring", rule 1 (RULES 3.1).
 use Prim.Native.Nat.{ℕ, suc, _≤_, _<_}
 use mathlib.Core.Path.{_≡_}
 use mathlib.Core.Logic.{_⊎_}

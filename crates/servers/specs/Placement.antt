@@ -1,6 +1,6 @@
 -- Placing: each task in file order joins a server that takes it, otherwise it opens a new one. By first fit that server is the
 -- lowest-numbered. A placement is the list of each task's server, in file order; servers count from 1.
--- Document 01, "From tasks to servers to ring", rule 1 (the report's Alg. 1).
+-- Document 01, "From tasks to servers to ring", rule 1 (RULES 3.1) (the report's Alg. 1).
 use Prim.Native.Nat.{ℕ, suc, max}
 use mathlib.Core.List.{List, [], _∷_, _++_}
 use Rattle.demand.specs.Load.{Load}

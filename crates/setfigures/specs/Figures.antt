@@ -1,5 +1,5 @@
 -- The own figures of a set's tasks, in file order, and their numbers with the unused room at zero.
--- Document 01, "The numbers of a task set".
+-- Document 01, "The numbers of a task set" (RULES 1).
 use Prim.Native.Nat.{ℕ, _*_}
 use mathlib.Core.List.{List, map}
 use lib.ListN.{replicate}

@@ -1,5 +1,5 @@
 -- What is claimed of sizing, each claim as a type. The proofs stand under the same names in proofs/Claims.antt.
--- Document 01, "From tasks to servers to ring", rule 2.
+-- Document 01, "From tasks to servers to ring", rule 2 (RULES 3.2).
 use Prim.Native.Nat.{ℕ, _-_, _≤_}
 use mathlib.Core.Path.{_≡_}
 use mathlib.Core.List.{List}

@@ -1,5 +1,5 @@
 -- The reserve of each server of a placement, whatever placement that is, in server order.
--- Document 01, "From tasks to servers to ring", rule 2.
+-- Document 01, "From tasks to servers to ring", rule 2 (RULES 3.2).
 use Prim.Native.Nat.{ℕ, suc}
 use mathlib.Core.List.{List}
 use Rattle.demand.specs.Load.{Load}

@@ -1,4 +1,4 @@
--- What is promised of the switch list of a plan and of a task file, in the words of document 02, Req 01.
+-- What is promised of the switch list of a plan and of a task file, in the words of document 02, Req 01 (RULES 4.3 to 4.5).
 -- The proofs stand in proofs/Claims.antt, one for each claim. What the list of a ring holds is claimed in turn_claims.
 use Prim.Native.Nat.{ℕ, _*_, _%_, _≤_}
 use mathlib.Core.Path.{_≡_}

@@ -1,5 +1,5 @@
 -- The switch list of a task file: the 21 lines of its plan, or the refusal of reading it or of planning it.
--- Document 02, Req 01.
+-- Document 02, Req 01 (RULES 4.3 to 4.5).
 use Prim.Native.Nat.{ℕ}
 use mathlib.Core.List.{List}
 use Rattle.refusals.specs.declared.Written.{Written}

@@ -1,5 +1,5 @@
 -- Whether a server takes a task. A placement is the list of each task's server, in file order; servers count from 1.
--- Document 01, "From tasks to servers to ring", rule 1 (the report's Ineq. 1).
+-- Document 01, "From tasks to servers to ring", rule 1 (RULES 3.1) (the report's Ineq. 1).
 use Prim.Native.Nat.{ℕ}
 use mathlib.Core.List.{List, [], _∷_, _++_}
 use mathlib.Core.Bool.{Bool}

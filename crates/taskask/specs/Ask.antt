@@ -1,5 +1,5 @@
 -- Row 11 of a task set, with rows 3 and 4 of a set's figures.
--- Document 01, "Refusal numbers and their order", rows 3, 4 and 11.
+-- Document 01, "Refusal numbers and their order" (RULES 6), rows 3, 4 and 11.
 use mathlib.Core.List.{List, [], _∷_}
 use mathlib.Core.Bool.{Bool, false, _||_}
 use lib.Dec.{ltb, eqb}

@@ -1,5 +1,5 @@
 -- A task file's lines, counted from 1, and the rows that reading tests at each line.
--- Document 01, "Lines of hexadecimal" and rows 1 to 4 of the refusals.
+-- Document 01, "Lines of hexadecimal" (RULES 5) and rows 1 to 4 of the refusals (RULES 6.1 and 6.2).
 use Prim.Native.Nat.{ℕ, zero, suc, pred}
 use mathlib.Core.List.{List, [], _∷_, _++_}
 use mathlib.Core.Bool.{Bool, true, false, not, cond, _&&_, _||_}

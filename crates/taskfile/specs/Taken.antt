@@ -1,5 +1,5 @@
 -- Where the reader stands after some lines.
--- Document 01, "Reading takes lines in order".
+-- Document 01, "Reading takes lines in order" (RULES 6.2).
 use Prim.Native.Nat.{ℕ, _+_, _≤_}
 use mathlib.Core.List.{List, map}
 use mathlib.Core.Path.{_≡_}

@@ -1,5 +1,5 @@
 -- A task file taken to its set and its plan, or to the refusal of reading it or of planning it.
--- Document 01, "From tasks to servers to ring": a refusal has the all-zero set and the all-zero plan.
+-- Document 01, "From tasks to servers to ring" (RULES 3): a refusal has the all-zero set and the all-zero plan.
 use Prim.Native.Nat.{ℕ}
 use mathlib.Core.List.{List}
 use Rattle.refusals.specs.declared.Refusal.{Refusal}

@@ -1,5 +1,5 @@
 -- What reading a task file answers: the set, or the first refusal of rows 1 to 6 and the all-zero set.
--- Document 01, "Refusal numbers and their order".
+-- Document 01, "Refusal numbers and their order" (RULES 6).
 use Prim.Native.Nat.{ℕ, _+_, _*_}
 use mathlib.Core.List.{List}
 use lib.ListN.{length}

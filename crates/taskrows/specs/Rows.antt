@@ -1,5 +1,5 @@
 -- Rows 5 and 6 of the refusals, over the figures of a task set.
--- Document 01, "Refusal numbers and their order".
+-- Document 01, "Refusal numbers and their order" (RULES 6).
 use mathlib.Core.Bool.{Bool, not, _&&_, _||_}
 use lib.Dec.{leb, eqb}
 use Rattle.refusals.specs.declared.Refusal.the-variants.{Board, Range}

@@ -1,5 +1,5 @@
 -- A test over the tasks in their order: whether it holds of some, and the first for which it does.
--- Document 01, "Refusal numbers and their order": first task first.
+-- Document 01, "Refusal numbers and their order" (RULES 6): first task first.
 use Prim.Native.Nat.{ℕ, zero, suc}
 use mathlib.Core.List.{List, [], _∷_}
 use mathlib.Core.Bool.{Bool, false, cond, _||_}

@@ -1,5 +1,5 @@
 -- The task set as a value: its tasks in file order, the all-zero set, and the set with its unused room at zero.
--- Document 01, "The numbers of a task set" and "Refusal numbers and their order".
+-- Document 01, "The numbers of a task set" (RULES 1) and "Refusal numbers and their order" (RULES 6).
 use Prim.Native.Nat.{ℕ, _+_, _-_}
 use mathlib.Core.List.{List, _++_}
 use mathlib.Core.Bool.{Bool}

@@ -1,6 +1,6 @@
 -- What is claimed of task files: each refusal of reading exactly when its row says, what an accepted file is,
 -- what a write answers and leaves, and that reading and writing undo each other.
--- Document 01, "Refusal numbers and their order" and "How tight each promise is".
+-- Document 01, "Refusal numbers and their order" (RULES 6) and "How tight each promise is".
 use Prim.Native.Nat.{ℕ, zero, suc, pred, _+_, _<_, _≤_}
 use mathlib.Core.List.{List, []}
 use mathlib.Core.Bool.{Bool, true, false}

@@ -1,5 +1,5 @@
 -- The text of a task set.
--- Document 01, "Lines of hexadecimal": a task file is one 01 then 02 lines.
+-- Document 01, "Lines of hexadecimal" (RULES 5): a task file is one 01 then 02 lines.
 use Prim.Native.Nat.{ℕ, _*_, _-_}
 use mathlib.Core.List.{List, [], _∷_, _++_}
 use lib.ListN.{getD}

@@ -1,5 +1,5 @@
 -- What writing a task set answers, and what the lent bytes then hold.
--- Document 01, rows 11 and 12 of the refusals.
+-- Document 01, rows 11 and 12 of the refusals (RULES 6.5).
 use Prim.Native.Nat.{ℕ}
 use mathlib.Core.Path.{_≡_}
 use mathlib.Core.List.{List}

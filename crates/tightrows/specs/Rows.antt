@@ -1,5 +1,5 @@
 -- Rows 7 and 8 of the refusals, each by its own test on a task.
--- Document 01, "Refusal numbers and their order".
+-- Document 01, "Refusal numbers and their order" (RULES 6).
 use mathlib.Core.Bool.{Bool, _||_}
 use lib.Dec.{leb, ltb}
 use Rattle.tasks.specs.declared.set.Header.{Header}

@@ -1,5 +1,5 @@
 -- An answer told in numbers: a status, and the numbers in lent memory.
--- Document 01, the two questions, and "Refusal numbers and their order".
+-- Document 01, the two questions (RULES 4.1 and 4.2), and "Refusal numbers and their order" (RULES 6).
 use Prim.Native.Nat.{ℕ, _+_, _*_}
 use mathlib.Core.List.{List, [], _∷_}
 use mathlib.Core.Bool.{cond}
@@ -10,9 +10,6 @@ use Rattle.refusals.specs.Refused.{numberOf, placeOf}
 use Rattle.refusals.specs.declared.Refusal.the-variants.{Room}
 use Rattle.refusals.specs.declared.Outcome.{Outcome}
 use Rattle.refusals.specs.declared.Outcome.the-variants.{Done, Refused}
-use Rattle.verdict.specs.declared.answer.Reading.{Reading}
-use Rattle.verdict.specs.declared.answer.Verdict.{Verdict}
-use Rattle.verdict.specs.declared.answer.Verdict.the-variants.{Yes, No}
 
 -- 0, or number · 256 + place of a refusal
 abbrev pub statusOf : Outcome → ℕ
@@ -28,8 +25,3 @@ toldOf (Refused r) numbers answer = Refused r
 abbrev pub leavesNumbers : Outcome → (numbers answer : List ℕ) → List ℕ
 leavesNumbers Done numbers answer = stored answer 0 numbers
 leavesNumbers (Refused r) numbers answer = answer
-
--- yes with three zeros, or no with the smallest failing length, the demand and the supply there
-abbrev pub verdictNumbers : Verdict → List ℕ
-verdictNumbers (Yes reading) = 1 ∷ 0 ∷ 0 ∷ 0 ∷ []
-verdictNumbers (No reading) = 0 ∷ reading .length ∷ reading .demand ∷ reading .supply ∷ []

@@ -7,7 +7,8 @@ use refusals::place;
 use verdict::answer::Verdict;
 ghost use mathlib.Core.Path.{_≡_};
 ghost use Rattle.refusals.specs.declared.Outcome.the-variants.{Done, Refused};
-ghost use Rattle.told.specs.Told.{statusOf, toldOf, leavesNumbers, verdictNumbers};
+ghost use Rattle.verdict.specs.Numbers.{verdictNumbers};
+ghost use Rattle.told.specs.Told.{statusOf, toldOf, leavesNumbers};
 
 // number · 256 + place
 pub fn code(refusal: Refusal) -> u64

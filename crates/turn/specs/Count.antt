@@ -1,5 +1,5 @@
 -- How many switches a turn has, and the most bytes that their text can have.
--- Document 02, Req 01.
+-- Document 02, Req 01 (RULES 4.3 to 4.5).
 use Prim.Native.Nat.{ℕ, zero, suc, _+_, _*_, _-_}
 use mathlib.Core.List.{List}
 use mathlib.Core.Bool.{cond}

@@ -1,5 +1,5 @@
 -- The stretches of the ring: one for each ring server's reserve, in server order, and the idle positions behind the last.
--- Document 01, "From tasks to servers to ring", rule 3. Server 0 is the idle stretch.
+-- Document 01, "From tasks to servers to ring", rule 3 (RULES 3.3). Server 0 is the idle stretch.
 use Prim.Native.Nat.{ℕ, zero, suc, _+_, _%_, _≤_, _<_}
 use mathlib.Core.Path.{_≡_}
 use mathlib.Core.List.{List}

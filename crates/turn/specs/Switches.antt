@@ -1,5 +1,5 @@
 -- The switches of one turn of r·S ticks, and their text: every moment when some ring processor changes server or goes idle.
--- Document 02, Req 01.
+-- Document 02, Req 01 (RULES 4.3 to 4.5).
 use Prim.Native.Nat.{ℕ, zero, suc}
 use mathlib.Core.List.{List, [], _∷_, _++_}
 use mathlib.Core.Bool.{Bool, true, cond, not}

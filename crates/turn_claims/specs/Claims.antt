@@ -1,4 +1,4 @@
--- What is promised of the switches of a turn, in the words of document 02, Req 01.
+-- What is promised of the switches of a turn, in the words of document 02, Req 01 (RULES 4.3 to 4.5).
 -- The proofs stand in proofs/Claims.antt, one for each claim.
 use Prim.Native.Nat.{ℕ, suc, _+_, _%_, _≤_, _<_, _^_}
 use mathlib.Core.Path.{_≡_}

@@ -1,5 +1,5 @@
 -- What is said of a list of switches: what stands in it, in which order, and whom it names when the boot code has loaded it.
--- Document 02, Req 01.
+-- Document 02, Req 01 (RULES 4.3 to 4.5).
 use Prim.Native.Nat.{ℕ, suc, _≤_, _<_}
 use mathlib.Core.Path.{_≡_}
 use mathlib.Core.List.{List, [], _∷_}

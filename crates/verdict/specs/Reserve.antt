@@ -1,5 +1,5 @@
 -- The smallest allowed reserve with which a demand passes.
--- Document 01, "From tasks to servers to ring", 2.
+-- Document 01, "From tasks to servers to ring", 2 (RULES 3.2).
 use Prim.Native.Nat.{ℕ, _-_, _≤_}
 use mathlib.Core.Bool.{Bool, _&&_}
 use lib.Dec.{ltb}

@@ -1,5 +1,5 @@
 -- The least common multiple of two numbers, and of a first number and a list; and what a function answers under a limit.
--- Document 01: "The horizon H is the least common multiple of S and every T of the file, at most 10,000,000".
+-- Document 01: "The horizon H is the least common multiple of S and every T of the file, at most 10,000,000" (RULES 1.4).
 use Prim.Native.Nat.{ℕ, _*_, _/_, _≤_, _<_, _∣_}
 use mathlib.Core.List.{List, [], _∷_}
 use mathlib.Core.Bool.{Bool, true, false, cond}

@@ -1,5 +1,5 @@
 -- The question who runs on a processor at a tick, about a set and its plan.
--- Document 01, "From tasks to servers to ring" and row 11 of the refusals.
+-- Document 01, "From tasks to servers to ring" (RULES 4.1) and row 11 of the refusals (RULES 6.5).
 use Prim.Native.Nat.{ℕ}
 use mathlib.Core.Bool.{cond, _&&_}
 use Rattle.refusals.specs.declared.Refusal.{Refusal}

@@ -1,5 +1,5 @@
 -- The usable ticks of a reserve that stands once a slot, from any start, in any window; and when windows cover a demand.
--- Document 01, "From tasks to servers to ring": usable ticks, a cut reserve, a smaller reserve for a whole-processor server.
+-- Document 01, "From tasks to servers to ring" (RULES 3): usable ticks, a cut reserve, a smaller reserve for a whole-processor server.
 use Prim.Native.Nat.{ℕ, zero, suc, _+_, _-_, _%_, _≤_}
 use mathlib.Core.Bool.{Bool, true, false, cond, _&&_}
 use lib.Dec.{leb, ltb}

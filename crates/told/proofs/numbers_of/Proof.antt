@@ -1,7 +1,7 @@
 -- `told::numbers_of` meets its contract, by the verdict. Assumes nothing.
 use borrow.Author.Needs.{needs}
 use mathlib.Core.Path.{sym, ap}
-use Rattle.told.specs.Told.{verdictNumbers}
+use Rattle.verdict.specs.Numbers.{verdictNumbers}
 use Rattle.told.proofs.numbers_of.Statement.{statement}
 use Rattle.told.proofs.numbers_of.Tie as tie
 use Rattle.told.proofs.numbers_of.Reads as reads

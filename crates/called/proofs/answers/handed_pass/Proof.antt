@@ -8,7 +8,8 @@ use Rattle.tasks.specs.declared.set.TaskSet.{TaskSet}
 use Rattle.plan.specs.declared.plan.Plan.{Plan}
 use Rattle.doespass.specs.declared.PassAnswer.{PassAnswer}
 use Rattle.doespass.specs.DoesPass.{doesPass}
-use Rattle.told.specs.Told.{statusOf, leavesNumbers, verdictNumbers}
+use Rattle.verdict.specs.Numbers.{verdictNumbers}
+use Rattle.told.specs.Told.{statusOf, leavesNumbers}
 use Rattle.told.proofs.ToldLaws.{Told, told-by, told-refused}
 use Rattle.called.specs.Called.{passHanded, passNumbers, passTold}
 use Rattle.called.proofs.answers.handed_pass.Statement.{statement}

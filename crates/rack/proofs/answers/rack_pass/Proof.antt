@@ -5,7 +5,8 @@ use mathlib.Core.List.{List}
 use Rattle.refusals.specs.declared.Outcome.{Outcome}
 use Rattle.doespass.specs.declared.PassAnswer.{PassAnswer}
 use Rattle.askfile.specs.OfFile.{passIn}
-use Rattle.told.specs.Told.{statusOf, leavesNumbers, verdictNumbers}
+use Rattle.verdict.specs.Numbers.{verdictNumbers}
+use Rattle.told.specs.Told.{statusOf, leavesNumbers}
 use Rattle.rack.specs.Rack.{passNumbers, passTold}
 use Rattle.told.proofs.ToldLaws.{Told, told-by, told-refused}
 use borrow.Author.Needs.{needs}
