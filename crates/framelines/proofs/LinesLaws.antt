@@ -93,13 +93,14 @@ module _ {frame : Frame} {b : List ℕ} {at : ℕ} {values : List ℕ} {n : ℕ}
   put-values h enough = omega (arith, put .taken, suc-mul i (fieldsIn frame), mul-le-mul-right (fieldsIn frame) h)
 
   -- the next line, put right behind those before it
-  pub put-next : {left : List ℕ} → i < n → at + n * (lengthOf frame + 1) ≤ length b
+  pub put-next : {left : List ℕ} {next′ from′ : ℕ} → i < n → at + n * (lengthOf frame + 1) ≤ length b
       → left ≡ stored out next (lineOf frame (drop from values)) → length left ≡ length out
-      → Put frame b at values n left (next + (lengthOf frame + 1)) (from + fieldsIn frame) (i + 1)
-  put-next {left} h fits e same = record {
+      → next′ ≡ next + (lengthOf frame + 1) → from′ ≡ from + fieldsIn frame
+      → Put frame b at values n left next′ from′ (i + 1)
+  put-next {left} h fits e same ends on = record {
     within = omega arith;
-    there = omega (arith, put .there, suc-mul i (lengthOf frame + 1));
-    taken = omega (arith, put .taken, suc-mul i (fieldsIn frame));
+    there = omega (arith, ends, put .there, suc-mul i (lengthOf frame + 1));
+    taken = omega (arith, on, put .taken, suc-mul i (fieldsIn frame));
     same = same ∙ put .same;
     holds = e ∙ ap (λ (o : List ℕ). stored o next (lineOf frame (drop from values))) (put .holds) ∙ ap₂ (λ (j k : ℕ). stored (stored b at (linesOf frame values i)) j (lineOf frame (drop k values))) (put .there ∙ ap (λ (m : ℕ). at + m) (sym (lines-length frame values i))) (put .taken) ∙ stored-stored b at (linesOf frame values i) (lineOf frame (drop (i * fieldsIn frame) values)) (omega (arith, lines-length frame values i, line-length frame (drop (i * fieldsIn frame) values), put .there, put-room h fits)) ∙ ap (stored b at) (sym (lines-next frame values i) ∙ ap (linesOf frame values) (sym (add-one i)));
   }

@@ -2,9 +2,9 @@
 pub mod figures; // figures.rt: figures copied to their place among numbers
 
 use frames::table::Frame;
-use framesizes::fields_in;
+use frames::table::row_of;
 use framesizes::length;
-use framewrite::put_line;
+use framewrite::put_row;
 ghost use mathlib.Core.Path.{_≡_};
 ghost use Prim.Native.Nat.{_+_, _*_, _≤_};
 ghost use lib.ListN.{length as count};
@@ -18,14 +18,13 @@ pub fn put_lines(out: &mut [u8], at: usize, frame: Frame, values: &[u64], n: usi
     requires { ⌜ at + n * (lengthOf frame + 1) ≤ count (now out) ⌝ }
     ensures { λ r. ⌜ now (out .exit) ≡ stored (now (out .entry)) at (linesOf frame (now (values .entry)) n) ⌝ }
 {
-    let each = length(frame) + 1;
-    let fields = fields_in(frame);
+    let row = row_of(frame);
+    let fields = row.fields;
     let mut next = at;
     let mut from = 0;
     let mut done = 0;
     while done < n {
-        put_line(out, next, frame, &values[from..]);
-        next += each;
+        next = put_row(out, next, row, &values[from..]);
         from += fields;
         done += 1;
     }

@@ -2,9 +2,10 @@
 -- Document 01, "Lines of hexadecimal".
 use Prim.Native.Nat.{ℕ, _-_, _^_}
 use mathlib.Core.List.{List, [], _∷_, _++_}
-use lib.ListN.{replicate}
+use lib.ListN.{take, replicate}
 use Rattle.digits.specs.Number.{hex}
 use Rattle.frames.specs.declared.table.Frame.{Frame}
+use Rattle.frames.specs.declared.table.Row.{Row}
 use Rattle.frames.specs.Table.{LF, kindOf, widthsOf}
 
 -- the mark FFFFFFFF, the ring start of a server on a whole processor: its digits, and the number that they are
@@ -26,3 +27,11 @@ fields (w ∷ ws) (v ∷ vs) = hex w v ++ fields ws vs
 -- the line of a frame with these values, closed by its LF
 unfoldable pub lineOf : Frame → List ℕ → List ℕ
 lineOf frame values = kindOf frame ++ (fields (widthsOf frame) values ++ (LF ∷ []))
+
+-- the widths of the fields that a row of the table has
+abbrev pub rowWidths : Row → List ℕ
+rowWidths row = take (row .fields) (row .widths)
+
+-- the line of a row of the table with these values, closed by its LF
+unfoldable pub lineBy : Row → (values : List ℕ) → List ℕ
+lineBy row values = row .kind ++ (fields (rowWidths row) values ++ (LF ∷ []))

@@ -1,15 +1,13 @@
 // A line of a frame, written to a place in a lent buffer from the values of its fields.
 use digits::put_number;
 use frames::table::Frame;
+use frames::table::Row;
 use frames::table::row_of;
-use framesizes::fields_in;
-use framesizes::length;
-use framesizes::width;
 ghost use mathlib.Core.Path.{_≡_};
 ghost use Prim.Native.Nat.{_+_, _≤_};
 ghost use lib.ListN.{length as count};
-ghost use Rattle.frames.specs.Table.{lengthOf, widthsOf, fieldsIn, sum};
-ghost use Rattle.framewrite.specs.Line.{markWidth, markOf, fields, lineOf};
+ghost use Rattle.frames.specs.Table.{lengthOf, fieldsIn, mostFields, sum};
+ghost use Rattle.framewrite.specs.Line.{markWidth, markOf, fields, rowWidths, lineBy, lineOf};
 ghost use Rattle.digits.specs.Number.{hex};
 ghost use Rattle.digits.specs.Stored.{stored};
 
@@ -54,33 +52,46 @@ fn put_value(out: &mut [u8], at: usize, digits: usize, value: u64)
     put_number(out, at, digits, value);
 }
 
-// Writes the fields of a line, one after the other.
-fn put_fields(out: &mut [u8], at: usize, frame: Frame, values: &[u64])
-    requires { ⌜ fieldsIn frame ≤ count (now values) ⌝ }
-    requires { ⌜ at + sum (widthsOf frame) ≤ count (now out) ⌝ }
-    ensures { λ r. ⌜ now (out .exit) ≡ stored (now (out .entry)) at (fields (widthsOf frame) (now (values .entry))) ⌝ }
+// Writes the fields of a line, one after the other, and says where they end.
+fn put_fields(out: &mut [u8], at: usize, row: Row, values: &[u64]) -> usize
+    requires { ⌜ (row .fields ≤ mostFields) × (row .fields ≤ count (now values)) ⌝ }
+    requires { ⌜ at + sum (rowWidths row) ≤ count (now out) ⌝ }
+    ensures { λ r. ⌜ r ≡ at + sum (rowWidths row) ⌝ }
+    ensures { λ r. ⌜ now (out .exit) ≡ stored (now (out .entry)) at (fields (rowWidths row) (now (values .entry))) ⌝ }
 {
-    let n = fields_in(frame);
+    let n = row.fields;
+    let widths = row.widths;
     let mut start = at;
     let mut i = 0;
     while i < n {
-        let digits = width(frame, i);
+        let digits = widths[i] as usize;
         put_value(out, start, digits, values[i]);
         start += digits;
         i += 1;
     }
+    start
 }
 
-// Writes a line with its LF.
+// Writes a line with its LF, by its row of the table, and says where it ends. Whoever writes many lines of a frame takes the row once.
+pub fn put_row(out: &mut [u8], at: usize, row: Row, values: &[u64]) -> usize
+    requires { ⌜ (row .fields ≤ mostFields) × (row .fields ≤ count (now values)) ⌝ }
+    requires { ⌜ at + 2 + sum (rowWidths row) + 1 ≤ count (now out) ⌝ }
+    ensures { λ r. ⌜ r ≡ at + 2 + sum (rowWidths row) + 1 ⌝ }
+    ensures { λ r. ⌜ now (out .exit) ≡ stored (now (out .entry)) at (lineBy row (now (values .entry))) ⌝ }
+{
+    let kind = row.kind;
+    put_bytes(out, at, &kind);
+    let end = put_fields(out, at + 2, row, values);
+    out[end] = b'\n';
+    end + 1
+}
+
+// Writes a line of a frame with its LF.
 pub fn put_line(out: &mut [u8], at: usize, frame: Frame, values: &[u64])
     requires { ⌜ fieldsIn frame ≤ count (now values) ⌝ }
     requires { ⌜ at + lengthOf frame + 1 ≤ count (now out) ⌝ }
     ensures { λ r. ⌜ now (out .exit) ≡ stored (now (out .entry)) at (lineOf frame (now (values .entry))) ⌝ }
 {
     let row = row_of(frame);
-    let kind = row.kind;
-    put_bytes(out, at, &kind);
-    put_fields(out, at + 2, frame, values);
-    let end = at + length(frame);
-    out[end] = b'\n';
+    put_row(out, at, row, values);
 }

@@ -2,7 +2,7 @@
 -- Assumes nothing.
 use Prim.Native.Nat.{ℕ, suc, _+_, _≤_, _<_}
 use mathlib.Core.Path.{_≡_, refl, sym, ap, ap₂, subst, _∙_}
-use mathlib.Core.List.{List, [], _∷_}
+use mathlib.Core.List.{List}
 use mathlib.Core.Bool.{true}
 use native.Mathlib.Decide.{decLt}
 use native.Mathlib.Omega.{arith}
@@ -12,12 +12,10 @@ use Rattle.digits.specs.Stored.{stored}
 use Rattle.digits.proofs.Stored.{stored-nil, stored-stored}
 use Rattle.frames.specs.declared.table.Frame.{Frame}
 use Rattle.frames.specs.Table.{lengthOf}
-use Rattle.framewrite.specs.Line.{lineOf}
-use Rattle.ring.specs.declared.cover.Stand.{Stand}
-use Rattle.ring.specs.Who.{whoOf}
 use Rattle.ring_claims.specs.Slotted.{Slotted}
 use Rattle.reserves.specs.Reserves.{ringProcessors}
 use Rattle.turn.specs.Switches.{Switch, runs, switches, switchesAt, switchLine, switchLines}
+use Rattle.walk.specs.declared.Switched.{Switched}
 use Rattle.walk.specs.Walk.{Carried, serverBefore, untilBefore}
 use Rattle.walk.proofs.LinesLaws.{at-over, at-on, at-bytes, line-bytes}
 use Rattle.walk.proofs.StepLaws.{until-ahead, is-over, runs-on, server-on, until-on}
@@ -92,41 +90,40 @@ module _ {S : ℕ} {rs : List ℕ} (res : Slotted S rs) {x n : ℕ} (few : n ≤
         ∙ ap (λ (k : ℕ). length (switchLines (switchesAt S rs x i)) + k) (line-bytes here)
 
     -- there is room for its line
-    pub walked-room : next + (lengthOf Frame.Switch + 1) ≤ length b
+    pub walked-room : next + lengthOf Frame.Switch + 1 ≤ length b
     walked-room = omega (arith, walked .there, here-bytes, at-bytes S rs x (suc i) n h)
 
     -- a processor whose time is over: its line is put, and its place carries what begins
-    pub walked-over : {p : ℕ} {stand : Stand} {left : List ℕ} → p ≡ suc i → stand ≡ whoOf S rs p (record { 0 = x })
-        → left ≡ stored out next (lineOf Frame.Switch (x ∷ p ∷ stand .server ∷ [])) → length left ≡ length out
-        → Walked S rs x n b at left (set servers i (stand .server)) (set untils i (x + stand .left)) (next + (lengthOf Frame.Switch + 1)) (suc i)
-    unfolding switchLine
-    walked-over {p} {stand} {left} one is-who put same = record {
+    pub walked-over : {p : ℕ} {put : Switched} {left : List ℕ} → p ≡ suc i
+        → put ≡ record { at = next + lengthOf Frame.Switch + 1; server = serverBefore S rs p (suc x); until = untilBefore S rs p (suc x) }
+        → left ≡ stored out next (switchLine (record { tick = x; processor = p; server = runs S rs p x })) → length left ≡ length out
+        → Walked S rs x n b at left (set servers i (put .server)) (set untils i (put .until)) (put .at) (suc i)
+    walked-over {p} {put} {left} one is-put line same = record {
       within = h;
       past = record {
-        server = λ k l m. place-set (λ (k : ℕ). runs S rs (suc k) x) i (stand .server) servers servers-there (ap (λ (s : Stand). s .server) e) (λ k m. walked .past .server k (omega arith) m) k m;
-        until = λ k l m. place-set (λ (k : ℕ). x + whoOf S rs (suc k) (record { 0 = x }) .left) i (x + stand .left) untils untils-there (ap (λ (s : Stand). x + s .left) e) (λ k m. walked .past .until k (omega arith) m) k m;
-        servers-room = omega (arith, servers-there, length-set servers i (stand .server));
-        until-room = omega (arith, untils-there, length-set untils i (x + stand .left));
+        server = λ k l m. place-set (λ (k : ℕ). serverBefore S rs (suc k) (suc x)) i (put .server) servers servers-there (ap (λ (s : Switched). s .server) e) (λ k m. walked .past .server k (omega arith) m) k m;
+        until = λ k l m. place-set (λ (k : ℕ). untilBefore S rs (suc k) (suc x)) i (put .until) untils untils-there (ap (λ (s : Switched). s .until) e) (λ k m. walked .past .until k (omega arith) m) k m;
+        servers-room = omega (arith, servers-there, length-set servers i (put .server));
+        until-room = omega (arith, untils-there, length-set untils i (put .until));
       };
       ahead = record {
-        server = λ k l m. getD-set-other servers i k (stand .server) 0 (λ (c : k ≡ i). omega arith) ∙ walked .ahead .server k (omega arith) m;
-        until = λ k l m. getD-set-other untils i k (x + stand .left) 0 (λ (c : k ≡ i). omega arith) ∙ walked .ahead .until k (omega arith) m;
-        servers-room = omega (arith, walked .ahead .servers-room, length-set servers i (stand .server));
-        until-room = omega (arith, walked .ahead .until-room, length-set untils i (x + stand .left));
+        server = λ k l m. getD-set-other servers i k (put .server) 0 (λ (c : k ≡ i). omega arith) ∙ walked .ahead .server k (omega arith) m;
+        until = λ k l m. getD-set-other untils i k (put .until) 0 (λ (c : k ≡ i). omega arith) ∙ walked .ahead .until k (omega arith) m;
+        servers-room = omega (arith, walked .ahead .servers-room, length-set servers i (put .server));
+        until-room = omega (arith, walked .ahead .until-room, length-set untils i (put .until));
       };
-      there = omega (arith, walked .there, here-bytes);
+      there = omega (arith, ap (λ (s : Switched). s .at) e, walked .there, here-bytes);
       same = same ∙ walked .same;
       holds =
-          put
-          ∙ ap (λ (k : ℕ). stored out next (lineOf Frame.Switch (x ∷ k ∷ stand .server ∷ []))) one
-          ∙ ap₂ (λ (o : List ℕ) (k : ℕ). stored o k (lineOf Frame.Switch (x ∷ suc i ∷ stand .server ∷ []))) (walked .holds) (walked .there)
-          ∙ ap (λ (s : Stand). stored (stored b at (switchLines (switchesAt S rs x i))) (at + length (switchLines (switchesAt S rs x i))) (lineOf Frame.Switch (x ∷ suc i ∷ s .server ∷ []))) e
+          line
+          ∙ ap (λ (k : ℕ). stored out next (switchLine (record { tick = x; processor = k; server = runs S rs k x }))) one
+          ∙ ap₂ (λ (o : List ℕ) (k : ℕ). stored o k (switchLine here)) (walked .holds) (walked .there)
           ∙ stored-stored b at (switchLines (switchesAt S rs x i)) (switchLine here) (omega (arith, line-bytes here, walked-room, walked .there))
           ∙ ap (stored b at) (sym (at-over S rs x i here-over));
     }
       where
-        e : stand ≡ whoOf S rs (suc i) (record { 0 = x })
-        e = is-who ∙ ap (λ (k : ℕ). whoOf S rs k (record { 0 = x })) one
+        e : put ≡ record { at = next + lengthOf Frame.Switch + 1; server = serverBefore S rs (suc i) (suc x); until = untilBefore S rs (suc i) (suc x) }
+        e = is-put ∙ ap (λ (k : ℕ). record { at = next + lengthOf Frame.Switch + 1; server = serverBefore S rs k (suc x); until = untilBefore S rs k (suc x) }) one
 
   -- a processor that runs on: nothing is put, and its place carries what it did
   pub walked-on : (getD untils i 0 ≡ x → ⊥) → Walked S rs x n b at out servers untils next (suc i)

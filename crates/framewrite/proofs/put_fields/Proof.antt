@@ -1,56 +1,62 @@
 -- `framewrite::put_fields` meets its contract: the fields written so far are stored, one behind the other.
 -- Assumes nothing.
-use Prim.Native.Nat.{ℕ, _+_, _-_, _≤_}
+use Prim.Native.Nat.{ℕ, _+_, _-_, _≤_, _<_}
 use mathlib.Core.Path.{_≡_, refl, sym, _∙_, ap}
 use mathlib.Core.List.{List}
 use native.Mathlib.Omega.{arith}
-use lib.ListN.{length, take, getD}
-use lib.Seq.{take-all}
-use Rattle.frames.specs.Table.{sum, widthsOf}
-use Rattle.framewrite.specs.Line.{fields}
+use lib.ListN.{length, take, getD, length-take}
+use lib.Seq.{take-all, getD-take}
+use Rattle.frames.specs.Table.{sum}
+use Rattle.framewrite.specs.Line.{fields, rowWidths}
 use Rattle.digits.specs.Stored.{stored}
 use Rattle.digits.specs.Number.{hex}
 use Rattle.framewrite.proofs.Fields.{start-next, start-within, fields-next}
 use Rattle.digits.proofs.Stored.{stored-nil}
 use borrow.Author.Needs.{needs}
-use Rattle.frames.proofs.Tables.{fields-most}
 use Rattle.framewrite.proofs.put_fields.Statement.{statement}
 use Rattle.framewrite.proofs.put_fields.Tie as tie
 
 abbrev Inv-loop : tie.InvT-loop
-Inv-loop out₀ at frame values n start₀ i₀ out start i =
-    (i ≤ n) × (start ≡ at + sum (take i (widthsOf frame))) × (length out ≡ length out₀) × (out ≡ stored out₀ at (fields (take i (widthsOf frame)) values))
+Inv-loop out₀ at values n widths start₀ i₀ out start i =
+    (i ≤ n) × (start ≡ at + sum (take i (take n widths))) × (length out ≡ length out₀) × (out ≡ stored out₀ at (fields (take i (take n widths)) values))
 
 abbrev μ-loop : tie.MeasureT-loop
-μ-loop out₀ at frame values n start₀ i₀ out start i = n - i
+μ-loop out₀ at values n widths start₀ i₀ out start i = n - i
 
 loop-holds : tie.Need-loop-holds Inv-loop μ-loop
 unfolding sum fields
 loop-holds c = (omega arith, omega arith, refl, sym (stored-nil _ _))
 
-width-requires : tie.Need-width-requires Inv-loop μ-loop
-width-requires c κs = omega (arith, fields-most (c .before .before .before .before .before .args .frame))
+-- the next field: its width, and that it ends within the buffer
+module _ (c : tie.In-loop Inv-loop μ-loop) where
+  abbrev start : tie.Start Inv-loop μ-loop
+  start = c .before .before .before .before .before
+
+  abbrev ws : List ℕ
+  ws = rowWidths (start .args .row)
+
+  abbrev i : ℕ
+  i = c .before .loop .i
+
+  wide : getD (start .args .row .widths) i 0 ≡ getD ws i 0
+  wide = sym (getD-take (start .args .row .fields) (start .args .row .widths) i 0 (c .loop-test .taken))
+
+  within : c .before .loop .start + getD (start .args .row .widths) i 0 ≤ length (start .args .out .now)
+  within = omega (arith, start-within (start .args .out .now) (start .args .at) ws (start .args .values .now) i (c .before .loop .start) _ (c .before .loop .inv .1) wide, start .pre .1)
 
 mul-put-value : tie.Need-mul-put-value Inv-loop μ-loop
-mul-put-value c = omega (arith, fields-most (c .before .before .before .before .before .before .before .args .frame), c .before .before .before .before .fields-in .ensures)
+mul-put-value c = omega (arith, start (c .before) .pre .0 .0)
 
 shared-slice-read-put-value : tie.Need-shared-slice-read-put-value Inv-loop μ-loop
-shared-slice-read-put-value c = omega arith
+shared-slice-read-put-value c = omega (arith, start (c .before .before) .pre .0 .1)
 
 put-value-requires : tie.Need-put-value-requires Inv-loop μ-loop
-put-value-requires c κs =
-    let a = c .before .before .before .before .before .before .before .before .args in
-    let l = c .before .before .before .before .loop in
-    let w = c .before .before .width in
-    omega (arith, start-within (a .out .now) (a .at) (widthsOf (a .frame)) (a .values .now) (l .i) (l .start) (w .result) (l .inv .1) (w .ensures), l .inv .2, c .before .before .before .before .before .before .before .before .pre)
+put-value-requires c κs = omega (arith, within (c .before .before), c .before .before .before .loop .inv .2)
 
 add-start : tie.Need-add-start Inv-loop μ-loop
 add-start c =
-    let s = c .before .before .before .before .before .before .before .before .before .before .before in
-    let a = s .args in
-    let l = c .before .before .before .before .before .before .before .loop in
-    let w = c .before .before .before .before .before .width in
-    omega (arith, start-within (a .out .now) (a .at) (widthsOf (a .frame)) (a .values .now) (l .i) (l .start) (w .result) (l .inv .1) (w .ensures), s .pre, s .good)
+    let l = c .before .before .before .before .before in
+    omega (arith, within l, start l .good)
 
 add-i : tie.Need-add-i Inv-loop μ-loop
 add-i c = omega arith
@@ -60,28 +66,36 @@ loop-less c = omega arith
 
 loop-again : tie.Need-loop-again Inv-loop μ-loop
 loop-again c =
-    let s = c .before .before .before .before .before .before .before .before .before .before .before in
-    let a = s .args in
-    let l = c .before .before .before .before .before .before .before .loop in
-    let w = c .before .before .before .before .before .width in
+    let l = c .before .before .before .before .before in
+    let a = start l .args in
+    let now = l .before .loop in
     let written = c .before .before .put-value in (
       omega arith,
-      start-next (a .out .now) (a .at) (widthsOf (a .frame)) (a .values .now) (l .i) (l .start) (w .result) (l .inv .1) (w .ensures),
-      written .kept .0 ∙ l .inv .2,
+      start-next (a .out .now) (a .at) (ws l) (a .values .now) (i l) (now .start) _ (now .inv .1) (wide l),
+      written .kept .0 ∙ now .inv .2,
       written .ensures
-          ∙ ap (λ (o : List ℕ). stored o (l .start) (hex (w .result) (getD (a .values .now) (l .i) 0))) (l .inv .3)
-          ∙ fields-next (a .out .now) (a .at) (widthsOf (a .frame)) (a .values .now) (l .i) (l .start) (w .result) (l .inv .1) (w .ensures) (s .pre .1),
+          ∙ ap (λ (o : List ℕ). stored o (now .start) (hex (getD (a .row .widths) (i l) 0) (getD (a .values .now) (i l) 0))) (now .inv .3)
+          ∙ fields-next (a .out .now) (a .at) (ws l) (a .values .now) (i l) (now .start) _ (now .inv .1) (wide l) (start l .pre .1),
     )
 
 same-length : tie.Need-same-length Inv-loop μ-loop
 same-length c = c .before .loop .inv .2
 
+-- no width is left
+all-taken : (c : tie.After-loop Inv-loop μ-loop) →
+    let row = c .before .before .before .before .before .args .row in
+    take (c .before .loop .i) (rowWidths row) ≡ rowWidths row
+all-taken c =
+    let row = c .before .before .before .before .before .args .row in
+    take-all (c .before .loop .i) (rowWidths row) (omega (arith, length-take (row .fields) (row .widths), c .loop-test .left))
+
 returns : tie.Need-returns Inv-loop μ-loop
 returns c =
     let a = c .before .before .before .before .before .args in
-    let l = c .before .loop in
-    l .inv .3
-    ∙ ap (λ (ws : List ℕ). stored (a .out .now) (a .at) (fields ws (a .values .now))) (take-all (l .i) (widthsOf (a .frame)) (omega arith))
+    let now = c .before .loop in (
+      now .inv .1 ∙ ap (λ (l : List ℕ). a .at + sum l) (all-taken c),
+      now .inv .3 ∙ ap (λ (l : List ℕ). stored (a .out .now) (a .at) (fields l (a .values .now))) (all-taken c),
+    )
 
 pub put-fields-spec : {M : Type 1} → statement M
 put-fields-spec =
@@ -89,9 +103,9 @@ put-fields-spec =
     (tie.spec
     Inv-loop
     μ-loop
-    (λ c κs. search needs)
     loop-holds
-    width-requires
+    (λ c. search needs)
+    (λ c. search needs)
     mul-put-value
     shared-slice-read-put-value
     put-value-requires

@@ -1,50 +1,31 @@
--- `framewrite::put_line` meets its contract: the kind, the fields and the LF, stored one behind the other, are the line.
+-- `framewrite::put_line` meets its contract: the line of a frame's row is the frame's.
 -- Assumes nothing.
 use mathlib.Core.Path.{_∙_, ap}
 use native.Mathlib.Omega.{arith}
-use lib.ListN.{length, length-set}
-use Rattle.frames.specs.declared.table.Row.{Row}
-use Rattle.frames.specs.Table.{rowOf}
-use Rattle.frames.proofs.Tables.{kind-length}
-use Rattle.framewrite.proofs.LineLaws.{line-put}
+use Rattle.digits.specs.Stored.{stored}
+use Rattle.frames.proofs.Tables.{fields-most}
+use Rattle.framewrite.proofs.LineLaws.{row-fields, row-digits, row-line}
 use borrow.Author.Needs.{needs}
 use Rattle.framewrite.proofs.put_line.Statement.{statement}
 use Rattle.framewrite.proofs.put_line.Tie as tie
 
-put-bytes-requires : tie.Need-put-bytes-requires
-unfolding rowOf
-put-bytes-requires c κs =
-    omega (
-      arith,
-      ap (λ (r : Row). length (r .kind)) (c .before .before .before .row-of .ensures),
-      kind-length (c .before .before .before .before .before .before .args .frame),
+put-row-requires : tie.Need-put-row-requires
+put-row-requires c κs =
+    let s = c .before .before .before .before in
+    let frame = s .args .frame in
+    let row = c .before .row-of .ensures in (
+      (omega (arith, row-fields frame row, fields-most frame), omega (arith, row-fields frame row, s .pre .0)),
+      omega (arith, row-digits frame row, s .pre .1),
     )
 
 same-length : tie.Need-same-length
-same-length c = simp length-set (c .before .before .before .put-fields .kept .0 ∙ c .before .before .before .before .before .before .before .put-bytes .kept .0)
+same-length c = c .before .before .put-row .kept .0
 
 returns : tie.Need-returns
-unfolding rowOf
 returns c =
-    let s = c .before .before .before .before .before .before .before .before .before .before .before .before .before .before in
-    let a = s .args in
-    let row = c .before .before .before .before .before .before .before .before .before .before .before .row-of in
-    let size = c .length in
-    line-put (a .out .now) (a .at) (a .frame) (a .values .now) (row .result .kind) (size .result) (ap (λ (r : Row). r .kind) (row .ensures)) (size .ensures) (s .pre .1)
-    (c .before .before .before .before .before .before .before .put-bytes .ensures)
-    (c .before .before .before .put-fields .ensures)
+    let a = c .before .before .before .before .before .before .before .args in
+    c .before .before .put-row .ensures .1
+    ∙ ap (stored (a .out .now) (a .at)) (row-line (a .frame) (c .before .before .before .before .row-of .ensures) (a .values .now))
 
 pub put-line-spec : {M : Type 1} → statement M
-put-line-spec =
-    tie.close
-    (tie.spec
-    (λ c κs. search needs)
-    (λ c. search needs)
-    put-bytes-requires
-    (λ c. search needs)
-    (λ c κs. search needs)
-    (λ c κs. search needs)
-    (λ c. search needs)
-    (λ c. search needs)
-    same-length
-    returns)
+put-line-spec = tie.close (tie.spec (λ c κs. search needs) put-row-requires same-length returns)

@@ -8,6 +8,7 @@ use borrow.Author.Needs.{needs}
 use native.Mathlib.Numerals.{add-one}
 use native.Mathlib.Omega.{arith}
 use lib.ListN.{length, take, getD, length-set}
+use lib.Seq.{getD-set-same}
 use Rattle.frames.specs.declared.table.Frame.{Frame}
 use Rattle.frames.specs.Table.{lengthOf, widthsOf, fieldsIn}
 use Rattle.frames.proofs.Tables.{length-most}
@@ -22,27 +23,24 @@ use Rattle.walk.proofs.put_tick.Statement.{statement}
 use Rattle.walk.proofs.put_tick.Tie as tie
 
 abbrev Inv-loop : tie.InvT-loop
-Inv-loop out₀ at servers₀ until₀ reserves turn tick bytes ring next₀ least₀ i₀ out servers until next least i =
+Inv-loop out₀ at servers₀ until₀ reserves turn row tick ring next₀ least₀ i₀ out servers until next least i =
     Walked (turn .slot) (take (turn .servers) reserves) tick (turn .ring) out₀ at out servers until next i
     × (least ≡ leastOf (λ p. untilBefore (turn .slot) (take (turn .servers) reserves) p (suc tick)) (turn .ring * turn .slot) i)
     × (length servers ≡ length servers₀) × (length until ≡ length until₀)
 
 abbrev μ-loop : tie.MeasureT-loop
-μ-loop out₀ at servers₀ until₀ reserves turn tick bytes ring next₀ least₀ i₀ out servers until next least i = ring - i
-
-add-bytes : tie.Need-add-bytes Inv-loop μ-loop
-add-bytes c = omega (arith, c .length .ensures, length-most Frame.Switch)
+μ-loop out₀ at servers₀ until₀ reserves turn row tick ring next₀ least₀ i₀ out servers until next least i = ring - i
 
 mul-least : tie.Need-mul-least Inv-loop μ-loop
-mul-least c = omega (arith, laid-room (c .before .before .before .before .before .before .pre .0 .0))
+mul-least c = omega (arith, laid-room (c .before .before .before .before .before .pre .0 .0))
 
 loop-holds : tie.Need-loop-holds Inv-loop μ-loop
-loop-holds c = (walked-none _ _ (c .before .before .before .before .before .before .pre .1 .0), sym (least-none _ _), refl, refl)
+loop-holds c = (walked-none _ _ (c .before .before .before .before .before .pre .1 .0), sym (least-none _ _), refl, refl)
 
 -- the next processor of the ring
 module _ (c : tie.In-loop Inv-loop μ-loop) where
   abbrev start : tie.Start Inv-loop μ-loop
-  start = c .before .before .before .before .before .before .before .before
+  start = c .before .before .before .before .before .before .before
 
   abbrev slot : ℕ
   slot = start .args .turn .slot
@@ -72,84 +70,58 @@ module _ (c : tie.In-loop Inv-loop μ-loop) where
   server-placed : c .before .loop .i < length (c .before .loop .servers)
   server-placed = servers-there (laid-slotted laid) few (c .before .loop .inv .0) below
 
-mul-if1 : tie.Need-mul-if1 Inv-loop μ-loop
-mul-if1 c = omega (arith, small c)
+mul-end : tie.Need-mul-end Inv-loop μ-loop
+mul-end c = omega (arith, small c)
 
-slice-read-if1 : tie.Need-slice-read-if1 Inv-loop μ-loop
-slice-read-if1 c = until-placed (c .before)
+slice-read-end : tie.Need-slice-read-end Inv-loop μ-loop
+slice-read-end c = until-placed (c .before)
 
 add-processor : tie.Need-add-processor Inv-loop μ-loop
 add-processor c = omega (arith, small (c .before .before))
 
-mul-begun : tie.Need-mul-begun Inv-loop μ-loop
-mul-begun c = omega (arith, small (c .before .before))
+mul-put-switch : tie.Need-mul-put-switch Inv-loop μ-loop
+mul-put-switch c = omega (arith, small (c .before .before .before))
 
-slice-read-begun : tie.Need-slice-read-begun Inv-loop μ-loop
-slice-read-begun c = server-placed (c .before .before .before)
+slice-read-put-switch : tie.Need-slice-read-put-switch Inv-loop μ-loop
+slice-read-put-switch c = server-placed (c .before .before .before .before)
 
 -- where it begins, its time is over
 over : (c : tie.Then1 Inv-loop μ-loop) → getD (c .before .before .before .loop .until) (c .before .before .before .loop .i) 0 ≡ start (c .before .before) .args .tick
 over c = omega (arith, c .if1 .taken, ahead (c .before .before))
 
-begun-requires : tie.Need-begun-requires Inv-loop μ-loop
-begun-requires c κs =
-    let l = c .before .before .before in
-    let i = l .before .loop .i in
-    let w = l .before .loop .inv .0 in (
-      (laid l, omega arith, omega (arith, below l)),
-      (
-        server-here (laid-slotted (laid l)) (few l) w (below l) ∙ ap (λ (p : ℕ). serverBefore (slot l) (rs l) p (start l .args .tick)) (sym (add-one i)),
-        sym (over (c .before)) ∙ until-here (laid-slotted (laid l)) (few l) w (below l) ∙ ap (λ (p : ℕ). untilBefore (slot l) (rs l) p (start l .args .tick)) (sym (add-one i)),
-      ),
-    )
-
 -- the place of its line
-room : (c : tie.Then1 Inv-loop μ-loop) → c .before .before .before .loop .next + (lengthOf Frame.Switch + 1) ≤ length (start (c .before .before) .args .out .now)
+room : (c : tie.Then1 Inv-loop μ-loop) → c .before .before .before .loop .next + lengthOf Frame.Switch + 1 ≤ length (start (c .before .before) .args .out .now)
 room c =
     let l = c .before .before in
     walked-room (laid-slotted (laid l)) (few l) (l .before .loop .inv .0) (below l) (over c) (start l .pre .1 .1)
 
--- the figures of a line are all there
-figures-there : fieldsIn Frame.Switch ≤ 3
-unfolding widthsOf
-figures-there = omega arith
-
-put-line-requires : tie.Need-put-line-requires Inv-loop μ-loop
-put-line-requires c κs =
-    let t = c .before .before .before .before in
-    (figures-there, omega (arith, room t, t .before .before .before .loop .inv .0 .same, t .before .before .before .loop .inv .0 .there))
-
-add-next : tie.Need-add-next Inv-loop μ-loop
-add-next c =
-    let t = c .before .before .before .before .before .before .before in
-    omega (arith, room t, c .before .before .before .before .before .before .before .before .before .before .before .before .length .ensures, start (t .before .before) .good)
-
-mul-servers : tie.Need-mul-servers Inv-loop μ-loop
-mul-servers c = omega (arith, small (c .before .before .before .before .before .before .before .before .before))
-
-slice-write-servers : tie.Need-slice-write-servers Inv-loop μ-loop
-slice-write-servers c = server-placed (c .before .before .before .before .before .before .before .before .before)
-
--- what begins ends within a turn
-add-until : tie.Need-add-until Inv-loop μ-loop
-add-until c =
-    let l = c .before .before .before .before .before .before .before .before .before .before in
+put-switch-requires : tie.Need-put-switch-requires Inv-loop μ-loop
+put-switch-requires c κs =
+    let t = c .before .before in
+    let l = t .before .before in
     let i = l .before .loop .i in
-    let b = c .before .before .before .before .before .before .begun in
-    omega (
-      arith,
-      ap (λ (s : Stand). s .left) (b .ensures),
-      left-within (slot l) (rs l) (i + 1) (start l .args .tick) (laid l .slotted .slot-some) (omega arith) (omega (arith, below l, few l)),
-      laid-length (laid l),
-      laid-room (laid l),
-      start l .pre .0 .1,
+    let w = l .before .loop .inv .0 in (
+      (laid l, omega arith, omega (arith, below l), start l .pre .0 .1),
+      (
+        server-here (laid-slotted (laid l)) (few l) w (below l) ∙ ap (λ (p : ℕ). serverBefore (slot l) (rs l) p (start l .args .tick)) (sym (add-one i)),
+        (
+          sym (over t) ∙ until-here (laid-slotted (laid l)) (few l) w (below l) ∙ ap (λ (p : ℕ). untilBefore (slot l) (rs l) p (start l .args .tick)) (sym (add-one i)),
+          (start l .pre .0 .2, omega (arith, room t, w .same, w .there)),
+        ),
+      ),
     )
 
+mul-servers : tie.Need-mul-servers Inv-loop μ-loop
+mul-servers c = omega (arith, small (c .before .before .before .before .before .before .before))
+
+slice-write-servers : tie.Need-slice-write-servers Inv-loop μ-loop
+slice-write-servers c = server-placed (c .before .before .before .before .before .before .before)
+
 mul-until : tie.Need-mul-until Inv-loop μ-loop
-mul-until c = omega (arith, small (c .before .before .before .before .before .before .before .before .before .before))
+mul-until c = omega (arith, small (c .before .before .before .before .before .before .before))
 
 slice-write-until : tie.Need-slice-write-until Inv-loop μ-loop
-slice-write-until c = until-placed (c .before .before .before .before .before .before .before .before .before .before)
+slice-write-until c = until-placed (c .before .before .before .before .before .before .before)
 
 -- past its test the processor is carried past the tick, and its line is put if it switches
 passed : (c : tie.Joined1 Inv-loop μ-loop) →
@@ -160,10 +132,7 @@ passed c =
     let now = l .before .loop in
     let slotted = laid-slotted (laid l) in
     ⊎-elim
-    (λ w.
-    let bytes : l .before .before .before .length .result + 1 ≡ lengthOf Frame.Switch + 1 = omega (arith, l .before .before .before .length .ensures) in
-    rw (w .9, w .10, w .11, w .12, bytes)
-    (walked-over slotted (few l) (now .inv .0) (below l) (over (record { before = c .before; if1 = w .0 })) (start l .pre .1 .1) (add-one (now .i)) (w .2 .ensures) (w .5 .ensures) (w .5 .kept .0)))
+    (λ w. rw (w .6, w .7, w .8, w .9) (walked-over slotted (few l) (now .inv .0) (below l) (over (record { before = c .before; if1 = w .0 })) (start l .pre .1 .1) (add-one (now .i)) (w .3 .ensures .0) (w .3 .ensures .1) (w .3 .kept .0)))
     (λ w.
     let on : getD (now .until) (now .i) 0 ≡ start l .args .tick → ⊥ = λ (e : getD (now .until) (now .i) 0 ≡ start l .args .tick). omega (arith, w .0 .left) in
     rw (w .1, w .2, w .3, w .4) (walked-on slotted (few l) (now .inv .0) (below l) on))
@@ -177,49 +146,43 @@ kept c =
     let l = c .before .before in
     let now = l .before .loop in
     ⊎-elim
-    (λ w. rw (w .10, w .11) (length-set (now .servers) (now .i) _ ∙ now .inv .2, length-set (now .until) (now .i) _ ∙ now .inv .3))
+    (λ w. rw (w .7, w .8) (length-set (now .servers) (now .i) _ ∙ now .inv .2, length-set (now .until) (now .i) _ ∙ now .inv .3))
     (λ w. rw (w .2, w .3) (now .inv .2, now .inv .3))
     (c .if1 .came)
 
-carried-there : (c : tie.Joined1 Inv-loop μ-loop) → c .before .before .before .loop .i < length (c .if1 .until)
-carried-there c = omega (arith, passed c .past .until-room)
-
-mul-if2 : tie.Need-mul-if2 Inv-loop μ-loop
-mul-if2 c = omega (arith, small (c .before .before))
-
-slice-read-if2 : tie.Need-slice-read-if2 Inv-loop μ-loop
-slice-read-if2 c = carried-there (c .before)
-
-mul-least-2 : tie.Need-mul-least-2 Inv-loop μ-loop
-mul-least-2 c = omega (arith, small (c .before .before .before .before))
-
-slice-read-least : tie.Need-slice-read-least Inv-loop μ-loop
-slice-read-least c = carried-there (c .before .before .before)
+-- and until when its time runs is told
+ends : (c : tie.Joined1 Inv-loop μ-loop) → c .if1 .end ≡ getD (c .if1 .until) (c .before .before .before .loop .i) 0
+ends c =
+    let now = c .before .before .before .loop in
+    ⊎-elim
+    (λ w. rw (w .8, w .10) (sym (getD-set-same (now .until) (now .i) _ 0 (until-placed (c .before .before)))))
+    (λ w. rw (w .3, w .5) refl)
+    (c .if1 .came)
 
 add-i : tie.Need-add-i Inv-loop μ-loop
-add-i c = omega (arith, small (c .before .before .before .before))
+add-i c = omega (arith, small (c .before .before .before))
 
 loop-less : tie.Need-loop-less Inv-loop μ-loop
-loop-less c = omega (arith, below (c .before .before .before .before))
+loop-less c = omega (arith, below (c .before .before .before))
 
 -- the least end with the processor's own
 lower : (c : tie.Joined2 Inv-loop μ-loop) →
-    let l = c .before .before .before .before in
+    let l = c .before .before .before in
     c .if2 .least ≡ leastOf (λ p. untilBefore (slot l) (rs l) p (suc (start l .args .tick))) (start l .args .turn .ring * slot l) (suc (l .before .loop .i))
 lower c =
-    let j = c .before .before in
+    let j = c .before in
     let l = j .before .before in
     let i = l .before .loop .i in
-    let own : getD (j .if1 .until) i 0 ≡ untilBefore (slot l) (rs l) (suc i) (suc (start l .args .tick)) = passed j .past .until i (omega arith) (omega arith) in
+    let own : j .if1 .end ≡ untilBefore (slot l) (rs l) (suc i) (suc (start l .args .tick)) = ends j ∙ passed j .past .until i (omega arith) (omega arith) in
     let step = least-next (λ p. untilBefore (slot l) (rs l) p (suc (start l .args .tick))) (start l .args .turn .ring * slot l) i in
     ⊎-elim
-    (λ w. omega (arith, w .0 .taken, w .2, own, step, l .before .loop .inv .1))
+    (λ w. omega (arith, w .0 .taken, w .1, own, step, l .before .loop .inv .1))
     (λ w. omega (arith, w .0 .left, w .1, own, step, l .before .loop .inv .1))
     (c .if2 .came)
 
 loop-again : tie.Need-loop-again Inv-loop μ-loop
 loop-again c =
-    let j = c .before .before in
+    let j = c .before in
     rw (add-one (j .before .before .before .loop .i)) (passed j, lower c, kept j .0, kept j .1)
 
 same-length : tie.Need-same-length Inv-loop μ-loop
@@ -233,7 +196,7 @@ same-length-3 c = c .before .loop .inv .3
 
 returns : tie.Need-returns Inv-loop μ-loop
 returns c =
-    let s = c .before .before .before .before .before .before .before .before in
+    let s = c .before .before .before .before .before .before .before in
     let past : s .args .turn .ring ≤ c .before .loop .i = omega (arith, c .loop-test .left) in
     let w = walked-all (c .before .loop .inv .0) past in
     let e : c .before .loop .i ≡ s .args .turn .ring = omega (arith, past, c .before .loop .inv .0 .within) in (
@@ -248,28 +211,18 @@ put-tick-spec =
     (tie.spec
     Inv-loop
     μ-loop
-    (λ c κs. search needs)
-    add-bytes
     mul-least
     loop-holds
-    mul-if1
-    slice-read-if1
+    mul-end
+    slice-read-end
     add-processor
-    mul-begun
-    slice-read-begun
-    begun-requires
-    (λ c. search needs)
-    put-line-requires
-    add-next
+    mul-put-switch
+    slice-read-put-switch
+    put-switch-requires
     mul-servers
     slice-write-servers
-    add-until
     mul-until
     slice-write-until
-    mul-if2
-    slice-read-if2
-    mul-least-2
-    slice-read-least
     add-i
     loop-less
     loop-again

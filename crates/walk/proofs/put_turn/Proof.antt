@@ -2,6 +2,7 @@
 -- The measure is what is left of the turn. Assumes nothing.
 use Prim.Native.Nat.{_-_, _*_, _<_}
 use mathlib.Core.Path.{_≡_, refl, sym, ap, _∙_}
+use borrow.Author.Needs.{needs}
 use native.Mathlib.Nat.{mul-le-mul-left}
 use native.Mathlib.Omega.{arith}
 use lib.ListN.{length, take}
@@ -14,18 +15,18 @@ use Rattle.walk.proofs.put_turn.Statement.{statement}
 use Rattle.walk.proofs.put_turn.Tie as tie
 
 abbrev Inv-loop : tie.InvT-loop
-Inv-loop out₀ reserves turn end servers₀ until₀ at₀ tick₀ out servers until at tick =
+Inv-loop out₀ reserves turn end servers₀ until₀ row at₀ tick₀ out servers until at tick =
     Turned (turn .slot) (take (turn .servers) reserves) (turn .ring) out₀ out servers until at tick
     × (length servers ≡ mostProcessors) × (length until ≡ mostProcessors)
 
 abbrev μ-loop : tie.MeasureT-loop
-μ-loop out₀ reserves turn end servers₀ until₀ at₀ tick₀ out servers until at tick = end - tick
+μ-loop out₀ reserves turn end servers₀ until₀ row at₀ tick₀ out servers until at tick = end - tick
 
 mul-end : tie.Need-mul-end Inv-loop μ-loop
 mul-end c = omega (arith, laid-room (c .before .before .before .pre .0), c .before .before .before .pre .0 .few)
 
 loop-holds : tie.Need-loop-holds Inv-loop μ-loop
-loop-holds c = (turned-none _ _ {m = mostProcessors} _ (c .before .before .before .pre .0 .few), refl, refl)
+loop-holds c = (turned-none _ _ {m = mostProcessors} _ (c .before .before .before .before .pre .0 .few), refl, refl)
 
 slice-aggregate-put-tick : tie.Need-slice-aggregate-put-tick Inv-loop μ-loop
 slice-aggregate-put-tick c = sym (c .before .before .before .loop .inv .1)
@@ -36,7 +37,7 @@ slice-aggregate-put-tick-2 c = sym (c .before .before .before .before .loop .inv
 -- the turn goes on at a tick
 module _ (c : tie.In-loop Inv-loop μ-loop) where
   abbrev start : tie.Start Inv-loop μ-loop
-  start = c .before .before .before .before .before
+  start = c .before .before .before .before .before .before
 
   laid : Laid (start .args .turn) (start .args .reserves .now)
   laid = start .pre .0
@@ -48,7 +49,7 @@ put-tick-requires : tie.Need-put-tick-requires Inv-loop μ-loop
 put-tick-requires c κs =
     let l = c .before .before .before in
     let w = l .before .loop .inv .0 in (
-      (laid l, below l),
+      (laid l, below l, l .before .before .row-of .ensures),
       (w .carried, omega (arith, w .same, turned-room (laid-slotted (laid l)) (laid l .ring) w (below l) (start l .pre .1))),
     )
 
@@ -76,7 +77,7 @@ same-length c = c .before .loop .inv .0 .same
 
 returns : tie.Need-returns Inv-loop μ-loop
 returns c =
-    let s = c .before .before .before .before .before in
+    let s = c .before .before .before .before .before .before in
     turned-all (s .pre .0 .ring) (c .before .loop .inv .0) (omega (arith, c .loop-test .left))
 
 pub put-turn-spec : {M : Type 1} → statement M
@@ -86,6 +87,7 @@ put-turn-spec =
     Inv-loop
     μ-loop
     mul-end
+    (λ c κs. search needs)
     loop-holds
     slice-aggregate-put-tick
     slice-aggregate-put-tick-2
