@@ -1,28 +1,16 @@
--- What is promised of the lines of answers: a buffer as long as the longest line has room for each, and the words of examples.
+-- What is promised of the lines of answers: the words of examples.
 -- The proofs stand under the same names in proofs/Claims.
-use Prim.Native.Nat.{ℕ, _≤_}
-use Prim.Native.String.{String}
-use mathlib.Core.List.{List, [], _∷_}
+use Prim.Native.Nat.{ℕ}
 use mathlib.Core.Path.{_≡_}
-use lib.ListN.{length}
 use Rattle.quoted.specs.Quoted.{bytesOf}
-use Rattle.digits.specs.Stored.{stored}
 use Rattle.refusals.specs.declared.Refusal.the-variants.{Ask}
-use Rattle.refusals.specs.declared.Outcome.the-variants.{Done, Refused}
-use Rattle.refusals.specs.declared.Written.{Written}
-use Rattle.refusals.specs.declared.Written.the-variants.{Bytes}
+use Rattle.refusals.specs.declared.Outcome.the-variants.{Done}
 use Rattle.verdict.specs.declared.answer.Reading.{Reading}
 use Rattle.verdict.specs.declared.answer.Verdict.the-variants.{Yes, No}
 use Rattle.whoruns.specs.declared.WhoAnswer.{WhoAnswer}
 use Rattle.whoruns.specs.WhoRuns.{refusedWho}
 use Rattle.doespass.specs.declared.PassAnswer.{PassAnswer}
-use Rattle.answerline.specs.Answers.{longestLine, Lined, whoLine, passLine}
-
--- a buffer of the longest line's bytes is never too short: the line stands at its start
-abbrev pub RoomSuffices : Type 0
-RoomSuffices =
-    (buffer line after : List ℕ) (answer : Written) → Lined buffer line answer after → longestLine ≤ length buffer
-    → (answer ≡ Bytes (length line)) × (after ≡ stored buffer 0 line)
+use Rattle.answerline.specs.Lines.{whoLine, passLine}
 
 -- answers: a server with its ticks left (0 for idle), and a verdict
 abbrev pub stands : (server left : ℕ) → WhoAnswer

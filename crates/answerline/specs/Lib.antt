@@ -1,2 +1,2 @@
-pub mod Answers
+pub mod Lines
 pub mod Claims

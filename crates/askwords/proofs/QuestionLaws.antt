@@ -14,7 +14,7 @@ use Rattle.refusals.specs.declared.Written.the-variants.{Bytes}
 use Rattle.decimals.specs.declared.Number.the-variants.{Of, Wrong}
 use Rattle.decimals.specs.Decimal.{decimalOf}
 use Rattle.planfit.proofs.FitLaws.{stored-whole}
-use Rattle.answerline.specs.Answers.{Lined}
+use Rattle.wordline.specs.Lined.{Lined}
 use Rattle.askwords.specs.declared.Question.the-variants.{Who, Pass, Unclear}
 use Rattle.askwords.specs.Question.{questionWith, questionOf}
 

@@ -9,7 +9,7 @@ use Rattle.decimals.specs.declared.Number.{Number}
 use Rattle.decimals.specs.declared.Number.the-variants.{Of, Wrong}
 use Rattle.decimals.specs.Decimal.{decimalOf}
 use Rattle.askfile.specs.OfFile.{whoIn, passIn}
-use Rattle.answerline.specs.Answers.{whoLine, passLine}
+use Rattle.answerline.specs.Lines.{whoLine, passLine}
 use Rattle.askwords.specs.declared.Question.{Question}
 use Rattle.askwords.specs.declared.Question.the-variants.{Who, Pass, Unclear}
 

@@ -6,7 +6,7 @@ use decimals::Number;
 use decimals::decimal;
 use refusals::Written;
 ghost use mathlib.Core.Path.{_≡_};
-ghost use Rattle.answerline.specs.Answers.{Lined};
+ghost use Rattle.wordline.specs.Lined.{Lined};
 ghost use Rattle.askwords.specs.Question.{questionOf, lineFor};
 
 pub enum Question {

@@ -1,11 +1,11 @@
 -- `answerline::pass_line` meets its contract: the line of the verdict, or of the refusal.
 -- Assumes nothing.
-use mathlib.Core.Path.{_≡_}
 use Rattle.doespass.specs.declared.PassAnswer.{PassAnswer}
 use Rattle.planlines.specs.Line.{refusalText}
 use Rattle.taskplan.proofs.FileLaws.{when-done, when-refused}
-use Rattle.answerline.specs.Answers.{verdictLine}
-use Rattle.answerline.proofs.LineLaws.{lined-as, refusal-lined}
+use Rattle.answerwords.specs.Answers.{verdictLine}
+use Rattle.wordline.proofs.LineLaws.{lined-as}
+use Rattle.answerline.proofs.LineLaws.{refusal-lined}
 use borrow.Author.Needs.{needs}
 use Rattle.answerline.proofs.pass_line.Statement.{statement}
 use Rattle.answerline.proofs.pass_line.Tie as tie

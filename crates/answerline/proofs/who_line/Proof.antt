@@ -1,11 +1,11 @@
 -- `answerline::who_line` meets its contract: the line of who stands there, or of the refusal.
 -- Assumes nothing.
-use mathlib.Core.Path.{_≡_}
 use Rattle.whoruns.specs.declared.WhoAnswer.{WhoAnswer}
 use Rattle.planlines.specs.Line.{refusalText}
 use Rattle.taskplan.proofs.FileLaws.{when-done, when-refused}
-use Rattle.answerline.specs.Answers.{standLine}
-use Rattle.answerline.proofs.LineLaws.{lined-as, refusal-lined}
+use Rattle.answerwords.specs.Answers.{standLine}
+use Rattle.wordline.proofs.LineLaws.{lined-as}
+use Rattle.answerline.proofs.LineLaws.{refusal-lined}
 use borrow.Author.Needs.{needs}
 use Rattle.answerline.proofs.who_line.Statement.{statement}
 use Rattle.answerline.proofs.who_line.Tie as tie

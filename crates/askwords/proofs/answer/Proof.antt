@@ -1,7 +1,7 @@
 -- `askwords::answer` meets its contract, by the question.
 -- Assumes nothing.
 use mathlib.Core.Path.{sym, ap}
-use Rattle.answerline.proofs.LineLaws.{lined-as}
+use Rattle.wordline.proofs.LineLaws.{lined-as}
 use Rattle.askwords.specs.declared.Question.{Question}
 use Rattle.askwords.specs.Question.{lineFor}
 use Rattle.askwords.proofs.QuestionLaws.{nothing-lined}

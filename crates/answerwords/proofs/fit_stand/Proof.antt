@@ -1,11 +1,12 @@
--- `answerline::fit_stand` meets its contract: the words of an idle processor, or of one that runs a server.
+-- `answerwords::fit_stand` meets its contract: the words of an idle processor, or of one that runs a server.
 -- Assumes nothing.
 use mathlib.Core.Path.{_≡_}
 use Rattle.wordline.specs.Words.{signs}
-use Rattle.answerline.proofs.LineLaws.{lined-as, idle-line, runs-line}
+use Rattle.wordline.proofs.LineLaws.{lined-as}
+use Rattle.answerwords.proofs.AnswerLaws.{idle-line, runs-line}
 use borrow.Author.Needs.{needs}
-use Rattle.answerline.proofs.fit_stand.Statement.{statement}
-use Rattle.answerline.proofs.fit_stand.Tie as tie
+use Rattle.answerwords.proofs.fit_stand.Statement.{statement}
+use Rattle.answerwords.proofs.fit_stand.Tie as tie
 
 fit-words-requires : tie.Need-fit-words-requires
 unfolding signs

@@ -1,4 +1,4 @@
--- `answerline::fit_words` meets its contract: the line is put together beside, and copied where it fits.
+-- `wordline::fit_words` meets its contract: the line is put together beside, and copied where it fits.
 -- Assumes nothing.
 use Prim.Native.Nat.{_≤_}
 use mathlib.Core.Path.{sym, _∙_, ap}
@@ -7,13 +7,13 @@ use lib.ListN.{length}
 use lib.Seq.{length-take-le}
 use borrow.Author.Needs.{needs}
 use Rattle.digits.specs.Stored.{stored}
 use Rattle.wordline.specs.Words.{said}
 use Rattle.wordline.proofs.WordLaws.{said-short}
 use Rattle.planfit.proofs.FitLaws.{no-room, stored-whole}
-use Rattle.answerline.specs.Answers.{longestLine}
-use Rattle.answerline.proofs.LineLaws.{front-is}
-use Rattle.answerline.proofs.fit_words.Statement.{statement}
-use Rattle.answerline.proofs.fit_words.Tie as tie
+use Rattle.wordline.specs.Lined.{longestLine}
+use Rattle.wordline.proofs.LineLaws.{front-is}
+use Rattle.wordline.proofs.fit_words.Statement.{statement}
+use Rattle.wordline.proofs.fit_words.Tie as tie
 
 -- the line is no longer than the longest
 short : (c : tie.After-slice-known) →

@@ -1,10 +1,11 @@
--- `answerline::fit_verdict` meets its contract: the words of a yes, or of a no.
+-- `answerwords::fit_verdict` meets its contract: the words of a yes, or of a no.
 -- Assumes nothing.
 use Rattle.wordline.specs.Words.{signs}
-use Rattle.answerline.proofs.LineLaws.{lined-as, yes-line, no-line}
+use Rattle.wordline.proofs.LineLaws.{lined-as}
+use Rattle.answerwords.proofs.AnswerLaws.{yes-line, no-line}
 use borrow.Author.Needs.{needs}
-use Rattle.answerline.proofs.fit_verdict.Statement.{statement}
-use Rattle.answerline.proofs.fit_verdict.Tie as tie
+use Rattle.answerwords.proofs.fit_verdict.Statement.{statement}
+use Rattle.answerwords.proofs.fit_verdict.Tie as tie
 
 fit-words-requires : tie.Need-fit-words-requires
 unfolding signs
