@@ -1,4 +1,6 @@
 // Task files for the tests: sets that mostly have a plan, and files damaged in a few places.
+#![allow(dead_code)]
+
 use crate::oracle::{Set, Task};
 use crate::random::Random;
 

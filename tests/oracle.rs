@@ -336,3 +336,63 @@ pub fn file(set: &Set) -> String {
     }
     out
 }
+
+// A set that a caller hands in as numbers: its count, the seven figures of the header, then id, C, D and T of 64 places.
+// Row 11: a count that is not 1 to 64, an id that repeats, or a figure with more digits than its field.
+pub fn handed(numbers: &[u64]) -> Result<Set, Refusal> {
+    let count = numbers[0];
+    if !(1..=64).contains(&count) {
+        return Err((11, 0));
+    }
+    let digits = |values: &[u64], widths: &[usize]| values.iter().zip(widths).any(|(v, w)| format!("{:X}", v).len() > *w);
+    let header = &numbers[1..8];
+    let tasks: Vec<&[u64]> = numbers[8..].chunks(4).take(count as usize).collect();
+    let ids: std::collections::HashSet<u64> = tasks.iter().map(|t| t[0]).collect();
+    if ids.len() < tasks.len() || digits(header, &[2, 6, 4, 4, 4, 4, 4]) || tasks.iter().any(|t| digits(t, &[2, 6, 6, 6])) {
+        return Err((11, 0));
+    }
+    Ok(Set {
+        m: header[0],
+        s: header[1],
+        relj: header[2],
+        relo: header[3],
+        ctswo: header[4],
+        resd: header[5],
+        cpmdo: header[6],
+        tasks: tasks.iter().map(|t| Task { id: t[0], c: t[1], d: t[2], t: t[3] }).collect(),
+    })
+}
+
+// The text of a set that is handed in; row 11 also where row 5 or 6 is broken.
+pub fn written(set: &Set) -> Result<String, Refusal> {
+    match figures(set) {
+        Some(_) => Err((11, 0)),
+        None => Ok(file(set)),
+    }
+}
+
+// A plan as numbers, every field in its order, in 64 places each; none in unused room.
+pub fn numbers(set: &Set, plan: &Plan) -> Vec<Option<u64>> {
+    let room = |values: &[u64], places: usize| -> Vec<Option<u64>> { (0..places).map(|i| values.get(i).copied()).collect() };
+    let idle = plan.ring.iter().filter(|q| **q == 0).count() as u64;
+    let mut out = room(&[plan.whole as u64, plan.r as u64, plan.reserves.len() as u64, set.s, idle], 5);
+    for q in 0..64 {
+        let Some(held) = plan.members.get(q) else {
+            out.extend(room(&[], 68));
+            continue;
+        };
+        let places: Vec<u64> = held.iter().map(|i| *i as u64).collect();
+        let start = if plan.reserves[q] == set.s { 0 } else { plan.starts[q] };
+        out.push(Some(held.len() as u64));
+        out.extend(room(&places, 64));
+        out.extend(room(&[plan.reserves[q], start, set.cpmdo], 3));
+    }
+    let placed: Vec<u64> = plan.placed.iter().map(|q| *q as u64).collect();
+    out.extend(room(&placed, 64));
+    let first: Vec<u64> = (1..=plan.r + plan.whole)
+        .map(|p| who(set, plan, p, 0).unwrap())
+        .flat_map(|(server, left)| [server as u64, left])
+        .collect();
+    out.extend(room(&first, 128));
+    out
+}

@@ -8,7 +8,7 @@ use native.Mathlib.Nat.{zero-add, add-le-add, mul-zero, mul-le-mul, mul-le-mul-l
 use native.Mathlib.Numerals.{add-one}
 use native.Mathlib.Omega.{arith}
 use lib.Arith.{le-zero}
-use lib.ListN.{length, getD, length-append}
+use lib.ListN.{length, length-append}
 use Rattle.laws.proofs.Orders.{le-or-lt}
 use Rattle.laws.proofs.Choices.{cond-leb, cond-leb-not}
 use Rattle.demand.specs.Load.{Load, Sound, Meets, Small, Every, Loaded, loadAt, loadsOf}

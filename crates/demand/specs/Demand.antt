@@ -2,7 +2,7 @@
 -- Document 01, "Demand, supply, and the report's test".
 use Prim.Native.Nat.{ℕ, _+_, _*_, _-_, _/_}
 use mathlib.Core.List.{List, [], _∷_}
-use mathlib.Core.Bool.{Bool, true, false, cond}
+use mathlib.Core.Bool.{cond}
 use lib.Dec.{leb}
 use Rattle.demand.specs.Load.{Load}
 

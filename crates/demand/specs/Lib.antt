@@ -1,4 +1,3 @@
-pub mod Charging
 pub mod Load
 pub mod Demand
 pub mod Supply

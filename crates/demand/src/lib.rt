@@ -6,8 +6,6 @@ ghost use Rattle.demand.specs.Load.{Loaded, loadsOf};
 ghost use Rattle.demand.specs.Demand.{demand};
 ghost use Rattle.demand.specs.Supply.{Allowed, gap, supplyPast};
 
-pub mod charging; // charging.rt: what the board's overheads make of a task's figures
-
 // The ticks that the first n loads must have had in a window of length t.
 pub fn demand_at(loads: &[u64], n: usize, t: u64) -> u64
     requires { ⌜ Loaded (now loads) n × (t < 2 ^ 36) ⌝ }

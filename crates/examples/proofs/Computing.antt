@@ -18,7 +18,7 @@ use Rattle.taskread.specs.Read.{fileSet, readOutcome, readOf}
 use Rattle.wholes.specs.Ceiling.{ceilingOf}
 use Rattle.wholes.specs.Measure.{measureIn, commonMeasure}
 use Rattle.wholes.specs.Multiple.{leastMultiple, leastMultipleOf}
-use Rattle.demand.specs.Charging.{effectiveDeadline, effectiveCost, entryLoss}
+use Rattle.charging.specs.Charging.{effectiveDeadline, effectiveCost, entryLoss}
 use Rattle.demand.specs.Demand.{jobs, demand}
 use Rattle.demand.specs.Passes.{fake}
 use Rattle.demand.specs.Supply.{gap, supplyPast, supply}
@@ -28,7 +28,8 @@ use Rattle.verdict.specs.Verdict.{failing, ownHorizon, firstFailing, verdictAt,
 use Rattle.places.specs.Places.{placesFrom, chosen}
 use Rattle.loads.specs.Charge.{cacheOf, chargedIn, serverLoads, serverLoss}
 use Rattle.members.specs.Server.{passesWith, fits, reserveFor, verdictFor}
-use Rattle.servers.specs.Placement.{serversIn, join, fit, placeBy, placementOf}
+use Rattle.servers.specs.Placement.{serversIn, fit, placeBy, placementOf}
+use Rattle.joining.specs.Join.{join}
 use Rattle.taking.specs.Takes.{takes}
 use Rattle.sizing.specs.Reserve.{reservesOf}
 use Rattle.ring.specs.Cover.{covers, covererUpTo, standAt}

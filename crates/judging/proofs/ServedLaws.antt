@@ -12,7 +12,7 @@ use Rattle.wholes.specs.Multiple.{within}
 use Rattle.wholes.specs.declared.Multiple.{Multiple}
 use Rattle.wholes.specs.declared.Multiple.the-variants.{Within, Past}
 use Rattle.wholes.proofs.WithinLaws.{within-value, past-value}
-use Rattle.demand.specs.Charging.{entryLoss}
+use Rattle.charging.specs.Charging.{entryLoss}
 use Rattle.demand.specs.Load.{Load, Every, Loaded, loadAt, loadsOf}
 use Rattle.demand.specs.Demand.{demand}
 use Rattle.verdict.specs.Verdict.{ownHorizon, verdictOf, Testable}

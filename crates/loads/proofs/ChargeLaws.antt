@@ -6,7 +6,7 @@ use mathlib.Core.Path.{_≡_, sym, ap, _∙_}
 use mathlib.Core.List.{List, [], _∷_, _++_, map, map-append}
 use lib.ListN.{length, set, take, getD, length-map}
 use Rattle.digits.specs.Stored.{stored}
-use Rattle.demand.specs.Charging.{effectiveDeadline, effectiveCost, entryLoss}
+use Rattle.charging.specs.Charging.{effectiveDeadline, effectiveCost, entryLoss}
 use Rattle.demand.specs.Load.{Load, Sound, Small, Every, loadAt}
 use Rattle.tasks.specs.declared.set.Header.{Header}
 use Rattle.loads.specs.Charge.{numbersOf, cacheOf, chargedIn, serverLoads, serverLoss, membersAt, Member, Overheads}

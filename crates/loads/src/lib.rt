@@ -1,6 +1,5 @@
 // The loads of one server: the figures of its members, charged.
 // What they mean stands in specs/Charge.antt. Figures and loads stand in slices of numbers, three for each.
-use demand::charging;
 use tasks::set::Header;
 ghost use mathlib.Core.Path.{_≡_};
 ghost use mathlib.Core.List.{map};

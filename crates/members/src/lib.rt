@@ -1,12 +1,11 @@
 // What a server loses at each entry, and the horizon of its loads with the slot.
 // What they mean stands in specs/Server.antt. Loads stand in a slice of numbers, three for each.
-use demand::charging;
 use tasks::set::Header;
 use wholes::Multiple;
 ghost use mathlib.Core.Path.{_≡_};
 ghost use Prim.Native.Nat.{_<_, _^_};
 ghost use Rattle.wholes.specs.Multiple.{within};
-ghost use Rattle.demand.specs.Charging.{entryLoss};
+ghost use Rattle.charging.specs.Charging.{entryLoss};
 ghost use Rattle.demand.specs.Load.{loadsOf};
 ghost use Rattle.verdict.specs.Verdict.{ownHorizon};
 ghost use Rattle.members.specs.Server.{Timed};

@@ -81,7 +81,7 @@ refused-stores-nothing =
     }
 
 -- a file's first bytes are read as the file is, and so they have its set and its plan
-same-filed : (n : ℕ) (text : List ℕ) → furthest ≤ n → filedOf (take n text) ≡ filedOf text
+pub same-filed : (n : ℕ) (text : List ℕ) → furthest ≤ n → filedOf (take n text) ≡ filedOf text
 unfolding filedOf
 same-filed n text h = ap (λ (a : ReadAnswer). unless refusedFile (a .outcome) (plannedSet (a .set))) (read-looks-at n text h)
 

@@ -12,7 +12,7 @@ use lib.ListN.{length, take, getD, length-take, List·getD-map}
 use lib.Seq.{getD-take}
 use Rattle.tasks.specs.Set.{mostTasks}
 use Rattle.laws.proofs.Tests.{and-left, and-right}
-use Rattle.demand.specs.Charging.{entryLoss}
+use Rattle.charging.specs.Charging.{entryLoss}
 use Rattle.demand.specs.Load.{Load}
 use Rattle.demand.specs.Supply.{Allowed}
 use Rattle.verdict.specs.declared.answer.Verdict.{Verdict}

@@ -7,7 +7,7 @@ use native.Mathlib.Omega.{arith}
 use Rattle.wholes.specs.Ceiling.{ceilingOf}
 use Rattle.wholes.specs.Measure.{measureIn, commonMeasure}
 use Rattle.wholes.specs.Multiple.{leastMultiple, leastMultipleOf}
-use Rattle.demand.specs.Charging.{effectiveDeadline, effectiveCost, entryLoss}
+use Rattle.charging.specs.Charging.{effectiveDeadline, effectiveCost, entryLoss}
 use Rattle.demand.specs.Demand.{jobs, demand}
 use Rattle.demand.specs.Supply.{supplyPast, supply}
 use Rattle.search.specs.Search.{firstUpTo, firstAfter}
@@ -17,7 +17,8 @@ use Rattle.places.specs.Padded.{upTo}
 use Rattle.places.specs.Places.{chosen}
 use Rattle.loads.specs.Charge.{cacheOf, chargedIn, serverLoads, serverLoss}
 use Rattle.members.specs.Server.{passesWith, fits, reserveFor}
-use Rattle.servers.specs.Placement.{serversIn, join, placeBy, fit, placementOf}
+use Rattle.servers.specs.Placement.{serversIn, placeBy, fit, placementOf}
+use Rattle.joining.specs.Join.{join}
 use Rattle.taking.specs.Takes.{takes}
 use Rattle.sizing.specs.Reserve.{reservesOf}
 use Rattle.reserves.specs.Reserves.{ringTicks, wholes}

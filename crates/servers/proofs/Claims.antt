@@ -15,13 +15,14 @@ use Rattle.tasks.specs.declared.set.Header.{Header}
 use Rattle.places.specs.Places.{chosen}
 use Rattle.loads.specs.Charge.{Member}
 use Rattle.members.specs.Server.{fits}
-use Rattle.servers.specs.Placement.{serversIn, firstFit, fit, placementOf}
+use Rattle.servers.specs.Placement.{serversIn, fit, placementOf}
+use Rattle.joining.specs.Join.{firstFit}
 use Rattle.taking.specs.Takes.{takes}
 use Rattle.servers.specs.Fitting.{Fitting}
 use Rattle.servers.specs.Claims.{TakesOrOpens, FitAlone, FirstFitPicks, JoinTakesOrOpens, OneMoreFits, PlacedFits, PlannerFits, PassesWith, Lowest, Opened, FirstFit}
 use Rattle.members.proofs.ServerLaws.{fits-passes, passes-fits}
-use Rattle.servers.proofs.PlacementLaws.{placed, placed-length, placed-more, placed-keeps, placed-grows}
-use Rattle.servers.proofs.JoinLaws.{join-view, first-picked, fit-view}
+use Rattle.servers.proofs.PlacementLaws.{placed, placed-length, placed-more, placed-keeps, placed-grows, fit-view}
+use Rattle.joining.proofs.JoinLaws.{join-view, first-picked}
 use Rattle.servers.proofs.FittingLaws.{in-range, fitting-none, few-more, fitting-more}
 use Rattle.taking.proofs.ChargedLaws.{members-with}
 

@@ -1,6 +1,5 @@
 -- The laws of placing and of sizing.
 pub mod PlacementLaws
-pub mod JoinLaws
 pub mod FittingLaws
 pub mod Claims
 pub mod TotalLaws

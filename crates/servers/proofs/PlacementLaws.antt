@@ -1,11 +1,15 @@
 -- Placing grows by one task at a time, and what is placed stays, whatever the step: the laws that the loop over tasks goes by.
-use Prim.Native.Nat.{ℕ, _+_, max}
+use Prim.Native.Nat.{ℕ, suc, _+_, _≤_, max}
 use native.Mathlib.Omega.{arith}
 use mathlib.Core.Path.{_≡_, sym, ap, subst, _∙_}
+use mathlib.Core.Logic.{_⊎_}
 use mathlib.Core.List.{List, [], _∷_, _++_, append-assoc, append-nil}
 use lib.ListN.{length, length-append}
 use Rattle.demand.specs.Load.{Load}
+use Rattle.search.specs.Search.{NoneIn, Next}
 use Rattle.tasks.specs.declared.set.Header.{Header}
+use Rattle.taking.specs.Takes.{takes}
+use Rattle.joining.proofs.JoinLaws.{join-first-view}
 use Rattle.servers.specs.Placement.{serversIn, Step, placeBy, fit, placementOf}
 
 -- one task more: its server is among those that there are, or is the highest
@@ -95,3 +99,10 @@ pub placement-more : (h : Header) (figures : List Load) (l : Load) →
     placementOf h (figures ++ (l ∷ [])) ≡ placementOf h figures ++ (fit h figures (placementOf h figures) l ∷ [])
 unfolding placementOf
 placement-more h figures l = placed-more (fit h) figures l
+
+-- the planner's step: the lowest-numbered server that takes the task, or a new one where none does
+pub fit-view : (h : Header) (done : List Load) (placement : List ℕ) (l : Load) →
+    ((fit h done placement l ≡ suc (serversIn placement)) × NoneIn (takes h done placement l) 0 (serversIn placement))
+    ⊎ ((fit h done placement l ≤ serversIn placement) × Next (takes h done placement l) 0 (fit h done placement l))
+unfolding fit
+fit-view h done placement l = join-first-view (takes h done placement l) 0 (serversIn placement)

@@ -10,10 +10,11 @@ use Rattle.tasks.specs.declared.set.Header.{Header}
 use Rattle.tasks.specs.Set.{mostTasks}
 use Rattle.places.specs.Padded.{padded}
 use Rattle.places.proofs.PaddedLaws.{padded-length, padded-take, padded-more}
-use Rattle.servers.specs.Placement.{serversIn, firstFit, join, fit, placeBy, placementOf, placed}
+use Rattle.servers.specs.Placement.{serversIn, fit, placeBy, placementOf, placed}
+use Rattle.joining.specs.Join.{firstFit, join}
 use Rattle.taking.specs.Takes.{takes}
 use Rattle.taking.specs.Totals.{totalIn}
-use Rattle.servers.specs.Totals.{Totals}
+use Rattle.joining.specs.Totals.{Totals}
 use Rattle.servers.specs.Claims.{TakesOrNew}
 use Rattle.servers.specs.declared.placement.Placed.{Placed}
 use Rattle.servers.proofs.PlacementLaws.{servers-more, placement-length, placement-more}

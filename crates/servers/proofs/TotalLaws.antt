@@ -1,45 +1,30 @@
--- Laws of a server's total: one task more, a row of totals while tasks are placed, and servers that cannot take a task.
+-- The row of totals while tasks are placed, and the total of the server that a task joins.
+-- Assumes nothing.
 use Prim.Native.Nat.{ℕ, suc, _+_, _-_, _≤_, _<_, _∣_, max}
 use native.Mathlib.Omega.{arith}
 use native.Mathlib.Decide.{ℕ-discrete}
 use mathlib.Core.Path.{_≡_, refl, sym, ap, _∙_}
-use mathlib.Core.Bool.{true, false}
+use mathlib.Core.Bool.{true}
 use mathlib.Core.Logic.{_⊎_, inl, inr, ⊎-elim}
-use mathlib.Core.List.{List, [], _∷_, _++_, map, map-append}
+use mathlib.Core.List.{List, [], _∷_, _++_}
 use lib.ListN.{length, getD, set, replicate, length-replicate, length-set, getD-replicate}
 use lib.Seq.{getD-set-same, getD-set-other}
 use Rattle.laws.proofs.Orders.{le-or-lt}
 use Rattle.laws.proofs.Tests.{true-false}
 use Rattle.demand.specs.Load.{Load, Every}
-use Rattle.demand.proofs.Demand.{every-snoc, every-front, every-last}
 use Rattle.tasks.specs.declared.set.Header.{Header}
 use Rattle.tasks.specs.Set.{mostTasks}
 use Rattle.places.specs.Places.{chosen}
 use Rattle.places.proofs.PlacesLaws.{in-joined, in-apart}
-use Rattle.loads.specs.Charge.{cacheOf, chargedIn, serverLoads, Member}
+use Rattle.loads.specs.Charge.{serverLoads, Member}
 use Rattle.members.specs.Server.{totalOf}
 use Rattle.servers.specs.Placement.{serversIn}
 use Rattle.taking.specs.Takes.{takes}
 use Rattle.taking.specs.Totals.{totalIn}
-use Rattle.servers.specs.Totals.{Totals}
+use Rattle.joining.specs.Totals.{Totals}
 use Rattle.servers.specs.Claims.{TakesOrNew}
-use Rattle.members.proofs.ServerLaws.{total-fails}
 use Rattle.servers.proofs.FittingLaws.{in-none}
-use Rattle.members.proofs.FiledLaws.{every-chosen}
-use Rattle.taking.proofs.ChargedLaws.{members-with}
-
--- the totals of two parts add up
-total-append : (H : ℕ) (ls ks : List Load) → totalOf H (ls ++ ks) ≡ totalOf H ls + totalOf H ks
-unfolding totalOf
-total-append H [] ks = omega arith
-total-append H (l ∷ ls) ks = omega (arith, total-append H ls ks)
-
--- a task more adds its share
-pub total-more : (h : Header) (H : ℕ) (members : List Load) (l : Load) → totalIn h H (members ++ (l ∷ [])) ≡ totalIn h H members + totalIn h H (l ∷ [])
-unfolding serverLoads cacheOf
-total-more h H members l =
-    ap (totalOf H) (map-append (chargedIn h (h .cpmdo)) members (l ∷ [])) ∙
-    total-append H (map (chargedIn h (h .cpmdo)) members) (chargedIn h (h .cpmdo) l ∷ [])
+use Rattle.joining.proofs.TotalLaws.{total-more, no-room}
 
 -- no task asks for nothing
 total-none : (h : Header) (H : ℕ) → totalIn h H [] ≡ 0
@@ -75,22 +60,10 @@ totals-next {h} {H} {done} {placement} {totals} l {q} {at} {v} w even first few 
             let apart : q ≡ suc k → ⊥ = λ (e : q ≡ suc k). n (omega arith) in
             getD-set-other totals at k v 0 (λ (e : k ≡ at). n (sym e)) ∙ w .each k g ∙ ap (totalIn h H) (sym (in-apart done placement l q (suc k) even apart))
 
--- ---- a server whose total leaves no room for the task's share does not take it
+-- ---- the total of the server that a task joins
 
 module _ (h : Header) (H : ℕ) (done : List Load) (placement : List ℕ) (l : Load) (q : ℕ) (some : 1 ≤ h .slot) (positive : 1 ≤ H)
     (members : Every (Member h) (done ++ (l ∷ []))) (periods : Every (λ (k : Load). k .period ∣ H) (done ++ (l ∷ []))) where
-  periods-with : Every (λ (k : Load). k .period ∣ H) (chosen done placement q ++ (l ∷ []))
-  periods-with =
-      every-snoc (λ (k : Load). k .period ∣ H) (chosen done placement q) l
-      (every-chosen (λ (k : Load). k .period ∣ H) done placement q (every-front (λ (k : Load). k .period ∣ H) done l periods))
-      (every-last (λ (k : Load). k .period ∣ H) done l periods)
-
-  pub no-room : H < totalIn h H (chosen done placement q) + totalIn h H (l ∷ []) → takes h done placement l q ≡ false
-  unfolding takes
-  no-room above =
-      total-fails h (chosen done placement q ++ (l ∷ [])) (members-with h done placement l members q) some H positive periods-with
-      (omega (arith, total-more h H (chosen done placement q) l))
-
   -- the total of the server that the task joins is within the horizon, or it is the task's share
   pub joined-total : TakesOrNew h done placement l q →
       totalIn h H (chosen done placement q) + totalIn h H (l ∷ []) ≤ max H (totalIn h H (l ∷ []))
@@ -100,7 +73,7 @@ module _ (h : Header) (H : ℕ) (done : List Load) (placement : List ℕ) (l : L
           (totalIn h H (chosen done placement q) + totalIn h H (l ∷ []) ≤ H) ⊎ (H < totalIn h H (chosen done placement q) + totalIn h H (l ∷ [])) →
           totalIn h H (chosen done placement q) + totalIn h H (l ∷ []) ≤ max H (totalIn h H (l ∷ []))
       took t (inl within) = omega arith
-      took t (inr above) = true-false (sym t ∙ no-room above)
+      took t (inr above) = true-false (sym t ∙ no-room h H done placement l q some positive members periods above)
 
       opened : q ≡ suc (serversIn placement) → totalIn h H (chosen done placement q) + totalIn h H (l ∷ []) ≤ max H (totalIn h H (l ∷ []))
       opened e = omega (arith, ap (totalIn h H) (in-none done placement q (omega arith)), total-none h H)

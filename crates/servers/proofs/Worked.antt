@@ -4,7 +4,7 @@ use mathlib.Core.Path.{_≡_, refl}
 use mathlib.Core.List.{[], _∷_}
 use Rattle.wholes.specs.Measure.{measureIn, commonMeasure}
 use Rattle.wholes.specs.Multiple.{leastMultiple, leastMultipleOf}
-use Rattle.demand.specs.Charging.{effectiveDeadline, effectiveCost, entryLoss}
+use Rattle.charging.specs.Charging.{effectiveDeadline, effectiveCost, entryLoss}
 use Rattle.demand.specs.Demand.{jobs, demand}
 use Rattle.demand.specs.Supply.{supplyPast, supply}
 use Rattle.search.specs.Search.{firstUpTo, firstAfter}
@@ -12,7 +12,8 @@ use Rattle.verdict.specs.Verdict.{failing, ownHorizon, firstFailing, verdictAt,
 use Rattle.places.specs.Places.{chosen}
 use Rattle.loads.specs.Charge.{cacheOf, chargedIn, serverLoads, serverLoss}
 use Rattle.members.specs.Server.{passesWith, fits}
-use Rattle.servers.specs.Placement.{serversIn, join, placeBy, fit, placementOf}
+use Rattle.servers.specs.Placement.{serversIn, placeBy, fit, placementOf}
+use Rattle.joining.specs.Join.{join}
 use Rattle.taking.specs.Takes.{takes}
 
 -- a task that server 1 cannot take goes to 2, and a later one that it can take goes back to 1

@@ -3,7 +3,7 @@
 use Prim.Native.Nat.{ℕ, suc, _≤_, _<_}
 use mathlib.Core.Path.{_≡_}
 use mathlib.Core.Logic.{_⊎_}
-use mathlib.Core.Bool.{Bool, true}
+use mathlib.Core.Bool.{true}
 use mathlib.Core.List.{List, [], _∷_, _++_}
 use lib.ListN.{length, getD, take}
 use Rattle.demand.specs.Load.{Load, Every}
@@ -11,7 +11,8 @@ use Rattle.tasks.specs.declared.set.Header.{Header}
 use Rattle.places.specs.Places.{chosen}
 use Rattle.loads.specs.Charge.{Member}
 use Rattle.members.specs.Server.{fits}
-use Rattle.servers.specs.Placement.{serversIn, Rule, firstFit, join, Step, placeBy, placementOf}
+use Rattle.servers.specs.Placement.{serversIn, Step, placeBy, placementOf}
+use Rattle.joining.specs.Join.{Rule, firstFit, join, Picks}
 use Rattle.taking.specs.Takes.{takes}
 use Rattle.servers.specs.Fitting.{PassesWhole, Fitting}
 
@@ -25,12 +26,6 @@ TakesOrNew h done placement l q =
 -- a step that always answers such a server
 abbrev pub TakesOrOpens : Header → Step → Type 0
 TakesOrOpens h step = (done : List Load) (placement : List ℕ) (l : Load) → TakesOrNew h done placement l (step done placement l)
-
--- a rule that picks candidates only, above lo and up to hi, or answers 0
-abbrev pub Picks : Rule → Type 0
-Picks rule =
-    (candidate : ℕ → Bool) (lo hi : ℕ) →
-    (rule candidate lo hi ≡ 0) ⊎ ((lo < rule candidate lo hi) × (rule candidate lo hi ≤ hi) × (candidate (rule candidate lo hi) ≡ true))
 
 -- First fit picks candidates.
 abbrev pub FirstFitPicks : Type 0

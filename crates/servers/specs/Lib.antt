@@ -1,4 +1,3 @@
 pub mod Placement
 pub mod Fitting
-pub mod Totals
 pub mod Claims

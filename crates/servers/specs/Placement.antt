@@ -3,30 +3,17 @@
 -- Document 01, "From tasks to servers to ring", rule 1 (the report's Alg. 1).
 use Prim.Native.Nat.{ℕ, suc, max}
 use mathlib.Core.List.{List, [], _∷_, _++_}
-use mathlib.Core.Bool.{Bool}
 use Rattle.demand.specs.Load.{Load}
-use Rattle.search.specs.Search.{firstAfter, orElse}
 use Rattle.tasks.specs.declared.set.Header.{Header}
 use Rattle.places.specs.Padded.{padded}
 use Rattle.taking.specs.Takes.{takes}
+use Rattle.joining.specs.Join.{firstFit, join}
 use Rattle.servers.specs.declared.placement.Placed.{Placed}
 
 -- how many servers there are: they are numbered without gaps
 unfoldable pub serversIn : (placement : List ℕ) → ℕ
 serversIn [] = 0
 serversIn (a ∷ placement) = max a (serversIn placement)
-
--- a rule picks a number above lo, up to hi, that is a candidate; or 0
-abbrev pub Rule : Type 0
-Rule = (candidate : ℕ → Bool) → (lo hi : ℕ) → ℕ
-
--- the lowest-numbered candidate
-abbrev pub firstFit : Rule
-firstFit candidate lo hi = firstAfter candidate lo hi
-
--- one step of placing: the candidate that the rule picks, otherwise a new server
-unfoldable pub join : Rule → (candidate : ℕ → Bool) → (lo hi : ℕ) → ℕ
-join rule candidate lo hi = orElse (rule candidate lo hi) (suc hi)
 
 -- the server of the task that comes, after those that are placed
 abbrev pub Step : Type 0

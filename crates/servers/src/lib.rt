@@ -1,2 +1,2 @@
 // Placing: from tasks to servers, by first fit in file order.
-pub mod placement; // placement.rt: the server for a task, the servers of all tasks
+pub mod placement; // placement.rt: the servers of all tasks

@@ -22,7 +22,7 @@ pub fn share(header: Header, figures: &[u64], i: usize, horizon: u64) -> u64
     ensures { λ r. ⌜ r ≡ totalIn header horizon (loadAt (now (figures .entry)) i ∷ []) ⌝ }
 {
     let at = 3 * i;
-    let cost = demand::charging::charged_cost(
+    let cost = charging::charged_cost(
         figures[at],
         header.relo as u64,
         header.ctswo as u64,

@@ -1,6 +1,5 @@
 // Rows 7 and 8 of the refusals, each over all tasks of a set.
 // What they mean stands in specs/Rows.antt.
-use demand::charging;
 use tasks::set::Header;
 use tasks::set::Task;
 use tasks::set::TaskSet;

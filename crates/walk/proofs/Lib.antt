@@ -1,6 +1,1 @@
-pub mod LinesLaws
-pub mod LaidLaws
-pub mod LeastLaws
-pub mod StepLaws
-pub mod TickLaws
 pub mod SkipLaws

@@ -8,7 +8,7 @@ use lib.ListN.{take}
 use Rattle.wholes.specs.Multiple.{within}
 use Rattle.wholes.specs.declared.Multiple.{Multiple}
 use Rattle.wholes.specs.declared.Multiple.the-variants.{Within}
-use Rattle.demand.specs.Charging.{entryLoss}
+use Rattle.charging.specs.Charging.{entryLoss}
 use Rattle.demand.specs.Load.{Load, loadsOf}
 use Rattle.demand.specs.Demand.{demand}
 use Rattle.verdict.specs.Verdict.{ownHorizon}

@@ -6,7 +6,7 @@ use borrow.Author.Needs.{needs}
 use native.Mathlib.Nat.{div-le-self, mul-le-mul}
 use native.Mathlib.Omega.{arith}
 use Rattle.demand.specs.Load.{Load, loadAt}
-use Rattle.demand.specs.Charging.{effectiveCost}
+use Rattle.charging.specs.Charging.{effectiveCost}
 use Rattle.demand.proofs.Demand.{every-at}
 use Rattle.tasks.specs.declared.set.Header.{Header}
 use Rattle.loads.specs.Charge.{cacheOf, chargedIn, serverLoads, Member}

@@ -8,8 +8,8 @@ use native.Mathlib.Omega.{arith}
 use lib.ListN.{length, take}
 use Rattle.tasks.specs.Set.{mostProcessors}
 use Rattle.turn.specs.Stretch.{Laid}
-use Rattle.walk.specs.declared.Next.{Next}
-use Rattle.walk.proofs.LaidLaws.{laid-slotted, laid-room}
+use Rattle.ticklines.specs.declared.Next.{Next}
+use Rattle.ticklines.proofs.LaidLaws.{laid-slotted, laid-room}
 use Rattle.walk.proofs.SkipLaws.{Turned, turned-none, turned-room, turned-next, turned-all, next-later}
 use Rattle.walk.proofs.put_turn.Statement.{statement}
 use Rattle.walk.proofs.put_turn.Tie as tie
@@ -67,7 +67,7 @@ loop-again c =
     let put = c .before .before .before .before .put-tick in
     let l = c .before .before .before .before .before .before .before .before in
     let w = l .before .loop .inv in (
-      rw (put .ensures .0) (turned-next (laid-slotted (laid l)) (laid l .ring) (w .0) (below l) (start l .pre .1) (put .ensures .1 .0) (put .kept .0) (put .ensures .1 .1)),
+      rw (put .ensures .0) (turned-next (laid-slotted (laid l)) (laid l .ring) (w .0) (below l) (start l .pre .1) (put .ensures .1 .0) (put .kept .0) (put .ensures .1 .1 .0)),
       put .kept .1 .1 .0 ∙ w .1,
       put .kept .1 .1 .1 .0 ∙ w .2,
     )

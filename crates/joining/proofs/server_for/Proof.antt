@@ -1,0 +1,142 @@
+-- `server_for` meets its contract. The loop's invariant: no server above lo, up to q, takes the task.
+-- The measure is what is left of the servers. Assumes nothing.
+use Prim.Native.Nat.{ℕ, suc, _+_, _-_, _≤_, _<_}
+use mathlib.Core.Path.{_≡_, refl, sym, ap, _∙_}
+use mathlib.Core.Logic.{⊎-elim}
+use mathlib.Core.Bool.{Bool, false}
+use mathlib.Core.List.{List, [], _∷_}
+use borrow.Author.Needs.{needs}
+use native.Mathlib.Numerals.{add-one}
+use native.Mathlib.Omega.{arith}
+use lib.ListN.{take, getD}
+use Rattle.laws.proofs.Orders.{le-or-lt}
+use Rattle.demand.specs.Load.{loadAt, loadsOf}
+use Rattle.demand.proofs.Demand.{loads-next}
+use Rattle.search.specs.Search.{NoneIn}
+use Rattle.search.proofs.Bounded.{none-less}
+use Rattle.tasks.specs.declared.set.Header.{Header}
+use Rattle.tasks.specs.Set.{mostTasks}
+use Rattle.places.specs.Places.{chosen}
+use Rattle.members.specs.Server.{Filed}
+use Rattle.taking.specs.Takes.{takes}
+use Rattle.taking.specs.Totals.{totalIn}
+use Rattle.joining.specs.Totals.{Totals}
+use Rattle.joining.proofs.JoinLaws.{join-first, join-none}
+use Rattle.joining.proofs.TotalLaws.{no-room}
+use Rattle.joining.proofs.server_for.Statement.{statement}
+use Rattle.joining.proofs.server_for.Tie as tie
+
+-- the servers that take task i
+abbrev candidates : Header → (figures placement : List ℕ) → (i : ℕ) → ℕ → Bool
+candidates h figures placement i = takes h (loadsOf figures i) (take i placement) (loadAt figures i)
+
+abbrev Inv-loop : tie.InvT-loop
+Inv-loop header figures placement totals i lo count horizon own room q₀ q =
+    (lo ≤ q) × NoneIn (candidates header figures placement i) lo q
+
+abbrev μ-loop : tie.MeasureT-loop
+μ-loop header figures placement totals i lo count horizon own room q₀ q = count - q
+
+-- one server more that does not have p
+none-next : (p : ℕ → Bool) (lo q : ℕ) → NoneIn p lo q → p (q + 1) ≡ false → NoneIn p lo (q + 1)
+none-next p lo q none here x a b =
+    ⊎-elim (λ (h : x ≤ q). none x a h) (λ (h : q < x). let e : x ≡ q + 1 = omega arith in ap p e ∙ here) (le-or-lt x q)
+
+module _ (h : Header) (figures placement : List ℕ) (i H own : ℕ) (file : Filed h figures (i + 1) H)
+    (share : own ≡ totalIn h H (loadAt figures i ∷ [])) where
+  -- a server that the task's share takes past the horizon does not take it
+  past : (q : ℕ) → H < totalIn h H (chosen (loadsOf figures i) (take i placement) q) + own → candidates h figures placement i q ≡ false
+  past q more =
+      no-room h H (loadsOf figures i) (take i placement) (loadAt figures i) q (file .slot) (file .some)
+      (rw (sym (loads-next figures i)) (file .members)) (rw (sym (loads-next figures i)) (file .of-periods)) (omega (arith, share))
+
+  -- so none does where the share alone is past it
+  none-takes : H < own → (lo count : ℕ) → NoneIn (candidates h figures placement i) lo count
+  none-takes more lo count x a b = past x (omega arith)
+
+  -- nor one whose total leaves no room
+  full : (totals : List ℕ) (q room : ℕ) → Totals h H (loadsOf figures i) (take i placement) totals → q < mostTasks → room ≡ H - own → room < getD totals q 0 →
+      candidates h figures placement i (q + 1) ≡ false
+  full totals q room w few e more = ap (candidates h figures placement i) (add-one q) ∙ past (suc q) (omega (arith, w .each q few))
+
+returns : tie.Need-returns Inv-loop μ-loop
+returns c =
+    let s = c .before .before .before .before .before in
+    add-one (s .args .count) ∙
+    sym
+    (join-none (candidates (s .args .header) (s .args .figures .now) (s .args .placement .now) (s .args .i)) (s .args .lo) (s .args .count)
+    (none-takes (s .args .header) (s .args .figures .now) (s .args .placement .now) (s .args .i) (s .args .horizon) (c .before .share .result) (s .pre .0)
+    (c .before .share .ensures) (c .if1 .taken) (s .args .lo) (s .args .count)))
+
+loop-holds : tie.Need-loop-holds Inv-loop μ-loop
+loop-holds c = (omega arith, λ x a b. absurd (omega arith))
+
+shared-slice-read-if2 : tie.Need-shared-slice-read-if2 Inv-loop μ-loop
+shared-slice-read-if2 c =
+    let s = c .before .before .before .before .before .before .before .before in
+    omega (arith, c .before .loop-test .taken, s .pre .1 .0 .1, s .pre .1 .1 .room)
+
+returns-2 : tie.Need-returns-2 Inv-loop μ-loop
+returns-2 c =
+    let s = c .before .before .before .before .before .before .before .before .before .before .before in
+    let at = c .before .before .before .before .before .loop in
+    let test = c .before .before .before .before .loop-test in
+    sym
+    (join-first (candidates (s .args .header) (s .args .figures .now) (s .args .placement .now) (s .args .i)) (s .args .lo) (s .args .count) (at .q + 1)
+    (omega (arith, test .taken))
+    (record { above = omega (arith, at .inv .0); has = sym (c .before .takes-task .ensures) ∙ c .if3 .taken; before = λ x a b. at .inv .1 x a (omega arith) }))
+
+loop-less : tie.Need-loop-less Inv-loop μ-loop
+loop-less c = omega (arith, c .before .before .before .before .loop-test .taken)
+
+loop-again : tie.Need-loop-again Inv-loop μ-loop
+loop-again c =
+    let s = c .before .before .before .before .before .before .before .before .before .before .before in
+    let at = c .before .before .before .before .before .loop in
+    (omega (arith, at .inv .0), none-next (candidates (s .args .header) (s .args .figures .now) (s .args .placement .now) (s .args .i)) (s .args .lo) (at .q) (at .inv .1) (sym (c .before .takes-task .ensures) ∙ c .if3 .left))
+
+loop-less-2 : tie.Need-loop-less-2 Inv-loop μ-loop
+loop-less-2 c = omega (arith, c .before .before .loop-test .taken)
+
+loop-again-2 : tie.Need-loop-again-2 Inv-loop μ-loop
+loop-again-2 c =
+    let s = c .before .before .before .before .before .before .before .before .before in
+    let at = c .before .before .before .loop in
+    let share = c .before .before .before .before .before .share in
+    let more : s .args .horizon - share .result < getD (s .args .totals .now) (at .q) 0 = omega (arith, c .if2 .left) in (
+      omega (arith, at .inv .0),
+      none-next (candidates (s .args .header) (s .args .figures .now) (s .args .placement .now) (s .args .i)) (s .args .lo) (at .q) (at .inv .1)
+          (full (s .args .header) (s .args .figures .now) (s .args .placement .now) (s .args .i) (s .args .horizon) (share .result) (s .pre .0) (share .ensures)
+          (s .args .totals .now) (at .q) (s .args .horizon - share .result) (s .pre .1 .1) (omega (arith, c .before .before .loop-test .taken, s .pre .1 .0 .1)) refl more),
+    )
+
+returns-3 : tie.Need-returns-3 Inv-loop μ-loop
+returns-3 c =
+    let s = c .before .before .before .before .before .before .before in
+    let at = c .before .loop in
+    add-one (s .args .count) ∙
+    sym
+    (join-none (candidates (s .args .header) (s .args .figures .now) (s .args .placement .now) (s .args .i)) (s .args .lo) (s .args .count)
+    (none-less (at .inv .1) (omega (arith, c .loop-test .left))))
+
+pub server-for-spec : {M : Type 1} → statement M
+server-for-spec =
+    tie.close
+    (tie.spec
+    Inv-loop
+    μ-loop
+    (λ c κs. search needs)
+    (λ c. search needs)
+    returns
+    loop-holds
+    (λ c. search needs)
+    (λ c. search needs)
+    shared-slice-read-if2
+    (λ c κs. search needs)
+    returns-2
+    loop-less
+    loop-again
+    loop-less-2
+    loop-again-2
+    (λ c. search needs)
+    returns-3)
