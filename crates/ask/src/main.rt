@@ -1,27 +1,31 @@
 // Asks a question of the task file on standard input: who runs on a processor at a tick, or does a server pass with a reserve.
-// The question stands in the arguments; the answer is one line on standard output, failures are told on standard error.
-mod question; // question.rt: the question in the arguments
-mod words; // words.rt: the answer in plain words
-
+// The question stands in the arguments; what is printed is `lineFor` of askwords' specs/Question.antt. Failures are told on standard error.
+use askwords::Question;
+use askwords::answer;
+use askwords::asked;
 use libc::STDERR_FILENO;
-use question::Question;
-use question::asked;
+use libc::STDOUT_FILENO;
+use refusals::Written;
 use shell::front::front;
 use shell::input::Input;
 use shell::input::read_input;
-use words::say_pass;
-use words::say_who;
 
-fn answer(question: Question, text: &[u8]) -> bool {
-    match question {
-        Question::Who(processor, tick) => say_who(text, processor, tick),
-        Question::Pass(server, reserve) => say_pass(text, server, reserve),
-        Question::Unclear => true,
+// The question in the arguments. One that is missing or too long is empty, and so unclear.
+fn question() -> Question {
+    if os::arg_count() != 4 {
+        return Question::Unclear;
     }
+    let mut word = io::buffer();
+    let mut first = io::buffer();
+    let mut second = io::buffer();
+    let w = os::arg(1, &mut word);
+    let f = os::arg(2, &mut first);
+    let s = os::arg(3, &mut second);
+    asked(&word[..w], &first[..f], &second[..s])
 }
 
 fn main() {
-    let question = asked();
+    let question = question();
     if let Question::Unclear = question {
         io::write_all(
             STDERR_FILENO,
@@ -34,7 +38,12 @@ fn main() {
         os::fail(b"ask: standard input");
         return;
     };
-    if !answer(question, front(&text, n)) {
+    let mut out = io::buffer();
+    let Written::Bytes(k) = answer(question, front(&text, n), &mut out) else {
+        io::write_all(STDERR_FILENO, b"ask: no room for the answer\n");
+        return;
+    };
+    if !io::write_all(STDOUT_FILENO, front(&out, k)) {
         os::fail(b"ask: standard output");
     }
 }

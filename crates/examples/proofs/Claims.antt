@@ -5,7 +5,7 @@ use Rattle.refusals.specs.declared.Refusal.the-variants.{Horizon}
 use Rattle.refusals.specs.declared.Outcome.the-variants.{Refused}
 use Rattle.planlines.specs.Line.{refusalText}
 use Rattle.planfile.specs.Tool.{answered}
-use Rattle.tasks_claims.specs.Quoted.{bytesOf}
+use Rattle.quoted.specs.Quoted.{bytesOf}
 use Rattle.examples.specs.Asked.{rowsIn, RowsRefuse}
 use Rattle.examples.specs.Asked.Answer.{text}
 use Rattle.examples.specs.Examples.{AtoL, fileK}

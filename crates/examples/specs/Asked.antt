@@ -25,7 +25,7 @@ use Rattle.taskplan.specs.declared.FileAnswer.{FileAnswer}
 use Rattle.taskplan.specs.File.{filedOf}
 use Rattle.planfile.specs.Tool.{answered}
 use Rattle.askfile.specs.OfFile.{whoIn, passIn}
-use Rattle.tasks_claims.specs.Quoted.{bytesOf}
+use Rattle.quoted.specs.Quoted.{bytesOf}
 
 -- the fake-task sum of a set's server q with reserve R at length t: its demand, and that of a task of cost and deadline
 -- S − R + L and period S; the reserve passes there where the sum is at most t

@@ -11,7 +11,7 @@ use Rattle.verdict.specs.declared.answer.Verdict.the-variants.{No}
 use Rattle.ring.specs.declared.clock.Tick.{Tick}
 use Rattle.whoruns.specs.declared.WhoAnswer.{WhoAnswer}
 use Rattle.doespass.specs.declared.PassAnswer.{PassAnswer}
-use Rattle.tasks_claims.specs.Quoted.{bytesOf}
+use Rattle.quoted.specs.Quoted.{bytesOf}
 use Rattle.examples.specs.Asked.{Question, Answer, answerOf}
 use Rattle.examples.specs.Asked.Question.{prints, runs, passes, sums, lasts, refuses}
 use Rattle.examples.specs.Asked.Answer.{text, running, passed, ticks, outcome}

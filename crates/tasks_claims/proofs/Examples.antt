@@ -17,7 +17,7 @@ use Rattle.tasks.specs.Search.{some, firstFrom}
 use Rattle.taskrows.specs.Rows.{boardRow, rangeRow, figuresOutcome}
 use Rattle.taskfile.specs.File.{past, tasksAmong, lineRow, orderRow, countLineRow, twiceLineRow, lineOutcome, headerAt, taskAt}
 use Rattle.taskread.specs.Read.{fileSet, readOutcome, readOf}
-pub use Rattle.tasks_claims.specs.Quoted.{bytesOf}
+pub use Rattle.quoted.specs.Quoted.{bytesOf}
 
 abbrev pub answers : String → Outcome
 answers text = readOf (bytesOf text) .outcome

@@ -1,2 +1,1 @@
-pub mod Quoted
 pub mod Claims

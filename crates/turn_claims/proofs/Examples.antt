@@ -11,7 +11,7 @@ use Rattle.reserves.specs.Reserves.{ringTicks, wholes}
 use Rattle.ring.specs.Phase.{phase}
 use Rattle.ring.specs.Cover.{covers, covererUpTo, standAt}
 use Rattle.ring.specs.Who.{whoOf}
-use Rattle.tasks_claims.specs.Quoted.{bytesOf}
+use Rattle.quoted.specs.Quoted.{bytesOf}
 use Rattle.turn.specs.Switches.{switches, switchesAt, switchesBefore, turnSwitches, switchLine, switchLines, switchText}
 
 -- three reserves of 6 in a slot of 10, on two processors: tick, processor and server of each line

@@ -1,4 +1,4 @@
--- Files and answers of examples are quoted text: its bytes.
+-- Lines of plain words, and the files and answers of examples, are quoted text: its bytes.
 use Prim.Native.Nat.{ℕ}
 use Prim.Native.Char.{code}
 use Prim.Native.String.{String}

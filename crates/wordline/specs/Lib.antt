@@ -1,0 +1,3 @@
+pub mod Words
+pub mod Lined
+pub mod Claims
