@@ -1,20 +1,14 @@
--- What the entry points answer to a set and a plan that are handed in as numbers: a status with numbers in lent memory, or a text.
+-- What the planner, the check and the questions answer to a set and a plan that are handed in as numbers: a status, and numbers in lent memory.
 -- Document 01, the two questions, and "Refusal numbers and their order".
 use Prim.Native.Nat.{ℕ}
 use mathlib.Core.List.{List, [], _∷_}
 use Rattle.refusals.specs.declared.Outcome.{Outcome}
-use Rattle.refusals.specs.declared.Outcome.the-variants.{Refused}
-use Rattle.refusals.specs.declared.Written.{Written}
-use Rattle.refusals.specs.declared.Written.the-variants.{Bytes, Refused as NotWritten}
-use Rattle.told.specs.Told.{statusOf, toldOf, verdictNumbers}
+use Rattle.told.specs.Told.{toldOf, verdictNumbers}
 use Rattle.planner.specs.Planner.{planOf}
 use Rattle.whoruns.specs.declared.WhoAnswer.{WhoAnswer}
 use Rattle.whoruns.specs.WhoRuns.{whoRuns}
 use Rattle.doespass.specs.declared.PassAnswer.{PassAnswer}
 use Rattle.doespass.specs.DoesPass.{doesPass}
-use Rattle.taskwrite.specs.Write.{writeOf}
-use Rattle.planfile.specs.Write.{writePlan}
-use Rattle.switchlist.specs.Write.{writeSwitches}
 use Rattle.handed.specs.Handed.{setFrom, planFrom}
 use Rattle.numbered.specs.Numbered.{planNumbers}
 
@@ -44,23 +38,3 @@ passNumbers set plan q R = verdictNumbers (passHanded set plan q R .verdict)
 
 unfoldable pub passTold : (set plan : List ℕ) (q R : ℕ) (answer : List ℕ) → Outcome
 passTold set plan q R answer = toldOf (passHanded set plan q R .outcome) (passNumbers set plan q R) answer
-
--- what the writers answer
-abbrev pub setWritten : (set out : List ℕ) → Written
-setWritten set out = writeOf (setFrom set) out
-
-abbrev pub planWritten : (set plan out : List ℕ) → Written
-planWritten set plan out = writePlan (setFrom set) (planFrom plan) out
-
-abbrev pub switchesWritten : (set plan out : List ℕ) → Written
-switchesWritten set plan out = writeSwitches (setFrom set) (planFrom plan) out
-
--- 0, or the refusal
-abbrev pub writtenStatus : Written → ℕ
-writtenStatus (Bytes n) = 0
-writtenStatus (NotWritten r) = statusOf (Refused r)
-
--- the text's length, or the lent number as before
-abbrev pub writtenLength : Written → (before : ℕ) → ℕ
-writtenLength (Bytes n) before = n
-writtenLength (NotWritten r) before = before

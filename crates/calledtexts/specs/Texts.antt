@@ -1,0 +1,32 @@
+-- What the writers answer to a set and a plan that are handed in as numbers: a status, a text in lent bytes, and its length.
+-- Document 01, rows 11 and 12 of the refusals.
+use Prim.Native.Nat.{ℕ}
+use mathlib.Core.List.{List}
+use Rattle.refusals.specs.declared.Outcome.the-variants.{Refused}
+use Rattle.refusals.specs.declared.Written.{Written}
+use Rattle.refusals.specs.declared.Written.the-variants.{Bytes, Refused as NotWritten}
+use Rattle.told.specs.Told.{statusOf}
+use Rattle.taskwrite.specs.Write.{writeOf}
+use Rattle.planfile.specs.Write.{writePlan}
+use Rattle.switchlist.specs.Write.{writeSwitches}
+use Rattle.handed.specs.Handed.{setFrom, planFrom}
+
+-- what the writers answer
+abbrev pub setWritten : (set out : List ℕ) → Written
+setWritten set out = writeOf (setFrom set) out
+
+abbrev pub planWritten : (set plan out : List ℕ) → Written
+planWritten set plan out = writePlan (setFrom set) (planFrom plan) out
+
+abbrev pub switchesWritten : (set plan out : List ℕ) → Written
+switchesWritten set plan out = writeSwitches (setFrom set) (planFrom plan) out
+
+-- 0, or the refusal
+abbrev pub writtenStatus : Written → ℕ
+writtenStatus (Bytes n) = 0
+writtenStatus (NotWritten r) = statusOf (Refused r)
+
+-- the text's length, or the lent number as before
+abbrev pub writtenLength : Written → (before : ℕ) → ℕ
+writtenLength (Bytes n) before = n
+writtenLength (NotWritten r) before = before

@@ -1,0 +1,74 @@
+// The writers of a set, of a plan and of its switch list, called with a set and a plan as numbers (crate `handed`), for the outside
+// tests. Each answers every input, into lent bytes: a status of 0 says that the text stands at their start, with its length in the
+// lent number; any other is the refusal, and both are as before. What is answered stands in specs/Texts.antt.
+use handed::plans::plan_from;
+use handed::sets::set_from;
+use planfile::write::write_plan;
+use refusals::Written;
+use switchlist::write_switches;
+use taskwrite::write::write;
+use told::code;
+ghost use mathlib.Core.Path.{_≡_};
+ghost use Rattle.refusals.specs.Leaves.{leaves};
+ghost use Rattle.tasktext.specs.Text.{textOf};
+ghost use Rattle.plantext.specs.Text.{planText};
+ghost use Rattle.switchlist.specs.Write.{planSwitches};
+ghost use Rattle.handed.specs.Handed.{setFrom, planFrom};
+ghost use Rattle.calledtexts.specs.Texts.{setWritten, planWritten, switchesWritten, writtenStatus, writtenLength};
+
+// Tells a writer's answer: its status, and the length of what was written.
+fn tell(written: Written, length: &mut usize) -> u64
+    ensures { λ r. ⌜ r ≡ writtenStatus written ⌝ }
+    ensures { λ r. ⌜ now (length .exit) ≡ writtenLength written (now (length .entry)) ⌝ }
+{
+    match written {
+        Written::Bytes(bytes) => {
+            *length = bytes;
+            0
+        }
+        Written::Refused(refusal) => code(refusal),
+    }
+}
+
+// The text of a set.
+#[no_mangle]
+pub extern "C" fn handed_write(set: &[u64], out: &mut [u8], length: &mut usize) -> u64
+    ensures { λ r. ⌜ r ≡ writtenStatus (setWritten (now (set .entry)) (now (out .entry))) ⌝ }
+    ensures { λ r. ⌜ now (out .exit) ≡ leaves (setWritten (now (set .entry)) (now (out .entry))) (now (out .entry)) (textOf (setFrom (now (set .entry)))) ⌝ }
+    ensures { λ r. ⌜ now (length .exit) ≡ writtenLength (setWritten (now (set .entry)) (now (out .entry))) (now (length .entry)) ⌝ }
+{
+    let written = write(set_from(set), out);
+    tell(written, length)
+}
+
+// The text of a plan that is handed in with its set.
+#[no_mangle]
+pub extern "C" fn handed_write_plan<'a>(
+    set: &'a [u64],
+    plan: &'a [u64],
+    out: &mut [u8],
+    length: &mut usize,
+) -> u64
+    ensures { λ r. ⌜ r ≡ writtenStatus (planWritten (now (set .entry)) (now (plan .entry)) (now (out .entry))) ⌝ }
+    ensures { λ r. ⌜ now (out .exit) ≡ leaves (planWritten (now (set .entry)) (now (plan .entry)) (now (out .entry))) (now (out .entry)) (planText (setFrom (now (set .entry))) (planFrom (now (plan .entry)))) ⌝ }
+    ensures { λ r. ⌜ now (length .exit) ≡ writtenLength (planWritten (now (set .entry)) (now (plan .entry)) (now (out .entry))) (now (length .entry)) ⌝ }
+{
+    let written = write_plan(set_from(set), plan_from(plan), out);
+    tell(written, length)
+}
+
+// The switch list of a plan that is handed in with its set.
+#[no_mangle]
+pub extern "C" fn handed_write_switches<'a>(
+    set: &'a [u64],
+    plan: &'a [u64],
+    out: &mut [u8],
+    length: &mut usize,
+) -> u64
+    ensures { λ r. ⌜ r ≡ writtenStatus (switchesWritten (now (set .entry)) (now (plan .entry)) (now (out .entry))) ⌝ }
+    ensures { λ r. ⌜ now (out .exit) ≡ leaves (switchesWritten (now (set .entry)) (now (plan .entry)) (now (out .entry))) (now (out .entry)) (planSwitches (planFrom (now (plan .entry)))) ⌝ }
+    ensures { λ r. ⌜ now (length .exit) ≡ writtenLength (switchesWritten (now (set .entry)) (now (plan .entry)) (now (out .entry))) (now (length .entry)) ⌝ }
+{
+    let written = write_switches(set_from(set), plan_from(plan), out);
+    tell(written, length)
+}
