@@ -1,5 +1,5 @@
 -- The common measure of two whole numbers: the greatest that divides both. The least common multiple is made from it.
--- Document 01, "Places and their forms": by recursion on remainders, the second number falling.
+-- Document 01, "Places and their forms": by remainders, the second number falling. The code does it in a loop, as request 06 asks.
 use Prim.Native.Nat.{ℕ, zero, suc, _%_, _∣_}
 
 -- g divides both, and whatever divides both divides g. The common measure of 0 and 0 is 0.

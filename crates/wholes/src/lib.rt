@@ -6,11 +6,18 @@ ghost use Rattle.wholes.specs.Measure.{commonMeasure};
 ghost use Rattle.wholes.specs.Multiple.{leastMultiple, within};
 ghost use Rattle.wholes.specs.Ceiling.{ceilingOf};
 
-// By remainders: the second number falls at each call.
+// By remainders: the second number falls at each turn.
 pub fn common_measure(a: u64, b: u64) -> u64
     ensures { λ r. ⌜ r ≡ commonMeasure a b ⌝ }
 {
-    if b == 0 { a } else { common_measure(b, a % b) }
+    let mut first = a;
+    let mut second = b;
+    while 0 < second {
+        let rest = first % second;
+        first = second;
+        second = rest;
+    }
+    first
 }
 
 // A multiple that is at most the limit, or none.
