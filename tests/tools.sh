@@ -1,6 +1,6 @@
 # Finds, or installs, what the outside tests build and run with. Everything that is linked is for x86-64, as the proved
 # archives are; another processor runs it under an emulator.
-# Sets CC, RUSTC and RUN (arrays).
+# Sets CC, RUSTC and RUN (arrays), and OBJDUMP.
 have() { command -v "$1" >/dev/null 2>&1; }
 
 install() {
@@ -15,6 +15,7 @@ tools() {
     CC=(gcc)
     RUSTC=(rustc)
     RUN=()
+    OBJDUMP=objdump
     return
   fi
   have x86_64-linux-gnu-gcc || install gcc-x86-64-linux-gnu libc6-dev-amd64-cross
@@ -26,4 +27,5 @@ tools() {
   CC=(x86_64-linux-gnu-gcc)
   RUSTC=(/usr/bin/rustc --target x86_64-unknown-linux-gnu -C linker=x86_64-linux-gnu-gcc)
   RUN=(qemu-x86_64)
+  OBJDUMP=x86_64-linux-gnu-objdump
 }
