@@ -377,9 +377,12 @@ pub fn numbers(set: &Set, plan: &Plan) -> Vec<Option<u64>> {
     let idle = plan.ring.iter().filter(|q| **q == 0).count() as u64;
     let mut out = room(&[plan.whole as u64, plan.r as u64, plan.reserves.len() as u64, set.s, idle], 5);
     for q in 0..64 {
-        let Some(held) = plan.members.get(q) else {
-            out.extend(room(&[], 68));
-            continue;
+        let held = match plan.members.get(q) {
+            Some(held) => held,
+            None => {
+                out.extend(room(&[], 68));
+                continue;
+            }
         };
         let places: Vec<u64> = held.iter().map(|i| *i as u64).collect();
         let start = if plan.reserves[q] == set.s { 0 } else { plan.starts[q] };
