@@ -16,13 +16,13 @@ use Rattle.taskask.proofs.breaks_twice.Statement.{statement}
 use Rattle.taskask.proofs.breaks_twice.Tie as tie
 
 abbrev Inv-loop : tie.InvT-loop
-Inv-loop set count i₀ i = (i ≤ count) × (twiceRow (members set) ≡ twiceRow (drop i (members set)))
+Inv-loop set count i₀ i = twiceRow (members set) ≡ twiceRow (drop i (members set))
 
 abbrev μ-loop : tie.MeasureT-loop
 μ-loop set count i₀ i = count - i
 
 abbrev Inv-loop2 : tie.InvT-loop2
-Inv-loop2 set count i id j₀ j = (j ≤ count) × (some (hasId id) (drop j₀ (members set)) ≡ some (hasId id) (drop j (members set)))
+Inv-loop2 set count i id j₀ j = some (hasId id) (drop j₀ (members set)) ≡ some (hasId id) (drop j (members set))
 
 abbrev μ-loop2 : tie.MeasureT-loop2
 μ-loop2 set count i id j₀ j = count - j
@@ -34,7 +34,7 @@ fits : (c : tie.Start Inv-loop2 μ-loop2 Inv-loop μ-loop) → c .args .t1 .coun
 fits c = omega (arith, full c, c .pre)
 
 loop-holds : tie.Need-loop-holds Inv-loop2 μ-loop2 Inv-loop μ-loop
-loop-holds c = (omega arith, refl)
+loop-holds c = refl
 
 mul-id : tie.Need-mul-id Inv-loop2 μ-loop2 Inv-loop μ-loop
 mul-id c = omega arith
@@ -46,7 +46,7 @@ add-j : tie.Need-add-j Inv-loop2 μ-loop2 Inv-loop μ-loop
 add-j c = omega arith
 
 loop2-holds : tie.Need-loop2-holds Inv-loop2 μ-loop2 Inv-loop μ-loop
-loop2-holds c = (omega arith, refl)
+loop2-holds c = refl
 
 mul-if1 : tie.Need-mul-if1 Inv-loop2 μ-loop2 Inv-loop μ-loop
 mul-if1 c = omega arith
@@ -63,7 +63,7 @@ by-rest : (c : tie.At-loop2 Inv-loop2 μ-loop2 Inv-loop μ-loop) (b : Bool) →
 by-rest c b e =
     let at = c .before .before in
     let set = at .before .args .t1 in
-    twice-left (set .tasks) (set .count) (at .loop .i) zeroTask b (fits (at .before)) (c .before .loop-test .taken) (c .loop2 .inv .1 ∙ e)
+    twice-left (set .tasks) (set .count) (at .loop .i) zeroTask b (fits (at .before)) (c .before .loop-test .taken) (c .loop2 .inv ∙ e)
 
 returns : tie.Need-returns Inv-loop2 μ-loop2 Inv-loop μ-loop
 returns c =
@@ -71,7 +71,7 @@ returns c =
     let at = l .before .before in
     let set = at .before .args .t1 in
     let id = getD (set .tasks) (at .loop .i) zeroTask .id in
-    sym (at .loop .inv .1 ∙ by-rest l true (some-left (hasId id) (set .tasks) (set .count) (l .loop2 .j) zeroTask true (fits (at .before)) (c .before .loop2-test .taken) (eq-eqb _ _ (c .if1 .taken))))
+    sym (at .loop .inv ∙ by-rest l true (some-left (hasId id) (set .tasks) (set .count) (l .loop2 .j) zeroTask true (fits (at .before)) (c .before .loop2-test .taken) (eq-eqb _ _ (c .if1 .taken))))
 
 add-j-2 : tie.Need-add-j-2 Inv-loop2 μ-loop2 Inv-loop μ-loop
 add-j-2 c = omega arith
@@ -84,10 +84,8 @@ loop2-again c =
     let l = c .before .before in
     let at = l .before .before in
     let set = at .before .args .t1 in
-    let id = getD (set .tasks) (at .loop .i) zeroTask .id in (
-      omega arith,
-      l .loop2 .inv .1 ∙ some-left (hasId id) (set .tasks) (set .count) (l .loop2 .j) zeroTask false (fits (at .before)) (c .before .loop2-test .taken) (ne-eqb _ _ (c .if1 .left)),
-    )
+    let id = getD (set .tasks) (at .loop .i) zeroTask .id in
+    l .loop2 .inv ∙ some-left (hasId id) (set .tasks) (set .count) (l .loop2 .j) zeroTask false (fits (at .before)) (c .before .loop2-test .taken) (ne-eqb _ _ (c .if1 .left))
 
 add-i : tie.Need-add-i Inv-loop2 μ-loop2 Inv-loop μ-loop
 add-i c = omega arith
@@ -100,15 +98,13 @@ loop-again c =
     let l = c .before in
     let at = l .before .before in
     let set = at .before .args .t1 in
-    let id = getD (set .tasks) (at .loop .i) zeroTask .id in (
-      omega arith,
-      at .loop .inv .1 ∙ by-rest l false (some-end (hasId id) (set .tasks) (set .count) (l .loop2 .j) (fits (at .before)) (c .loop2-test .left)),
-    )
+    let id = getD (set .tasks) (at .loop .i) zeroTask .id in
+    at .loop .inv ∙ by-rest l false (some-end (hasId id) (set .tasks) (set .count) (l .loop2 .j) (fits (at .before)) (c .loop2-test .left))
 
 returns-2 : tie.Need-returns-2 Inv-loop2 μ-loop2 Inv-loop μ-loop
 returns-2 c =
     let set = c .before .before .args .t1 in
-    sym (c .before .loop .inv .1 ∙ twice-end (set .tasks) (set .count) (c .before .loop .i) (fits (c .before .before)) (c .loop-test .left))
+    sym (c .before .loop .inv ∙ twice-end (set .tasks) (set .count) (c .before .loop .i) (fits (c .before .before)) (c .loop-test .left))
 
 pub breaks-twice-spec : {M : Type 1} → statement M
 breaks-twice-spec =
