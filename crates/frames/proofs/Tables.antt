@@ -6,11 +6,10 @@ use mathlib.Core.Bool.{Bool, true, cond, _&&_}
 use mathlib.Core.Option.{Option, none, some}
 use mathlib.Core.List.{List, [], _∷_, _++_, map}
 use native.Mathlib.Omega.{arith}
-use lib.Dec.{leb, ltb, eqb}
+use lib.Dec.{leb, eqb}
 use lib.ListN.{length, getD, take, replicate}
 use lib.Seq.{getD-take, take-all}
-use borrow.Author.Tests.{leb-true, ltb-true, eqb-true}
-use Rattle.frames.specs.declared.table.Row.{Row}
+use borrow.Author.Tests.{leb-true, eqb-true}
 use Rattle.frames.specs.declared.table.Frame.{Frame}
 use Rattle.frames.specs.declared.table.Frame.the-variants.{Header, Task, Plan, Server, Placed, Processor, Refused, Switch}
 use Rattle.digits.specs.Digit.{legal, allLegal}
@@ -29,10 +28,6 @@ at-index g other Processor = refl
 at-index g other Refused = refl
 at-index g other Switch = refl
 
--- the table's entry at a frame's index is that frame's row
-pub row-at : (table : List Row) (other : Row) → table ≡ map rowOf allFrames → (frame : Frame) → getD table (indexOf frame) other ≡ rowOf frame
-row-at table other e frame = ap (λ (l : List Row). getD l (indexOf frame) other) e ∙ at-index rowOf other frame
-
 -- a test of every entry of a list
 abbrev every : {A : Type 0} → (A → Bool) → List A → Bool
 every test [] = true
@@ -46,9 +41,6 @@ every-at test (x ∷ xs) p (suc k) = every-at test xs (and-right (test x) (every
 -- a test that computes to true over all frames passes at each
 pub at-frame : (test : Frame → Bool) → every test allFrames ≡ true → (frame : Frame) → test frame ≡ true
 at-frame test p frame = sym (at-index test true frame) ∙ every-at test allFrames p (indexOf frame)
-
-pub index-within : (frame : Frame) → indexOf frame < length allFrames
-index-within frame = ltb-true (indexOf frame) (length allFrames) (at-frame (λ (f : Frame). ltb (indexOf f) (length allFrames)) refl frame)
 
 -- a kind is two legal digits
 pub kind-length : (frame : Frame) → length (kindOf frame) ≡ 2

@@ -2,7 +2,7 @@
 // A frame with fewer than the most fields is filled up with fields of no digits. Where each field starts follows from the widths; it
 // stands in the row so that nobody counts it again, and behind it where the line ends.
 ghost use mathlib.Core.Path.{_≡_};
-ghost use Rattle.frames.specs.Table.{rowOf, indexOf};
+ghost use Rattle.frames.specs.Table.{rowOf};
 
 pub enum Frame {
     Header,
@@ -39,76 +39,85 @@ pub const FRAMES: [Frame; KINDS] = [
     Frame::Switch,
 ];
 
+const HEADER: Row = Row {
+    kind: *b"01",
+    fields: 7,
+    widths: [2, 6, 4, 4, 4, 4, 4],
+    starts: [2, 4, 10, 14, 18, 22, 26, 30],
+};
+
+const TASK: Row = Row {
+    kind: *b"02",
+    fields: 4,
+    widths: [2, 6, 6, 6, 0, 0, 0],
+    starts: [2, 4, 10, 16, 22, 22, 22, 22],
+};
+
+const PLAN: Row = Row {
+    kind: *b"11",
+    fields: 5,
+    widths: [2, 2, 2, 6, 8, 0, 0],
+    starts: [2, 4, 6, 8, 14, 22, 22, 22],
+};
+
+const SERVER: Row = Row {
+    kind: *b"12",
+    fields: 4,
+    widths: [2, 6, 8, 2, 0, 0, 0],
+    starts: [2, 4, 10, 18, 20, 20, 20, 20],
+};
+
+const PLACED: Row = Row {
+    kind: *b"13",
+    fields: 2,
+    widths: [2, 2, 0, 0, 0, 0, 0],
+    starts: [2, 4, 6, 6, 6, 6, 6, 6],
+};
+
+const PROCESSOR: Row = Row {
+    kind: *b"14",
+    fields: 3,
+    widths: [2, 2, 6, 0, 0, 0, 0],
+    starts: [2, 4, 6, 12, 12, 12, 12, 12],
+};
+
+const REFUSED: Row = Row {
+    kind: *b"1F",
+    fields: 2,
+    widths: [2, 2, 0, 0, 0, 0, 0],
+    starts: [2, 4, 6, 6, 6, 6, 6, 6],
+};
+
+const SWITCH: Row = Row {
+    kind: *b"21",
+    fields: 3,
+    widths: [8, 2, 2, 0, 0, 0, 0],
+    starts: [2, 10, 12, 14, 14, 14, 14, 14],
+};
+
 pub const TABLE: [Row; KINDS] = [
-    Row {
-        kind: *b"01",
-        fields: 7,
-        widths: [2, 6, 4, 4, 4, 4, 4],
-        starts: [2, 4, 10, 14, 18, 22, 26, 30],
-    },
-    Row {
-        kind: *b"02",
-        fields: 4,
-        widths: [2, 6, 6, 6, 0, 0, 0],
-        starts: [2, 4, 10, 16, 22, 22, 22, 22],
-    },
-    Row {
-        kind: *b"11",
-        fields: 5,
-        widths: [2, 2, 2, 6, 8, 0, 0],
-        starts: [2, 4, 6, 8, 14, 22, 22, 22],
-    },
-    Row {
-        kind: *b"12",
-        fields: 4,
-        widths: [2, 6, 8, 2, 0, 0, 0],
-        starts: [2, 4, 10, 18, 20, 20, 20, 20],
-    },
-    Row {
-        kind: *b"13",
-        fields: 2,
-        widths: [2, 2, 0, 0, 0, 0, 0],
-        starts: [2, 4, 6, 6, 6, 6, 6, 6],
-    },
-    Row {
-        kind: *b"14",
-        fields: 3,
-        widths: [2, 2, 6, 0, 0, 0, 0],
-        starts: [2, 4, 6, 12, 12, 12, 12, 12],
-    },
-    Row {
-        kind: *b"1F",
-        fields: 2,
-        widths: [2, 2, 0, 0, 0, 0, 0],
-        starts: [2, 4, 6, 6, 6, 6, 6, 6],
-    },
-    Row {
-        kind: *b"21",
-        fields: 3,
-        widths: [8, 2, 2, 0, 0, 0, 0],
-        starts: [2, 10, 12, 14, 14, 14, 14, 14],
-    },
+    HEADER,
+    TASK,
+    PLAN,
+    SERVER,
+    PLACED,
+    PROCESSOR,
+    REFUSED,
+    SWITCH,
 ];
 
-// The index of a frame in the table.
-fn index(frame: Frame) -> usize
-    ensures { λ r. ⌜ r ≡ indexOf frame ⌝ }
-{
-    match frame {
-        Frame::Header => 0,
-        Frame::Task => 1,
-        Frame::Plan => 2,
-        Frame::Server => 3,
-        Frame::Placed => 4,
-        Frame::Processor => 5,
-        Frame::Refused => 6,
-        Frame::Switch => 7,
-    }
-}
-
+// A frame's row. The arms name the rows: whoever indexes TABLE by a number that is not constant lays all of it out on the stack.
 pub fn row_of(frame: Frame) -> Row
     ensures { λ r. ⌜ r ≡ rowOf frame ⌝ }
 {
-    let i = index(frame);
-    TABLE[i]
+    match frame {
+        Frame::Header => HEADER,
+        Frame::Task => TASK,
+        Frame::Plan => PLAN,
+        Frame::Server => SERVER,
+        Frame::Placed => PLACED,
+        Frame::Processor => PROCESSOR,
+        Frame::Refused => REFUSED,
+        Frame::Switch => SWITCH,
+    }
 }

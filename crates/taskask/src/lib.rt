@@ -8,9 +8,8 @@ use tasks::set::TaskSet;
 use tasks::values::header_values;
 use tasks::values::task_values;
 ghost use mathlib.Core.Path.{_≡_};
-ghost use Prim.Native.Nat.{_+_, _<_, _≤_};
-ghost use lib.ListN.{drop, getD};
-ghost use Rattle.tasks.specs.Set.{members, mostTasks, zeroTask, hasId};
+ghost use Prim.Native.Nat.{_≤_};
+ghost use Rattle.tasks.specs.Set.{members, mostTasks};
 ghost use Rattle.tasks.specs.Search.{some};
 ghost use Rattle.taskask.specs.Ask.{countRow, twiceRow, headerOverflows, taskOverflows, askRow};
 
@@ -24,24 +23,7 @@ pub fn breaks_count(set: TaskSet) -> bool
     TaskSet::MOST_TASKS < set.count
 }
 
-// Whether a task after place `i`, counted from 0, has the id of the one there.
-fn repeats_later(set: TaskSet, i: usize) -> bool
-    requires { ⌜ (set .count ≤ mostTasks) × (i < set .count) ⌝ }
-    ensures { λ r. ⌜ r ≡ some (hasId (getD (set .tasks) i zeroTask .id)) (drop (i + 1) (members set)) ⌝ }
-{
-    let id = set.tasks[i].id;
-    let count = set.count;
-    let mut j = i + 1;
-    while j < count {
-        if set.tasks[j].id == id {
-            return true;
-        }
-        j += 1;
-    }
-    false
-}
-
-// 4 TWICE.
+// 4 TWICE. Each task's id is compared with those behind it.
 pub fn breaks_twice(set: TaskSet) -> bool
     requires { ⌜ set .count ≤ mostTasks ⌝ }
     ensures { λ r. ⌜ r ≡ twiceRow (members set) ⌝ }
@@ -49,8 +31,13 @@ pub fn breaks_twice(set: TaskSet) -> bool
     let count = set.count;
     let mut i = 0;
     while i < count {
-        if repeats_later(set, i) {
-            return true;
+        let id = set.tasks[i].id;
+        let mut j = i + 1;
+        while j < count {
+            if set.tasks[j].id == id {
+                return true;
+            }
+            j += 1;
         }
         i += 1;
     }

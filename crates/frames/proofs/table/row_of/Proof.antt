@@ -1,22 +1,60 @@
--- `frames::table::row_of` meets its contract: the constant table is the list of the frames' rows.
+-- `frames::table::row_of` meets its contract: each arm's row is that of the frame it is for.
 -- Assumes nothing.
-use mathlib.Core.Path.{refl}
-use native.Mathlib.Omega.{arith}
+use mathlib.Core.Path.{sym, ap}
 use borrow.Author.Needs.{needs}
 use Rattle.frames.specs.Table.{kindOf, widthsOf, sum, front, rowOf}
-use Rattle.frames.proofs.Tables.{index-within, row-at}
 use Rattle.frames.proofs.table.row_of.Statement.{statement}
 use Rattle.frames.proofs.table.row_of.Tie as tie
 
-mul-result : tie.Need-mul-result
-mul-result c = omega (arith, index-within (c .before .args .frame))
-
-array-copy-out-result : tie.Need-array-copy-out-result
-array-copy-out-result c = omega (arith, index-within (c .before .args .frame))
-
 returns : tie.Need-returns
 unfolding kindOf widthsOf sum front rowOf
-returns c = rw (c .before .index .ensures) (row-at _ _ refl (c .before .before .args .frame))
+returns c = sym (ap rowOf (c .enum-told .given .1))
+
+returns-2 : tie.Need-returns-2
+unfolding kindOf widthsOf sum front rowOf
+returns-2 c = sym (ap rowOf (c .enum-told2 .given .1))
+
+returns-3 : tie.Need-returns-3
+unfolding kindOf widthsOf sum front rowOf
+returns-3 c = sym (ap rowOf (c .enum-told3 .given .1))
+
+returns-4 : tie.Need-returns-4
+unfolding kindOf widthsOf sum front rowOf
+returns-4 c = sym (ap rowOf (c .enum-told4 .given .1))
+
+returns-5 : tie.Need-returns-5
+unfolding kindOf widthsOf sum front rowOf
+returns-5 c = sym (ap rowOf (c .enum-told5 .given .1))
+
+returns-6 : tie.Need-returns-6
+unfolding kindOf widthsOf sum front rowOf
+returns-6 c = sym (ap rowOf (c .enum-told6 .given .1))
+
+returns-7 : tie.Need-returns-7
+unfolding kindOf widthsOf sum front rowOf
+returns-7 c = sym (ap rowOf (c .enum-told7 .given .1))
+
+returns-8 : tie.Need-returns-8
+unfolding kindOf widthsOf sum front rowOf
+returns-8 c = sym (ap rowOf (c .enum-told8 .given .1))
 
 pub row-of-spec : {M : Type 1} → statement M
-row-of-spec = tie.close (tie.spec (λ c κs. search needs) mul-result array-copy-out-result returns)
+row-of-spec =
+    tie.close
+    (tie.spec
+    (λ c. search needs)
+    (λ c. search needs)
+    (λ c. search needs)
+    (λ c. search needs)
+    (λ c. search needs)
+    (λ c. search needs)
+    (λ c. search needs)
+    (λ c. search needs)
+    returns
+    returns-2
+    returns-3
+    returns-4
+    returns-5
+    returns-6
+    returns-7
+    returns-8)
