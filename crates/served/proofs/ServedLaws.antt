@@ -93,8 +93,8 @@ module _ {h : Header} {cache : ℕ} {figures places : List ℕ} {k H : ℕ} (s :
     small-cache = omega (arith, s .cost, cache-small h ms o)
 
     -- the test may be asked, with its own entry loss or with less
-    pub may-test : {own lost : ℕ} → own ≡ serverHorizon h ms → lost ≤ serverLoss h ms → Testable own (h .slot) lost
-    may-test e g = record {
+    pub may-test : {own : ℕ} (lost : ℕ) → own ≡ serverHorizon h ms → lost ≤ serverLoss h ms → Testable own (h .slot) lost
+    may-test lost e g = record {
       slot-some = s .slot;
       slot-small = omega (arith, le-of-dvd (s .some) (s .of-slot), s .short);
       loss-small = omega (arith, g, loss-small h ms o);

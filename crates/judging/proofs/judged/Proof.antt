@@ -57,7 +57,7 @@ verdict-requires c κs =
     let s = start at in
     let l = lost (c .before) in (
       own-loaded at,
-      (may-test (s .pre .0) (overheads s) (at .charge-server .ensures .0) (omega (arith, l)), rw l (s .pre .1)),
+      (may-test (s .pre .0) (overheads s) _ (at .charge-server .ensures .0) (omega (arith, l)), rw l (s .pre .1)),
     )
 
 returns : tie.Need-returns
