@@ -28,7 +28,8 @@ pub fn charge_server(
     ensures { λ r. ⌜ now (loads .exit) ≡ stored (now (loads .entry)) 0 (numbersOf (serverLoads header (membersAt (now (figures .entry)) (take k (now (places .entry)))))) ⌝ }
 {
     charge(header, cache, figures, places, k, loads);
-    let Multiple::Within(own) = horizon_of(loads, k, header.slot as u64, horizon) else {
+    let slot = header.slot as u64;
+    let Multiple::Within(own) = horizon_of(loads, k, slot, horizon) else {
         return horizon;
     };
     own

@@ -55,9 +55,18 @@ verdict-requires : tie.Need-verdict-requires
 verdict-requires c κs =
     let at = c .before .before .before .before in
     let s = start at in
-    let l = lost (c .before) in (
+    let l = lost (c .before) in
+    let t = may-test (s .pre .0) (overheads s) (c .before .loss .result) (at .charge-server .ensures .0) (omega (arith, l)) in (
       own-loaded at,
-      (may-test (s .pre .0) (overheads s) _ (at .charge-server .ensures .0) (omega (arith, l)), rw l (s .pre .1)),
+      (
+        record {
+          slot-some = t .slot-some;
+          slot-small = t .slot-small;
+          loss-small = omega (arith, t .loss-small);
+          horizon-small = omega (arith, t .slot-small, t .horizon-small);
+        },
+        rw l (s .pre .1),
+      ),
     )
 
 returns : tie.Need-returns
