@@ -1,7 +1,7 @@
 -- The server of some places among a file's figures: what charging it asks holds, its loads as charged are those of its members, its
 -- horizon is within the file's, and the test may be asked of them.
 -- Assumes nothing.
-use Prim.Native.Nat.{ℕ, _+_, _*_, _^_, _≤_, _<_, _∣_}
+use Prim.Native.Nat.{ℕ, _*_, _^_, _≤_, _<_}
 use native.Mathlib.Omega.{arith}
 use native.Mathlib.Nat.{le-of-dvd}
 use mathlib.Core.Path.{_≡_, sym, ap, subst, _∙_}

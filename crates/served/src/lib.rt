@@ -12,7 +12,8 @@ ghost use Rattle.loads.specs.Charge.{numbersOf, serverLoads, membersAt};
 ghost use Rattle.members.specs.Server.{serverHorizon};
 ghost use Rattle.served.specs.Served.{Served};
 
-// The members at the first k places, charged, from the start of `loads` on; and the server's own horizon.
+// The members at the first k places, charged, from the start of `loads` on, and the server's own horizon: never past `horizon`, which
+// is a multiple of it.
 pub fn charge_server(
     header: Header,
     cache: u64,
