@@ -1,19 +1,16 @@
 // Does a server pass with a reserve: its members, charged, by its own entry loss and its own horizon.
 // What it means stands in members, specs/Server.antt. The figures stand in one slice, three for each task.
-use loads::charge;
-use members::horizon_of;
 use members::loss;
+use served::charge_server;
 use tasks::set::Header;
 use tasks::set::TaskSet;
-use verdict::answer::Reading;
 use verdict::answer::Verdict;
-use wholes::Multiple;
 ghost use mathlib.Core.Path.{_≡_};
 ghost use lib.ListN.{take};
 ghost use Rattle.demand.specs.Supply.{Allowed};
 ghost use Rattle.loads.specs.Charge.{serverLoss, membersAt};
 ghost use Rattle.members.specs.Server.{verdictFor};
-ghost use Rattle.judging.specs.Served.{Served};
+ghost use Rattle.served.specs.Served.{Served};
 
 // The verdict on the server of the first k places, with an allowed reserve.
 pub fn judged(
@@ -30,15 +27,8 @@ pub fn judged(
     ensures { λ r. ⌜ r ≡ verdictFor header (membersAt (now (figures .entry)) (take k (now (places .entry)))) reserve ⌝ }
 {
     let mut loads = [0u64; 3 * TaskSet::MOST_TASKS];
-    charge(header, cache, figures, places, k, &mut loads);
+    let own = charge_server(header, cache, figures, places, k, horizon, &mut loads);
     let slot = header.slot as u64;
-    let Multiple::Within(own) = horizon_of(&loads, k, slot, horizon) else {
-        return Verdict::Yes(Reading {
-            length: 0,
-            demand: 0,
-            supply: 0,
-        });
-    };
     let lost = loss(header, cache);
     verdict::judge::verdict(&loads, k, slot, lost, reserve, own)
 }

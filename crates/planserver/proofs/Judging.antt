@@ -22,8 +22,8 @@ use Rattle.places.proofs.PlacesLaws.{places-most, places-below}
 use Rattle.loads.specs.Charge.{cacheOf, serverLoss, membersAt}
 use Rattle.members.specs.Server.{verdictFor}
 use Rattle.members.proofs.FiledLaws.{Below, placed-chosen}
-use Rattle.judging.specs.Served.{Served}
-use Rattle.judging.proofs.ServedLaws.{filed-served}
+use Rattle.served.specs.Served.{Served}
+use Rattle.served.proofs.ServedLaws.{filed-served}
 use Rattle.tasks.specs.declared.set.TaskSet.{TaskSet}
 use Rattle.plan.specs.declared.plan.Plan.{Plan}
 use Rattle.plan.specs.declared.server.Server.{Server}

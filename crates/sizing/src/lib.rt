@@ -1,13 +1,11 @@
 // Sizing: the smallest reserve of each server of a placement; and placing and sizing in one. What they mean stands in specs/Reserve.antt.
 // The tasks' own figures stand in one slice, three for each, and the server of each task in another, of which the first n count.
-use loads::charge;
-use members::horizon_of;
 use members::loss;
 use places::places_of;
+use served::charge_server;
 use servers::placement::place;
 use tasks::set::Header;
 use tasks::set::TaskSet;
-use wholes::Multiple;
 ghost use mathlib.Core.Path.{_≡_};
 ghost use Prim.Native.Nat.{_≤_};
 ghost use lib.ListN.{length, take};
@@ -34,11 +32,8 @@ pub fn reserve_of(
     let mut places = [0u8; TaskSet::MOST_TASKS];
     let count = places_of(placement, n, q, &mut places);
     let mut loads = [0u64; 3 * TaskSet::MOST_TASKS];
-    charge(header, cache, figures, &places, count, &mut loads);
+    let own = charge_server(header, cache, figures, &places, count, horizon, &mut loads);
     let slot = header.slot as u64;
-    let Multiple::Within(own) = horizon_of(&loads, count, slot, horizon) else {
-        return slot;
-    };
     verdict::reserve::smallest_reserve(&loads, count, slot, loss(header, cache), own)
 }
 

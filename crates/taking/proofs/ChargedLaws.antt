@@ -1,6 +1,6 @@
--- A server's members at their places among a file's tasks, as the code finds them, and what is left of them charged: the server's
--- loads, with its horizon, for which the test may be asked.
-use Prim.Native.Nat.{ℕ, zero, suc, _+_, _*_, _^_, _≤_, _<_}
+-- A server's members at their places among a file's tasks, as the code finds them: they may be charged as a server, and whether they
+-- fit is the test that is asked with no entry loss.
+use Prim.Native.Nat.{ℕ, zero, suc, _+_, _≤_, _<_}
 use native.Mathlib.Omega.{arith}
 use mathlib.Core.Path.{_≡_, refl, sym, ap, ap₂, subst, _∙_}
 use mathlib.Core.Bool.{Bool, true, false}
@@ -10,27 +10,26 @@ use lib.Dec.{eqb}
 use lib.ListN.{length, getD, take, set, length-append, List·getD-append}
 use lib.Seq.{take-suc, take-at, length-take-le, getD-append-seam}
 use Rattle.laws.proofs.Orders.{le-or-lt}
-use Rattle.laws.proofs.Tests.{clash, same-test}
+use Rattle.laws.proofs.Tests.{same-test}
 use Rattle.digits.specs.Stored.{stored}
 use Rattle.digits.proofs.Stored.{stored-byte, stored-length}
-use Rattle.wholes.specs.Multiple.{within}
-use Rattle.wholes.specs.declared.Multiple.{Multiple}
-use Rattle.wholes.specs.declared.Multiple.the-variants.{Within, Past}
-use Rattle.demand.specs.Load.{Load, Every, Loaded, loadAt, loadsOf}
+use Rattle.demand.specs.Load.{Load, Every, loadAt, loadsOf}
 use Rattle.demand.specs.Lawful.{Lawful}
 use Rattle.demand.specs.Passes.{Passes}
 use Rattle.demand.proofs.Demand.{loads-length, every-snoc, every-front, every-last}
 use Rattle.demand.proofs.Supply.{supply-all}
-use Rattle.verdict.specs.Verdict.{ownHorizon, passing, Testable}
+use Rattle.verdict.specs.Verdict.{passing}
 use Rattle.verdict.proofs.Verdict.{passing-passes, passes-passing}
 use Rattle.tasks.specs.declared.set.Header.{Header}
 use Rattle.tasks.specs.Set.{mostTasks}
 use Rattle.places.specs.Places.{keep, placesFrom, placesIn, chosen}
 use Rattle.places.proofs.PlacesLaws.{in-more, places-more, places-few, places-below}
-use Rattle.loads.specs.Charge.{numbersOf, cacheOf, chargedIn, serverLoads, serverLoss, membersAt, Member, Overheads, Charging}
-use Rattle.members.specs.Server.{Timed, serverDemand, serverHorizon, fits, passesWith, Filed}
+use Rattle.loads.specs.Charge.{cacheOf, serverLoss, membersAt, Member}
+use Rattle.members.specs.Server.{serverDemand, serverHorizon, fits, passesWith, Filed}
 use Rattle.members.proofs.ServerLaws.{server-lawful}
-use Rattle.members.proofs.FiledLaws.{Below, every-chosen, placed-members, placed-periods, placed-charging, placed-testable, left-loads, left-loaded, left-timed, left-horizon}
+use Rattle.members.proofs.FiledLaws.{Below, every-chosen}
+use Rattle.served.specs.Served.{Served}
+use Rattle.served.proofs.ServedLaws.{filed-served}
 
 -- ---- the places of a server's tasks
 
@@ -147,65 +146,11 @@ module _ (figures placement b : List ℕ) (n q : ℕ) (h : n ≤ length placemen
                 rw (here, getD-append-seam found n [] 0) (omega arith)
             by (inr old) = rw (List·getD-append found (n ∷ []) 0 j old) (omega (arith, found-below j old))
 
--- ---- charged
-
-same-within : {a b : ℕ} → Within a ≡ Within b → a ≡ b
-same-within e = cc
-
-past-within : {A : Type 0} {a : ℕ} → Past ≡ Within a → A
-past-within e = clash (cc)
-
-module _ {h : Header} {figures : List ℕ} {m H : ℕ} {members : List Load} {places : List ℕ} {n : ℕ}
-    (file : Filed h figures m H) (w : Standing figures m members places n) where
-  -- they may be charged
-  pub may-charge : (cache : ℕ) (loads : List ℕ) → cache < 2 ^ 32 → length loads ≡ 3 * mostTasks → Charging h cache figures places n loads
-  may-charge cache loads small room = placed-charging file places n cache loads (w .there) (omega (arith, w .few)) small (w .below)
-
-  members-ok : Every (Member h) (membersAt figures (take n places))
-  members-ok = placed-members file (take n places) (w .below)
-
-  -- the test of such members with a whole processor may be asked
-  pub whole-testable : {own : ℕ} → own ≡ serverHorizon h members → Overheads h → Testable own (h .slot) 0
-  whole-testable {own} e o =
-      let t = placed-testable file (take n places) (w .below) o (e ∙ ap (serverHorizon h) (sym (w .is))) refl in
-      record { slot-some = t .slot-some; slot-small = t .slot-small; loss-small = omega arith; horizon-small = t .horizon-small }
-
-  -- and so that with their own entry loss
-  pub own-testable : {own loss : ℕ} → own ≡ serverHorizon h members → loss ≡ serverLoss h members → Overheads h → Testable own (h .slot) loss
-  own-testable {own} {loss} e g o =
-      placed-testable file (take n places) (w .below) o (e ∙ ap (serverHorizon h) (sym (w .is))) (g ∙ ap (serverLoss h) (sym (w .is)))
-
-  -- what charging leaves, with the header's cache cost
-  module _ (b : List ℕ) {out : List ℕ} (room : length b ≡ 3 * mostTasks)
-      (is : out ≡ stored b 0 (numbersOf (map (chargedIn h (h .cpmdo)) (membersAt figures (take n places))))) where
-    enough : 3 * n ≤ length b
-    enough = omega (arith, w .few)
-
-    same : h .cpmdo ≡ cacheOf h (membersAt figures (take n places))
-    unfolding cacheOf
-    same = refl
-
-    pub charged-loads : loadsOf out n ≡ serverLoads h members
-    charged-loads = left-loads h figures places n (h .cpmdo) b is same (w .there) ∙ ap (serverLoads h) (w .is)
-
-    pub charged-loaded : Overheads h → Loaded out n
-    charged-loaded o = left-loaded h figures places n (h .cpmdo) b is same (w .there) members-ok enough o (omega (arith, w .few))
-
-    pub charged-timed : Timed out n (h .slot)
-    charged-timed = left-timed h figures places n (h .cpmdo) b is same (w .there) members-ok enough (file .slot)
-
-    horizon-within : within H (ownHorizon (h .slot) (loadsOf out n)) ≡ Within (serverHorizon h members)
-    horizon-within =
-        left-horizon h figures places n (h .cpmdo) b is same (w .there) members-ok enough H (file .some) (file .of-slot)
-        (placed-periods file (take n places) (w .below)) ∙
-        ap (λ (ms : List Load). Within (serverHorizon h ms)) (w .is)
-
-    -- their horizon is within the file's
-    pub horizon-found : {r : Multiple} {own : ℕ} → r ≡ within H (ownHorizon (h .slot) (loadsOf out n)) → r ≡ Within own → own ≡ serverHorizon h members
-    horizon-found e f = same-within (sym f ∙ e ∙ horizon-within)
-
-    pub horizon-not-past : {A : Type 0} {r : Multiple} → r ≡ within H (ownHorizon (h .slot) (loadsOf out n)) → r ≡ Past → A
-    horizon-not-past e f = past-within (sym f ∙ e ∙ horizon-within)
+-- they may be charged as a server
+pub standing-served : {h : Header} {figures : List ℕ} {m H : ℕ} {members : List Load} {places : List ℕ} {n : ℕ} →
+    Filed h figures m H → Standing figures m members places n → Served h (h .cpmdo) figures places n H
+unfolding cacheOf
+standing-served {h} {places = places} {n = n} file w = filed-served file places n (h .cpmdo) (w .there) (w .few) (w .below) refl
 
 -- ---- a whole processor has no entry loss
 

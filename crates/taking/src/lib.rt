@@ -1,12 +1,10 @@
 // Whether a server takes a task, and what the task asks of the horizon.
 // What they mean stands in specs/Takes.antt and specs/Totals.antt. The server of each task stands in a slice, of which the first i are
 // placed.
-use loads::charge;
-use members::horizon_of;
 use places::places_of;
+use served::charge_server;
 use tasks::set::Header;
 use tasks::set::TaskSet;
-use wholes::Multiple;
 ghost use mathlib.Core.Path.{_≡_};
 ghost use mathlib.Core.List.{[], _∷_};
 ghost use Prim.Native.Nat.{_+_, _≤_};
@@ -50,10 +48,8 @@ pub fn takes_task(
     places[before] = i as u8;
     let n = before + 1;
     let mut loads = [0u64; 3 * TaskSet::MOST_TASKS];
-    charge(header, header.cpmdo as u64, figures, &places, n, &mut loads);
+    let cache = header.cpmdo as u64;
+    let own = charge_server(header, cache, figures, &places, n, horizon, &mut loads);
     let slot = header.slot as u64;
-    let Multiple::Within(own) = horizon_of(&loads, n, slot, horizon) else {
-        return false;
-    };
     verdict::judge::passes(&loads, n, slot, 0, slot, own)
 }

@@ -1,19 +1,17 @@
--- `judged` meets its contract: the members, charged, are the server's loads, and their own horizon decides.
+-- `judged` meets its contract: the server's loads are charged, and its own entry loss and horizon decide.
 -- Assumes nothing.
 use Prim.Native.Nat.{ℕ}
-use mathlib.Core.Path.{_≡_, refl}
+use mathlib.Core.Path.{_≡_, refl, ap, ap₂, _∙_}
 use mathlib.Core.List.{List}
 use borrow.Author.Needs.{needs}
 use native.Mathlib.Omega.{arith}
 use lib.ListN.{take}
-use Rattle.wholes.specs.Multiple.{within}
-use Rattle.wholes.specs.declared.Multiple.{Multiple}
-use Rattle.wholes.specs.declared.Multiple.the-variants.{Within}
-use Rattle.demand.specs.Load.{loadsOf}
-use Rattle.verdict.specs.Verdict.{ownHorizon}
-use Rattle.loads.specs.Charge.{membersAt, Overheads}
-use Rattle.members.specs.Server.{serverHorizon}
-use Rattle.judging.proofs.ServedLaws.{small-cache, may-charge, own-loss, may-test, charged-loaded, charged-timed, horizon-found, horizon-not-past, same-verdict}
+use Rattle.demand.specs.Load.{Load, Loaded, loadsOf}
+use Rattle.demand.specs.Demand.{demand}
+use Rattle.verdict.specs.Verdict.{verdictOf}
+use Rattle.loads.specs.Charge.{serverLoads, serverLoss, membersAt, Overheads}
+use Rattle.members.specs.Server.{serverDemand, verdictFor}
+use Rattle.served.proofs.ServedLaws.{small-cache, own-loss, own-room, may-test, left-loads, left-loaded}
 use Rattle.judging.proofs.judged.Statement.{statement}
 use Rattle.judging.proofs.judged.Tie as tie
 
@@ -21,70 +19,74 @@ use Rattle.judging.proofs.judged.Tie as tie
 overheads : (s : tie.Start) → Overheads (s .args .header)
 overheads s = record { release = search needs; switch = search needs; delay = search needs; cache = search needs }
 
--- once the members are charged
-module _ (c : tie.After-charge) where
+-- the members of the server
+abbrev members : (s : tie.Start) → List Load
+members s = membersAt (s .args .figures .now) (take (s .args .k) (s .args .places .now))
+
+-- once they are charged
+module _ (c : tie.After-charge-server) where
   abbrev start : tie.Start
   start = c .before .before .before .before
 
   abbrev loads : List ℕ
-  loads = c .charge .last .1 .1 .1 .1 .1 .0
+  loads = c .charge-server .last .1 .1 .1 .1 .1 .1 .0
 
-  own-horizon : {r : Multiple} {own : ℕ} → r ≡ within (start .args .horizon) (ownHorizon (start .args .header .slot) (loadsOf loads (start .args .k))) →
-      r ≡ Within own → own ≡ serverHorizon (start .args .header) (membersAt (start .args .figures .now) (take (start .args .k) (start .args .places .now)))
-  own-horizon e f = horizon-found (start .pre .0) (overheads start) _ refl (c .charge .ensures) e f
+  own-loads : loadsOf loads (start .args .k) ≡ serverLoads (start .args .header) (members start)
+  own-loads = left-loads (start .pre .0) _ (own-room (start .pre .0) refl) (c .charge-server .ensures .1)
 
-charge-requires : tie.Need-charge-requires
-charge-requires c κs =
+  own-loaded : Loaded loads (start .args .k)
+  own-loaded = left-loaded (start .pre .0) _ (own-room (start .pre .0) refl) (c .charge-server .ensures .1) (overheads start)
+
+charge-server-requires : tie.Need-charge-server-requires
+charge-server-requires c κs =
     let s = c .before .before .before in
-    may-charge (s .pre .0) (overheads s) _ refl
-
-horizon-of-requires : tie.Need-horizon-of-requires
-horizon-of-requires c κs =
-    let at = c .before .before .before in
-    charged-timed (start at .pre .0) (overheads (start at)) _ refl (at .charge .ensures)
-
--- the horizon is within the file's
-returns : tie.Need-returns
-returns c =
-    let at = c .before .before .before .before .before .before in
-    horizon-not-past (start at .pre .0) (overheads (start at)) _ refl (at .charge .ensures) (c .before .before .horizon-of .ensures) (c .enum-told .given .1)
+    (s .pre .0, own-room (s .pre .0) refl)
 
 loss-requires : tie.Need-loss-requires
 loss-requires c κs =
-    let at = c .before .before .before .before .before .before .before in
-    omega (arith, small-cache (start at .pre .0) (overheads (start at)))
+    let s = start (c .before .before) in
+    omega (arith, small-cache (s .pre .0) (overheads s))
+
+-- the entry loss is the server's
+lost : (c : tie.After-loss) → c .loss .result ≡ serverLoss (start (c .before .before .before) .args .header) (members (start (c .before .before .before)))
+lost c = own-loss (start (c .before .before .before) .pre .0) (c .loss .ensures)
 
 verdict-requires : tie.Need-verdict-requires
 verdict-requires c κs =
-    let at = c .before .before .before .before .before .before .before .before .before in
+    let at = c .before .before .before .before in
     let s = start at in
-    let own = own-horizon at (c .before .before .before .before .before .horizon-of .ensures) (c .before .before .before .own .given .1) in
-    let lost = own-loss (s .pre .0) (overheads s) (c .before .loss .ensures) in (
-      charged-loaded (s .pre .0) (overheads s) _ refl (at .charge .ensures),
-      (may-test (s .pre .0) (overheads s) own lost, rw lost (s .pre .1)),
+    let l = lost (c .before) in
+    let t = may-test (s .pre .0) (overheads s) (c .before .loss .result) (at .charge-server .ensures .0) (omega (arith, l)) in (
+      own-loaded at,
+      (
+        record {
+          slot-some = t .slot-some;
+          slot-small = t .slot-small;
+          loss-small = omega (arith, t .loss-small);
+          horizon-small = omega (arith, t .slot-small, t .horizon-small);
+        },
+        rw l (s .pre .1),
+      ),
     )
 
-returns-2 : tie.Need-returns-2
-returns-2 c =
-    let at = c .before .before .before .before .before .before .before .before .before .before in
+returns : tie.Need-returns
+unfolding verdictFor
+returns c =
+    let at = c .before .before .before .before .before in
     let s = start at in
-    let own = own-horizon at (c .before .before .before .before .before .before .horizon-of .ensures) (c .before .before .before .before .own .given .1) in
-    let lost = own-loss (s .pre .0) (overheads s) (c .before .before .loss .ensures) in
-    same-verdict (s .pre .0) (overheads s) _ refl (at .charge .ensures) (s .args .reserve) own lost (c .verdict .ensures)
+    let h = s .args .header in
+    c .verdict .ensures ∙
+    ap (λ (ls : List Load). verdictOf (demand ls) (at .charge-server .result) (h .slot) (c .before .before .loss .result) (s .args .reserve)) (own-loads at) ∙
+    ap₂ (λ (H L : ℕ). verdictOf (serverDemand h (members s)) H (h .slot) L (s .args .reserve)) (at .charge-server .ensures .0) (lost (c .before .before))
 
 pub judged-spec : {M : Type 1} → statement M
 judged-spec =
     tie.close
     (tie.spec
     (λ c. search needs)
-    charge-requires
+    charge-server-requires
     (λ c. search needs)
-    (λ c. search needs)
-    horizon-of-requires
-    (λ c. search needs)
-    (λ c. search needs)
-    returns
     loss-requires
     (λ c. search needs)
     verdict-requires
-    returns-2)
+    returns)

@@ -1,37 +1,29 @@
--- `takes_task` meets its contract: the members of the server and the task behind them, charged, are the server's loads, and their own
--- horizon decides. Assumes nothing.
+-- `takes_task` meets its contract: the members of the server and the task behind them are charged as a server, and their own horizon
+-- decides. Assumes nothing.
 use Prim.Native.Nat.{ℕ, _+_, _<_}
-use mathlib.Core.Path.{_≡_, refl, sym, ap₂, _∙_}
+use mathlib.Core.Path.{_≡_, refl, ap, ap₂, _∙_}
 use mathlib.Core.Logic.{inr}
 use mathlib.Core.List.{List, [], _∷_, _++_}
 use borrow.Author.Needs.{needs}
 use native.Mathlib.Omega.{arith}
 use lib.ListN.{take, set}
-use Rattle.wholes.specs.Multiple.{within}
-use Rattle.wholes.specs.declared.Multiple.{Multiple}
-use Rattle.wholes.specs.declared.Multiple.the-variants.{Within}
 use Rattle.demand.specs.Load.{Load, Loaded, loadAt, loadsOf}
 use Rattle.demand.specs.Demand.{demand}
-use Rattle.demand.proofs.Demand.{loads-next}
-use Rattle.verdict.specs.Verdict.{ownHorizon, passing}
+use Rattle.verdict.specs.Verdict.{passing}
 use Rattle.tasks.specs.Set.{mostTasks}
 use Rattle.places.specs.Places.{chosen}
-use Rattle.loads.specs.Charge.{serverLoads, Overheads}
-use Rattle.members.specs.Server.{serverHorizon}
+use Rattle.loads.specs.Charge.{serverLoads, membersAt, Overheads}
+use Rattle.members.specs.Server.{fits}
+use Rattle.served.specs.Served.{Served}
+use Rattle.served.proofs.ServedLaws.{own-room, may-test, left-loads, left-loaded}
 use Rattle.taking.specs.Takes.{takes}
-use Rattle.taking.proofs.ChargedLaws.{members-with, Standing, standing-joined, place-free, may-charge, whole-testable, charged-loads, charged-loaded, charged-timed, horizon-found, horizon-not-past, fits-whole}
+use Rattle.taking.proofs.ChargedLaws.{Standing, standing-joined, standing-served, place-free, fits-whole}
 use Rattle.taking.proofs.takes_task.Statement.{statement}
 use Rattle.taking.proofs.takes_task.Tie as tie
 
 -- the header's overheads are numbers of two bytes
 overheads : (s : tie.Start) → Overheads (s .args .header)
 overheads s = record { release = search needs; switch = search needs; delay = search needs; cache = search needs }
-
--- the members of the server with the task
-abbrev members : (s : tie.Start) → List Load
-members s =
-    chosen (loadsOf (s .args .figures .now) (s .args .i)) (take (s .args .i) (s .args .placement .now)) (s .args .q)
-    ++ (loadAt (s .args .figures .now) (s .args .i) ∷ [])
 
 -- once the members' places are found
 module _ (c : tie.After-places2) where
@@ -41,6 +33,13 @@ module _ (c : tie.After-places2) where
   abbrev found : List ℕ
   found = c .before .places-of .last .1 .1 .1 .0
 
+  -- with the task's own behind them
+  abbrev joined : List ℕ
+  joined = set found (c .before .places-of .result) (start .args .i)
+
+  abbrev count : ℕ
+  count = c .before .places-of .result + 1
+
   below : start .args .i < mostTasks
   below = omega (arith, start .pre .0 .few)
 
@@ -49,13 +48,18 @@ module _ (c : tie.After-places2) where
       place-free (start .args .figures .now) (start .args .placement .now) _ (start .args .i) _ (start .pre .1) refl
       (c .before .places-of .ensures .0) (c .before .places-of .ensures .1) below
 
-  standing : Standing (start .args .figures .now) (start .args .i + 1) (members start) (set found (c .before .places-of .result) (start .args .i)) (c .before .places-of .result + 1)
+  standing : Standing (start .args .figures .now) (start .args .i + 1)
+      (chosen (loadsOf (start .args .figures .now) (start .args .i)) (take (start .args .i) (start .args .placement .now)) (start .args .q) ++ (loadAt (start .args .figures .now) (start .args .i) ∷ []))
+      joined count
   standing =
       standing-joined (start .args .figures .now) (start .args .placement .now) _ (start .args .i) (start .args .q) (start .pre .1) refl
       (c .before .places-of .ensures .0) (c .before .places-of .ensures .1) below
 
+  served : Served (start .args .header) (start .args .header .cpmdo) (start .args .figures .now) joined count (start .args .horizon)
+  served = standing-served (start .pre .0) standing
+
 -- once they are charged
-module _ (c : tie.After-charge) where
+module _ (c : tie.After-charge-server) where
   abbrev at-places : tie.After-places2
   at-places = c .before .before .before .before
 
@@ -63,20 +67,16 @@ module _ (c : tie.After-charge) where
   from = start at-places
 
   abbrev loads : List ℕ
-  loads = c .charge .last .1 .1 .1 .1 .1 .0
+  loads = c .charge-server .last .1 .1 .1 .1 .1 .1 .0
 
-  abbrev count : ℕ
-  count = at-places .before .places-of .result + 1
+  abbrev members : List Load
+  members = membersAt (from .args .figures .now) (take (count at-places) (joined at-places))
 
-  own-loads : loadsOf loads count ≡ serverLoads (from .args .header) (members from)
-  own-loads = charged-loads (from .pre .0) (standing at-places) _ refl (c .charge .ensures)
+  own-loads : loadsOf loads (count at-places) ≡ serverLoads (from .args .header) members
+  own-loads = left-loads (served at-places) _ (own-room (served at-places) refl) (c .charge-server .ensures .1)
 
-  own-loaded : Loaded loads count
-  own-loaded = charged-loaded (from .pre .0) (standing at-places) _ refl (c .charge .ensures) (overheads from)
-
-  own-horizon : {r : Multiple} {own : ℕ} → r ≡ within (from .args .horizon) (ownHorizon (from .args .header .slot) (loadsOf loads count)) → r ≡ Within own →
-      own ≡ serverHorizon (from .args .header) (members from)
-  own-horizon e f = horizon-found (from .pre .0) (standing at-places) _ refl (c .charge .ensures) e f
+  own-loaded : Loaded loads (count at-places)
+  own-loaded = left-loaded (served at-places) _ (own-room (served at-places) refl) (c .charge-server .ensures .1) (overheads from)
 
 array-write-places : tie.Need-array-write-places
 array-write-places c = omega (arith, free c)
@@ -84,28 +84,15 @@ array-write-places c = omega (arith, free c)
 add-n : tie.Need-add-n
 add-n c = omega (arith, free c)
 
-charge-requires : tie.Need-charge-requires
-charge-requires c κs =
-    let at = c .before .before .before in
-    let o = overheads (start at) in
-    may-charge (start at .pre .0) (standing at) (start at .args .header .cpmdo) _ (omega (arith, o .cache)) refl
-
-horizon-of-requires : tie.Need-horizon-of-requires
-horizon-of-requires c κs =
-    let at = c .before .before .before in
-    charged-timed (from at .pre .0) (standing (at-places at)) _ refl (at .charge .ensures)
-
--- the horizon is within the file's
-returns : tie.Need-returns
-returns c =
-    let at = c .before .before .before .before .before .before in
-    horizon-not-past (from at .pre .0) (standing (at-places at)) _ refl (at .charge .ensures) (c .before .before .horizon-of .ensures) (c .enum-told .given .1)
+charge-server-requires : tie.Need-charge-server-requires
+charge-server-requires c κs =
+    let s = served (c .before .before .before) in
+    (s, own-room s refl)
 
 passes-requires : tie.Need-passes-requires
 passes-requires c κs =
-    let at = c .before .before .before .before .before .before .before .before in
-    let own = own-horizon at (c .before .before .before .before .horizon-of .ensures) (c .before .before .own .given .1) in
-    let t = whole-testable (from at .pre .0) (standing (at-places at)) own (overheads (from at)) in (
+    let at = c .before .before .before in
+    let t = may-test (served (at-places at)) (overheads (from at)) 0 (at .charge-server .ensures .0) (omega arith) in (
       own-loaded at,
       (
         record {
@@ -118,18 +105,15 @@ passes-requires c κs =
       ),
     )
 
-returns-2 : tie.Need-returns-2
+returns : tie.Need-returns
 unfolding takes
-returns-2 c =
-    let at = c .before .before .before .before .before .before .before .before .before in
-    let s = from at in
-    let own = own-horizon at (c .before .before .before .before .before .horizon-of .ensures) (c .before .before .before .own .given .1) in
+returns c =
+    let at = c .before .before .before .before in
+    let h = from at .args .header in
     c .passes .ensures ∙
-    ap₂ (λ (ls : List Load) (H : ℕ). passing (demand ls) H (s .args .header .slot) 0 (s .args .header .slot)) (own-loads at) own ∙
-    fits-whole (s .args .header) (members s)
-    (members-with (s .args .header) (loadsOf (s .args .figures .now) (s .args .i)) (take (s .args .i) (s .args .placement .now)) (loadAt (s .args .figures .now) (s .args .i))
-    (rw (sym (loads-next (s .args .figures .now) (s .args .i))) (s .pre .0 .members)) (s .args .q))
-    (s .pre .0 .slot)
+    ap₂ (λ (ls : List Load) (H : ℕ). passing (demand ls) H (h .slot) 0 (h .slot)) (own-loads at) (at .charge-server .ensures .0) ∙
+    fits-whole h (members at) (served (at-places at) .members) (from at .pre .0 .slot) ∙
+    ap (fits h) (standing (at-places at) .is)
 
 pub takes-task-spec : {M : Type 1} → statement M
 takes-task-spec =
@@ -143,13 +127,8 @@ takes-task-spec =
     (λ c. search needs)
     (λ c. search needs)
     (λ c. search needs)
-    charge-requires
+    charge-server-requires
     (λ c. search needs)
-    (λ c. search needs)
-    horizon-of-requires
-    (λ c. search needs)
-    (λ c. search needs)
-    returns
     (λ c. search needs)
     passes-requires
-    returns-2)
+    returns)

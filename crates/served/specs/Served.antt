@@ -1,4 +1,4 @@
--- What judging the server at some places among a file's figures asks. Document 01, "From tasks to servers to ring" (RULES 3).
+-- What charging the server at some places among a file's figures asks. Document 01, "From tasks to servers to ring" (RULES 3).
 use Prim.Native.Nat.{ℕ, _+_, _*_, _≤_, _<_, _∣_}
 use mathlib.Core.List.{List}
 use mathlib.Core.Path.{_≡_}

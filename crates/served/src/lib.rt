@@ -1,0 +1,37 @@
+// The loads of the server at some places among a file's figures, and its own horizon.
+// What is asked stands in specs/Served.antt. Figures and loads stand in slices of numbers, three for each.
+use loads::charge;
+use members::horizon_of;
+use tasks::set::Header;
+use wholes::Multiple;
+ghost use mathlib.Core.Path.{_≡_};
+ghost use Prim.Native.Nat.{_*_, _≤_};
+ghost use lib.ListN.{length, take};
+ghost use Rattle.digits.specs.Stored.{stored};
+ghost use Rattle.loads.specs.Charge.{numbersOf, serverLoads, membersAt};
+ghost use Rattle.members.specs.Server.{serverHorizon};
+ghost use Rattle.served.specs.Served.{Served};
+
+// The members at the first k places, charged, from the start of `loads` on, and the server's own horizon: never past `horizon`, which
+// is a multiple of it.
+pub fn charge_server(
+    header: Header,
+    cache: u64,
+    figures: &[u64],
+    places: &[u8],
+    k: usize,
+    horizon: u64,
+    loads: &mut [u64],
+) -> u64
+    requires { ⌜ Served header cache (now figures) (now places) k horizon ⌝ }
+    requires { ⌜ 3 * k ≤ length (now loads) ⌝ }
+    ensures { λ r. ⌜ r ≡ serverHorizon header (membersAt (now (figures .entry)) (take k (now (places .entry)))) ⌝ }
+    ensures { λ r. ⌜ now (loads .exit) ≡ stored (now (loads .entry)) 0 (numbersOf (serverLoads header (membersAt (now (figures .entry)) (take k (now (places .entry)))))) ⌝ }
+{
+    charge(header, cache, figures, places, k, loads);
+    let slot = header.slot as u64;
+    let Multiple::Within(own) = horizon_of(loads, k, slot, horizon) else {
+        return horizon;
+    };
+    own
+}
