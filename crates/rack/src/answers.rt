@@ -2,11 +2,9 @@
 // A status of 0 says that the answer stands there; any other is the refusal, and the memory is as before.
 use askfile::pass_in;
 use askfile::who_in;
-use refusals::Outcome;
 use ring::clock::Tick;
-use told::code;
 use told::numbers_of;
-use told::put_numbers;
+use told::tell;
 ghost use mathlib.Core.Path.{_≡_};
 ghost use Rattle.told.specs.Told.{statusOf, leavesNumbers};
 ghost use Rattle.rack.specs.Rack.{whoNumbers, whoTold, passNumbers, passTold};
@@ -20,10 +18,7 @@ pub extern "C" fn rack_who(tasks: &[u8], processor: u64, tick: u64, answer: &mut
     let who = who_in(tasks, processor, Tick(tick));
     let numbers = [who.server, who.left];
     let outcome = who.outcome;
-    match outcome {
-        Outcome::Done => put_numbers(answer, &numbers),
-        Outcome::Refused(refusal) => code(refusal),
-    }
+    tell(answer, &numbers, outcome)
 }
 
 // Does a server pass with a reserve.
@@ -36,8 +31,5 @@ pub extern "C" fn rack_pass(tasks: &[u8], server: u64, reserve: u64, answer: &mu
     let verdict = pass.verdict;
     let numbers = numbers_of(verdict);
     let outcome = pass.outcome;
-    match outcome {
-        Outcome::Done => put_numbers(answer, &numbers),
-        Outcome::Refused(refusal) => code(refusal),
-    }
+    tell(answer, &numbers, outcome)
 }

@@ -60,6 +60,14 @@ module _ (numbers answer : List ℕ) where
   unfolding toldOf
   told-refused r s = (s, refl)
 
+-- an outcome p, known to be o
+pub told-of : (numbers answer : List ℕ) {p o : Outcome} {status : ℕ} {left : List ℕ} → p ≡ o → Told o numbers answer status left → Told p numbers answer status left
+told-of numbers answer {status = status} {left = left} f t = subst (λ (q : Outcome). Told q numbers answer status left) (sym f) t
+
+-- numbers known to be others
+pub told-numbers : (o : Outcome) (answer : List ℕ) {numbers others : List ℕ} {status : ℕ} {left : List ℕ} → numbers ≡ others → Told o numbers answer status left → Told o others answer status left
+told-numbers o answer {status = status} {left = left} e t = subst (λ (ns : List ℕ). Told o ns answer status left) e t
+
 -- an answer a, known to be b, with its outcome and its numbers
 pub told-by : {A : Type 0} (outcome : A → Outcome) (numbers : A → List ℕ) (answer : List ℕ) {status : ℕ} {left : List ℕ} {a b : A} {o : Outcome}
     → a ≡ b → outcome a ≡ o → Told o (numbers a) answer status left → Told (outcome b) (numbers b) answer status left

@@ -1,6 +1,7 @@
 // An answer told in numbers: its status, 0 or a refusal as one number; the numbers of a verdict; numbers into lent memory.
 // What they are stands in specs/Told.antt.
 use framelines::figures::put_figures;
+use refusals::Outcome;
 use refusals::Refusal;
 use refusals::number;
 use refusals::place;
@@ -29,6 +30,17 @@ pub fn put_numbers(answer: &mut [u64], numbers: &[u64]) -> u64
     }
     put_figures(answer, 0, numbers);
     0
+}
+
+// The same for an answer of this outcome: a refusal's own status, and nothing stored.
+pub fn tell(answer: &mut [u64], numbers: &[u64], outcome: Outcome) -> u64
+    ensures { λ r. ⌜ r ≡ statusOf (toldOf outcome (now (numbers .entry)) (now (answer .entry))) ⌝ }
+    ensures { λ r. ⌜ now (answer .exit) ≡ leavesNumbers (toldOf outcome (now (numbers .entry)) (now (answer .entry))) (now (numbers .entry)) (now (answer .entry)) ⌝ }
+{
+    match outcome {
+        Outcome::Done => put_numbers(answer, numbers),
+        Outcome::Refused(refusal) => code(refusal),
+    }
 }
 
 // 1 and three zeros for yes; 0, the smallest failing length, the demand and the supply there for no.
