@@ -9,7 +9,8 @@ use Rattle.told.specs.Told.{statusOf}
 use Rattle.taskwrite.specs.Write.{writeOf}
 use Rattle.planfile.specs.Write.{writePlan}
 use Rattle.switchlist.specs.Write.{writeSwitches}
-use Rattle.handed.specs.Handed.{setFrom, planFrom}
+use Rattle.handedset.specs.Set.{setFrom}
+use Rattle.handedplan.specs.Plan.{planFrom}
 
 -- what the writers answer
 abbrev pub setWritten : (set out : List ℕ) → Written

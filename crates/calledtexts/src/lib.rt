@@ -1,8 +1,8 @@
 // The writers of a set, of a plan and of its switch list, called with a set and a plan as numbers (crate `handed`), for the outside
 // tests. Each answers every input, into lent bytes: a status of 0 says that the text stands at their start, with its length in the
 // lent number; any other is the refusal, and both are as before. What is answered stands in specs/Texts.antt.
-use handed::plans::plan_from;
-use handed::sets::set_from;
+use handedplan::plan_from;
+use handedset::set_from;
 use planfile::write::write_plan;
 use refusals::Written;
 use switchlist::write_switches;
@@ -13,7 +13,8 @@ ghost use Rattle.refusals.specs.Leaves.{leaves};
 ghost use Rattle.tasktext.specs.Text.{textOf};
 ghost use Rattle.plantext.specs.Text.{planText};
 ghost use Rattle.switchlist.specs.Write.{planSwitches};
-ghost use Rattle.handed.specs.Handed.{setFrom, planFrom};
+ghost use Rattle.handedset.specs.Set.{setFrom};
+ghost use Rattle.handedplan.specs.Plan.{planFrom};
 ghost use Rattle.calledtexts.specs.Texts.{setWritten, planWritten, switchesWritten, writtenStatus, writtenLength};
 
 // Tells a writer's answer: its status, and the length of what was written.

@@ -1,5 +1,9 @@
 // A plan told in numbers, every field in its order, unused room too. What they are stands in specs/Numbered.antt.
 use framelines::figures::put_figures;
+use handed::EACH;
+use handed::FIRST;
+use handed::PLACEMENT;
+use handed::SERVERS;
 use plan::plan::Plan;
 use plan::server::Server;
 use refusals::Refusal;
@@ -15,14 +19,6 @@ ghost use Rattle.framelines.specs.Lines.{joined};
 ghost use Rattle.told.specs.Told.{statusOf, toldOf, leavesNumbers};
 ghost use Rattle.handed.specs.Handed.{perServer, serversAt, firstAt, mostNumbers};
 ghost use Rattle.numbered.specs.Numbered.{placeNumbers, serverNumbers, serverNumbersAt, standNumbersAt, planNumbers};
-
-const SERVERS: usize = 5;
-
-const EACH: usize = TaskSet::MOST_TASKS + 4;
-
-const PLACEMENT: usize = SERVERS + EACH * TaskSet::MOST_TASKS;
-
-const FIRST: usize = PLACEMENT + TaskSet::MOST_TASKS;
 
 const NUMBERS: usize = FIRST + 2 * TaskSet::MOST_TASKS;
 
