@@ -1,4 +1,4 @@
--- `numbered::wide_places` meets its contract. The loop's invariant: the places passed hold the server's.
+-- `numberedserver::wide_places` meets its contract. The loop's invariant: the places passed hold the server's.
 -- The measure is what is left of the room. Assumes nothing.
 use Prim.Native.Nat.{ℕ, _-_, _≤_}
 use native.Mathlib.Omega.{arith}
@@ -8,9 +8,9 @@ use lib.ListN.{getD}
 use Rattle.tasks.specs.Set.{mostTasks}
 use Rattle.places.proofs.PaddedLaws.{Filled, filled-none}
 use Rattle.handed.proofs.HandedLaws.{filled-there, filled-up}
-use Rattle.numbered.specs.Numbered.{placeNumbers}
-use Rattle.numbered.proofs.wide_places.Statement.{statement}
-use Rattle.numbered.proofs.wide_places.Tie as tie
+use Rattle.numberedserver.specs.Server.{placeNumbers}
+use Rattle.numberedserver.proofs.wide_places.Statement.{statement}
+use Rattle.numberedserver.proofs.wide_places.Tie as tie
 
 abbrev Inv-loop : tie.InvT-loop
 Inv-loop server row₀ k₀ row k = (k ≤ mostTasks) × Filled (λ (j : ℕ). getD (server .places) (j - 1) 0) k row

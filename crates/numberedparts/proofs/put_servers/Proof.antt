@@ -1,4 +1,4 @@
--- `numbered::put_servers` meets its contract. The loop's invariant: the servers passed are put one behind the other.
+-- `numberedparts::put_servers` meets its contract. The loop's invariant: the servers passed are put one behind the other.
 -- The measure is what is left of the room. Assumes nothing.
 use Prim.Native.Nat.{_+_, _*_, _-_}
 use native.Mathlib.Omega.{arith}
@@ -7,10 +7,10 @@ use borrow.Author.Needs.{needs}
 use Rattle.digits.specs.Stored.{stored}
 use Rattle.tasks.specs.Set.{mostTasks}
 use Rattle.handed.specs.Handed.{serversAt, perServer}
-use Rattle.numbered.specs.Numbered.{serverNumbersAt}
-use Rattle.numbered.proofs.NumberedLaws.{PutFirst, put-none, put-next, put-all, servers-each, server-there}
-use Rattle.numbered.proofs.put_servers.Statement.{statement}
-use Rattle.numbered.proofs.put_servers.Tie as tie
+use Rattle.numberedparts.specs.Parts.{serverNumbersAt}
+use Rattle.numberedparts.proofs.PartsLaws.{PutFirst, put-none, put-next, put-all, servers-each, server-there}
+use Rattle.numberedparts.proofs.put_servers.Statement.{statement}
+use Rattle.numberedparts.proofs.put_servers.Tie as tie
 
 abbrev Inv-loop : tie.InvT-loop
 Inv-loop numbers₀ plan q₀ numbers q = PutFirst (serverNumbersAt (plan .server)) numbers₀ serversAt numbers q

@@ -1,4 +1,4 @@
--- `numbered::put_first` meets its contract. The loop's invariant: the first reserves passed are put one behind the other.
+-- `numberedparts::put_first` meets its contract. The loop's invariant: the first reserves passed are put one behind the other.
 -- The measure is what is left of the room. Assumes nothing.
 use Prim.Native.Nat.{_+_, _*_, _-_}
 use native.Mathlib.Omega.{arith}
@@ -7,10 +7,10 @@ use borrow.Author.Needs.{needs}
 use Rattle.digits.specs.Stored.{stored}
 use Rattle.tasks.specs.Set.{mostTasks}
 use Rattle.handed.specs.Handed.{firstAt}
-use Rattle.numbered.specs.Numbered.{standNumbersAt}
-use Rattle.numbered.proofs.NumberedLaws.{PutFirst, put-none, put-next, put-all, stands-each, stand-there}
-use Rattle.numbered.proofs.put_first.Statement.{statement}
-use Rattle.numbered.proofs.put_first.Tie as tie
+use Rattle.numberedparts.specs.Parts.{standNumbersAt}
+use Rattle.numberedparts.proofs.PartsLaws.{PutFirst, put-none, put-next, put-all, stands-each, stand-there}
+use Rattle.numberedparts.proofs.put_first.Statement.{statement}
+use Rattle.numberedparts.proofs.put_first.Tie as tie
 
 abbrev Inv-loop : tie.InvT-loop
 Inv-loop numbers₀ plan p₀ numbers p = PutFirst (standNumbersAt (plan .first)) numbers₀ firstAt numbers p

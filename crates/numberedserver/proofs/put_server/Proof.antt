@@ -1,8 +1,8 @@
--- `numbered::put_server` meets its contract: count, places and the rest are stored one behind the other. Assumes nothing.
+-- `numberedserver::put_server` meets its contract: count, places and the rest are stored one behind the other. Assumes nothing.
 use borrow.Author.Needs.{needs}
-use Rattle.numbered.proofs.NumberedLaws.{server-stored}
-use Rattle.numbered.proofs.put_server.Statement.{statement}
-use Rattle.numbered.proofs.put_server.Tie as tie
+use Rattle.numberedserver.proofs.ServerLaws.{server-stored}
+use Rattle.numberedserver.proofs.put_server.Statement.{statement}
+use Rattle.numberedserver.proofs.put_server.Tie as tie
 
 returns : tie.Need-returns
 returns c =
