@@ -14,10 +14,10 @@ use Rattle.framewrite.proofs.LineLaws.{row-fields, row-digits, row-line}
 use Rattle.framewrite.specs.Line.{lineOf}
 use Rattle.ring.specs.declared.cover.Stand.{Stand}
 use Rattle.turn.specs.Switches.{switchLine}
-use Rattle.ticklines.specs.declared.Switched.{Switched}
-use Rattle.ticklines.proofs.LaidLaws.{laid-length, laid-room, left-within}
-use Rattle.ticklines.proofs.put_switch.Statement.{statement}
-use Rattle.ticklines.proofs.put_switch.Tie as tie
+use Rattle.switchline.specs.declared.Switched.{Switched}
+use Rattle.switchline.proofs.LaidLaws.{laid-length, laid-room, left-within}
+use Rattle.switchline.proofs.put_switch.Statement.{statement}
+use Rattle.switchline.proofs.put_switch.Tie as tie
 
 -- the figures of a line are all there
 figures-there : fieldsIn Frame.Switch ≤ 3

@@ -11,7 +11,7 @@ use Rattle.reserves.specs.Reserves.{ringProcessors}
 use Rattle.turn.specs.Stretch.{Stretched, standAfter}
 use Rattle.turn.specs.Switches.{switches}
 use Rattle.turn.proofs.NextLaws.{left-some, running-stretched, steps-over, steps-on}
-use Rattle.ticklines.specs.Walk.{serverBefore, untilBefore}
+use Rattle.switchline.specs.Before.{serverBefore, untilBefore}
 
 module _ {S : ℕ} {rs : List ℕ} (res : Slotted S rs) (p : ℕ) (l : 1 ≤ p) (h : p ≤ ringProcessors S rs) where
   -- nobody's time is over before the tick

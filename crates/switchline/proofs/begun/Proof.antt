@@ -7,10 +7,10 @@ use native.Mathlib.Omega.{arith}
 use lib.ListN.{take}
 use Rattle.reserves.specs.Reserves.{ringProcessors}
 use Rattle.ring.specs.Who.{whoOf}
-use Rattle.ticklines.proofs.LaidLaws.{laid-slotted}
-use Rattle.ticklines.proofs.StepLaws.{before-stretched, after-begins}
-use Rattle.ticklines.proofs.begun.Statement.{statement}
-use Rattle.ticklines.proofs.begun.Tie as tie
+use Rattle.switchline.proofs.LaidLaws.{laid-slotted}
+use Rattle.switchline.proofs.StepLaws.{before-stretched, after-begins}
+use Rattle.switchline.proofs.begun.Statement.{statement}
+use Rattle.switchline.proofs.begun.Tie as tie
 
 -- the processor is one of the ring's
 on-ring : (s : tie.Start) → s .args .processor ≤ ringProcessors (s .args .turn .slot) (take (s .args .turn .servers) (s .args .reserves .now))
