@@ -1,9 +1,9 @@
--- `framewrite::put_mark` meets its contract: the constant byte string is the mark.
+-- `fieldwrite::put_mark` meets its contract: the constant byte string is the mark.
 -- Assumes nothing.
-use Rattle.framewrite.specs.Line.{markOf}
+use Rattle.fieldwrite.specs.Mark.{markOf}
 use borrow.Author.Needs.{needs}
-use Rattle.framewrite.proofs.put_mark.Statement.{statement}
-use Rattle.framewrite.proofs.put_mark.Tie as tie
+use Rattle.fieldwrite.proofs.put_mark.Statement.{statement}
+use Rattle.fieldwrite.proofs.put_mark.Tie as tie
 
 returns : tie.Need-returns
 unfolding markOf

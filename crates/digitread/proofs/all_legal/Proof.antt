@@ -1,4 +1,4 @@
--- `digits::all_legal` meets its contract: the bytes passed are legal, so the whole part is as legal as what is left of it.
+-- `digitread::all_legal` meets its contract: the bytes passed are legal, so the whole part is as legal as what is left of it.
 -- Assumes nothing.
 use Prim.Native.Nat.{_+_, _-_, _≤_}
 use mathlib.Core.Path.{_≡_, sym, _∙_, ap}
@@ -6,10 +6,10 @@ use native.Mathlib.Omega.{arith}
 use lib.ListN.{take, drop}
 use borrow.Author.Needs.{needs}
 use borrow.Author.Tests.{not-true, not-false}
 use Rattle.digits.specs.Digit.{allLegal}
 use Rattle.digits.proofs.Numbers.{part-start, part-end, legal-stops, legal-goes-on}
-use Rattle.digits.proofs.all_legal.Statement.{statement}
-use Rattle.digits.proofs.all_legal.Tie as tie
+use Rattle.digitread.proofs.all_legal.Statement.{statement}
+use Rattle.digitread.proofs.all_legal.Tie as tie
 
 abbrev Inv-loop : tie.InvT-loop
 Inv-loop text at width i₀ i =

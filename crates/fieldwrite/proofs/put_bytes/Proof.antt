@@ -1,11 +1,11 @@
--- `framewrite::put_bytes` meets its contract: the bytes copied so far are stored, one by one.
+-- `fieldwrite::put_bytes` meets its contract: the bytes copied so far are stored, one by one.
 -- Assumes nothing.
 use Prim.Native.Nat.{_-_}
 use native.Mathlib.Omega.{arith}
 use lib.ListN.{length}
 use Rattle.digits.proofs.CopyLaws.{Copied, copied-none, copied-next, copied-all}
-use Rattle.framewrite.proofs.put_bytes.Statement.{statement}
-use Rattle.framewrite.proofs.put_bytes.Tie as tie
+use Rattle.fieldwrite.proofs.put_bytes.Statement.{statement}
+use Rattle.fieldwrite.proofs.put_bytes.Tie as tie
 
 abbrev Inv-loop : tie.InvT-loop
 Inv-loop out₀ at bytes i₀ out i = Copied out₀ at bytes out i

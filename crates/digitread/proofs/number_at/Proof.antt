@@ -1,4 +1,4 @@
--- `digits::number_at` meets its contract: the number so far, with the digits left, stands for the whole number.
+-- `digitread::number_at` meets its contract: the number so far, with the digits left, stands for the whole number.
 -- Assumes nothing.
 use Prim.Native.Nat.{_+_, _-_, _*_, _^_, _≤_, _<_}
 use mathlib.Core.Path.{_≡_, sym, _∙_, ap}
@@ -6,12 +6,12 @@ use mathlib.Core.Bool.{true}
 use native.Mathlib.Omega.{arith}
 use lib.Dec.{lit<}
 use lib.ListN.{take, drop}
 use Rattle.digits.specs.Digit.{allLegal}
 use Rattle.digits.specs.Number.{numberFrom, number}
 use Rattle.digits.proofs.Digits.{value-below}
 use Rattle.digits.proofs.Numbers.{part-start, part-end, part-legal, part-rest, part-number, grows, power-fits}
-use Rattle.digits.proofs.number_at.Statement.{statement}
-use Rattle.digits.proofs.number_at.Tie as tie
+use Rattle.digitread.proofs.number_at.Statement.{statement}
+use Rattle.digitread.proofs.number_at.Tie as tie
 
 abbrev Inv-loop : tie.InvT-loop
 Inv-loop text at width sum₀ i₀ sum i =

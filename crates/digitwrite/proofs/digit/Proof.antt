@@ -1,10 +1,10 @@
--- `digits::digit` meets its contract: the digit of a value by its two cases.
+-- `digitwrite::digit` meets its contract: the digit of a value by its two cases.
 -- Assumes nothing.
 use mathlib.Core.Path.{sym}
 use borrow.Author.Needs.{needs}
 use Rattle.digits.proofs.Digits.{digit-figure, digit-letter}
-use Rattle.digits.proofs.digit.Statement.{statement}
-use Rattle.digits.proofs.digit.Tie as tie
+use Rattle.digitwrite.proofs.digit.Statement.{statement}
+use Rattle.digitwrite.proofs.digit.Tie as tie
 
 returns : tie.Need-returns
 returns c = sym (digit-figure _ (c .if1 .taken))

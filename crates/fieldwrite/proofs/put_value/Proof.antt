@@ -1,13 +1,13 @@
--- `framewrite::put_value` meets its contract: the mark is the greatest number of eight digits.
+-- `fieldwrite::put_value` meets its contract: the mark is the greatest number of eight digits.
 -- Assumes nothing.
 use mathlib.Core.Path.{_∙_, ap}
 use native.Mathlib.Omega.{arith}
 use borrow.Author.Tests.{eqb-true}
 use borrow.Author.Needs.{needs}
 use Rattle.digits.specs.Stored.{stored}
-use Rattle.framewrite.proofs.Mark.{mark-value}
-use Rattle.framewrite.proofs.put_value.Statement.{statement}
-use Rattle.framewrite.proofs.put_value.Tie as tie
+use Rattle.fieldwrite.proofs.MarkLaws.{mark-value}
+use Rattle.fieldwrite.proofs.put_value.Statement.{statement}
+use Rattle.fieldwrite.proofs.put_value.Tie as tie
 
 returns : tie.Need-returns
 returns c =

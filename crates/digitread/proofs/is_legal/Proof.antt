@@ -1,10 +1,10 @@
--- `digits::is_legal` meets its contract: the test of a byte by its two cases.
+-- `digitread::is_legal` meets its contract: the test of a byte by its two cases.
 -- Assumes nothing.
 use mathlib.Core.Path.{sym}
 use borrow.Author.Tests.{le-leb, lt-leb}
 use Rattle.digits.proofs.Digits.{legal-to-nine, legal-past-nine}
-use Rattle.digits.proofs.is_legal.Statement.{statement}
-use Rattle.digits.proofs.is_legal.Tie as tie
+use Rattle.digitread.proofs.is_legal.Statement.{statement}
+use Rattle.digitread.proofs.is_legal.Tie as tie
 
 returns : tie.Need-returns
 returns c = sym (legal-to-nine _ (c .if1 .taken))

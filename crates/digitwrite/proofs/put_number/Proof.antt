@@ -1,16 +1,16 @@
--- `digits::put_number` meets its contract: the digits set so far, with the rest yet to be stored, are the whole number stored.
+-- `digitwrite::put_number` meets its contract: the digits set so far, with the rest yet to be stored, are the whole number stored.
 -- Assumes nothing.
 use Prim.Native.Nat.{ℕ, suc, _+_, _-_, _/_, _≤_}
 use mathlib.Core.Path.{_≡_, refl, sym, _∙_, ap}
 use native.Mathlib.Omega.{arith}
 use lib.ListN.{length, set, length-set}
 use borrow.Author.Needs.{needs}
 use Rattle.digits.specs.Number.{hex}
 use Rattle.digits.specs.Stored.{stored}
 use Rattle.digits.proofs.Numbers.{digit-stored}
 use Rattle.digits.proofs.Stored.{stored-nil}
-use Rattle.digits.proofs.put_number.Statement.{statement}
-use Rattle.digits.proofs.put_number.Tie as tie
+use Rattle.digitwrite.proofs.put_number.Statement.{statement}
+use Rattle.digitwrite.proofs.put_number.Tie as tie
 
 abbrev Inv-loop : tie.InvT-loop
 Inv-loop out₀ at width value left₀ rest₀ out left rest =

@@ -1,4 +1,4 @@
--- `digits::too_large` meets its contract: what is left after as many digits as the width is nothing exactly when the number fits.
+-- `digitwrite::too_large` meets its contract: what is left after as many digits as the width is nothing exactly when the number fits.
 -- Assumes nothing.
 use Prim.Native.Nat.{ℕ, _-_, _/_, _^_, _≤_}
 use mathlib.Core.Path.{_≡_, sym, _∙_, ap}
@@ -7,9 +7,9 @@ use native.Mathlib.Nat.{div-one, div-div-eq-div-mul, pow-suc}
 use native.Mathlib.Numerals.{add-one}
 use native.Mathlib.Omega.{arith}
 use lib.Dec.{eqb}
 use Rattle.digits.proofs.Numbers.{digits-left}
-use Rattle.digits.proofs.too_large.Statement.{statement}
-use Rattle.digits.proofs.too_large.Tie as tie
+use Rattle.digitwrite.proofs.too_large.Statement.{statement}
+use Rattle.digitwrite.proofs.too_large.Tie as tie
 
 abbrev Inv-loop : tie.InvT-loop
 Inv-loop width value high₀ passed₀ high passed = (passed ≤ width) × (high ≡ value / 16 ^ passed)

@@ -1,11 +1,11 @@
--- `digits::value` meets its contract: the value of a legal digit by its two cases.
+-- `digitread::value` meets its contract: the value of a legal digit by its two cases.
 -- Assumes nothing.
 use mathlib.Core.Path.{sym}
 use native.Mathlib.Omega.{arith}
 use borrow.Author.Needs.{needs}
 use Rattle.digits.proofs.Digits.{legal-low, value-figure, value-letter}
-use Rattle.digits.proofs.value.Statement.{statement}
-use Rattle.digits.proofs.value.Tie as tie
+use Rattle.digitread.proofs.value.Statement.{statement}
+use Rattle.digitread.proofs.value.Tie as tie
 
 sub-result : tie.Need-sub-result
 sub-result c = omega (arith, legal-low (c .before .args .b) (c .before .pre))

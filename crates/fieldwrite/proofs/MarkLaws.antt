@@ -4,7 +4,7 @@ use Prim.Native.Nat.{ℕ}
 use mathlib.Core.Path.{_≡_, refl, sym, _∙_, ap₂}
 use Rattle.digits.specs.Digit.{digitOf}
 use Rattle.digits.specs.Number.{hex}
-use Rattle.framewrite.specs.Line.{markWidth, markOf, markNumber}
+use Rattle.fieldwrite.specs.Mark.{markWidth, markOf, markNumber}
 
 mark-hex : hex markWidth markNumber ≡ markOf
 unfolding hex digitOf markOf
