@@ -1,10 +1,10 @@
--- `calledtexts::tell` meets its contract, by the answer. Assumes nothing.
+-- `toldtext::tell` meets its contract, by the answer. Assumes nothing.
 use mathlib.Core.Path.{sym, _∙_, ap}
 use borrow.Author.Needs.{needs}
 use Rattle.refusals.specs.declared.Written.{Written}
-use Rattle.calledtexts.specs.Texts.{writtenStatus, writtenLength}
-use Rattle.calledtexts.proofs.tell.Statement.{statement}
-use Rattle.calledtexts.proofs.tell.Tie as tie
+use Rattle.toldtext.specs.Length.{writtenStatus, writtenLength}
+use Rattle.toldtext.proofs.tell.Statement.{statement}
+use Rattle.toldtext.proofs.tell.Tie as tie
 
 returns : tie.Need-returns
 returns c =
