@@ -10,7 +10,8 @@ use Rattle.whoruns.specs.declared.WhoAnswer.{WhoAnswer}
 use Rattle.whoruns.specs.WhoRuns.{whoRuns}
 use Rattle.doespass.specs.declared.PassAnswer.{PassAnswer}
 use Rattle.doespass.specs.DoesPass.{doesPass}
-use Rattle.handed.specs.Handed.{setFrom, planFrom}
+use Rattle.handedset.specs.Set.{setFrom}
+use Rattle.handedplan.specs.Plan.{planFrom}
 use Rattle.numbered.specs.Numbered.{planNumbers}
 
 -- the plan of a set

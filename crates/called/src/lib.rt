@@ -2,8 +2,8 @@
 // Each answers every input, by numbers in lent memory: a status of 0 says that the answer stands there; any other is the refusal,
 // and the memory is as before. What is answered stands in specs/Called.antt.
 use doespass::pass;
-use handed::plans::plan_from;
-use handed::sets::set_from;
+use handedplan::plan_from;
+use handedset::set_from;
 use numbered::put_plan;
 use plancheck::makes_plan;
 use planner::make;
@@ -16,7 +16,8 @@ use whoruns::who;
 ghost use mathlib.Core.Path.{_≡_};
 ghost use Rattle.told.specs.Told.{statusOf, leavesNumbers};
 ghost use Rattle.plancheck.specs.Makes.{makes};
-ghost use Rattle.handed.specs.Handed.{setFrom, planFrom};
+ghost use Rattle.handedset.specs.Set.{setFrom};
+ghost use Rattle.handedplan.specs.Plan.{planFrom};
 ghost use Rattle.called.specs.Called.{plannedNumbers, plannedTold, whoNumbers, whoTold, passNumbers, passTold};
 
 // The plan of a set.

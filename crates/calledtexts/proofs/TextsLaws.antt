@@ -7,7 +7,7 @@ use Rattle.refusals.specs.declared.Written.{Written}
 use Rattle.refusals.specs.Leaves.{leaves}
 use Rattle.tasks.specs.declared.set.TaskSet.{TaskSet}
 use Rattle.plan.specs.declared.plan.Plan.{Plan}
-use Rattle.calledtexts.specs.Texts.{writtenStatus, writtenLength}
+use Rattle.toldtext.specs.Length.{writtenStatus, writtenLength}
 
 -- an answer v with a text, and the bytes that it leaves
 abbrev pub Answered : (v w : Written) (out text left : List ℕ) → Type 0

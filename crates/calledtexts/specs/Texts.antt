@@ -2,14 +2,12 @@
 -- Document 01, rows 11 and 12 of the refusals (RULES 6.5).
 use Prim.Native.Nat.{ℕ}
 use mathlib.Core.List.{List}
-use Rattle.refusals.specs.declared.Outcome.the-variants.{Refused}
 use Rattle.refusals.specs.declared.Written.{Written}
-use Rattle.refusals.specs.declared.Written.the-variants.{Bytes, Refused as NotWritten}
-use Rattle.told.specs.Told.{statusOf}
 use Rattle.taskwrite.specs.Write.{writeOf}
 use Rattle.planfile.specs.Write.{writePlan}
 use Rattle.switchlist.specs.Write.{writeSwitches}
-use Rattle.handed.specs.Handed.{setFrom, planFrom}
+use Rattle.handedset.specs.Set.{setFrom}
+use Rattle.handedplan.specs.Plan.{planFrom}
 
 -- what the writers answer
 abbrev pub setWritten : (set out : List ℕ) → Written
@@ -20,13 +18,3 @@ planWritten set plan out = writePlan (setFrom set) (planFrom plan) out
 
 abbrev pub switchesWritten : (set plan out : List ℕ) → Written
 switchesWritten set plan out = writeSwitches (setFrom set) (planFrom plan) out
-
--- 0, or the refusal
-abbrev pub writtenStatus : Written → ℕ
-writtenStatus (Bytes n) = 0
-writtenStatus (NotWritten r) = statusOf (Refused r)
-
--- the text's length, or the lent number as before
-abbrev pub writtenLength : Written → (before : ℕ) → ℕ
-writtenLength (Bytes n) before = n
-writtenLength (NotWritten r) before = before

@@ -1,34 +1,21 @@
 // The writers of a set, of a plan and of its switch list, called with a set and a plan as numbers (crate `handed`), for the outside
 // tests. Each answers every input, into lent bytes: a status of 0 says that the text stands at their start, with its length in the
 // lent number; any other is the refusal, and both are as before. What is answered stands in specs/Texts.antt.
-use handed::plans::plan_from;
-use handed::sets::set_from;
+use handedplan::plan_from;
+use handedset::set_from;
 use planfile::write::write_plan;
-use refusals::Written;
 use switchlist::write_switches;
 use taskwrite::write::write;
-use told::code;
+use toldtext::tell;
 ghost use mathlib.Core.Path.{_≡_};
 ghost use Rattle.refusals.specs.Leaves.{leaves};
 ghost use Rattle.tasktext.specs.Text.{textOf};
 ghost use Rattle.plantext.specs.Text.{planText};
 ghost use Rattle.switchlist.specs.Write.{planSwitches};
-ghost use Rattle.handed.specs.Handed.{setFrom, planFrom};
-ghost use Rattle.calledtexts.specs.Texts.{setWritten, planWritten, switchesWritten, writtenStatus, writtenLength};
-
-// Tells a writer's answer: its status, and the length of what was written.
-fn tell(written: Written, length: &mut usize) -> u64
-    ensures { λ r. ⌜ r ≡ writtenStatus written ⌝ }
-    ensures { λ r. ⌜ now (length .exit) ≡ writtenLength written (now (length .entry)) ⌝ }
-{
-    match written {
-        Written::Bytes(bytes) => {
-            *length = bytes;
-            0
-        }
-        Written::Refused(refusal) => code(refusal),
-    }
-}
+ghost use Rattle.handedset.specs.Set.{setFrom};
+ghost use Rattle.handedplan.specs.Plan.{planFrom};
+ghost use Rattle.toldtext.specs.Length.{writtenStatus, writtenLength};
+ghost use Rattle.calledtexts.specs.Texts.{setWritten, planWritten, switchesWritten};
 
 // The text of a set.
 #[no_mangle]

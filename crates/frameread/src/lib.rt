@@ -1,7 +1,7 @@
 // Lines of a frame, read from a place in a text.
 // A line is its kind, its fields at the table's widths, and one LF.
-use digits::all_legal;
-use digits::number_at;
+use digitread::all_legal;
+use digitread::number_at;
 use frames::table::FRAMES;
 use frames::table::Frame;
 use frames::table::KINDS;

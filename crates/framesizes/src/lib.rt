@@ -1,5 +1,5 @@
 // What follows from the table of frames: the widths and starts of fields, the lengths of lines, and which values fit.
-use digits::too_large;
+use digitwrite::too_large;
 use frames::table::Frame;
 use frames::table::MOST_FIELDS;
 use frames::table::row_of;

@@ -1,5 +1,6 @@
 // A line of a frame, written to a place in a lent buffer from the values of its fields.
-use digits::put_number;
+use fieldwrite::put_bytes;
+use fieldwrite::put_value;
 use frames::table::Frame;
 use frames::table::Row;
 use frames::table::row_of;
@@ -7,50 +8,8 @@ ghost use mathlib.Core.Path.{_≡_};
 ghost use Prim.Native.Nat.{_+_, _≤_};
 ghost use lib.ListN.{length as count};
 ghost use Rattle.frames.specs.Table.{lengthOf, fieldsIn, mostFields, sum};
-ghost use Rattle.framewrite.specs.Line.{markWidth, markOf, fields, rowWidths, lineBy, lineOf};
-ghost use Rattle.digits.specs.Number.{hex};
+ghost use Rattle.framewrite.specs.Line.{fields, rowWidths, lineBy, lineOf};
 ghost use Rattle.digits.specs.Stored.{stored};
-
-// The ring start of a server on a whole processor, and the number that it stands for.
-pub const WHOLE: [u8; MARK_DIGITS] = *b"FFFFFFFF";
-
-const MARK_DIGITS: usize = 8;
-
-pub const MARK: u64 = 0xFFFF_FFFF;
-
-// Copies a byte string into the buffer.
-pub fn put_bytes(out: &mut [u8], at: usize, bytes: &[u8])
-    requires { ⌜ at + count (now bytes) ≤ count (now out) ⌝ }
-    ensures { λ r. ⌜ now (out .exit) ≡ stored (now (out .entry)) at (now (bytes .entry)) ⌝ }
-{
-    let mut i = 0;
-    while i < bytes.len() {
-        let j = at + i;
-        out[j] = bytes[i];
-        i += 1;
-    }
-}
-
-// Writes the mark of a whole processor.
-fn put_mark(out: &mut [u8], at: usize)
-    requires { ⌜ at + markWidth ≤ count (now out) ⌝ }
-    ensures { λ r. ⌜ now (out .exit) ≡ stored (now (out .entry)) at markOf ⌝ }
-{
-    let mark = WHOLE;
-    put_bytes(out, at, &mark);
-}
-
-// Writes the value of a field. The greatest number of eight digits is the mark, a fixed byte string.
-fn put_value(out: &mut [u8], at: usize, digits: usize, value: u64)
-    requires { ⌜ at + digits ≤ count (now out) ⌝ }
-    ensures { λ r. ⌜ now (out .exit) ≡ stored (now (out .entry)) at (hex digits value) ⌝ }
-{
-    if digits == MARK_DIGITS && value == MARK {
-        put_mark(out, at);
-        return;
-    }
-    put_number(out, at, digits, value);
-}
 
 // Writes the fields of a line, one after the other, and says where they end.
 fn put_fields(out: &mut [u8], at: usize, row: Row, values: &[u64]) -> usize

@@ -1,10 +1,16 @@
-// A set and a plan that are handed in as numbers, in the order of their fields, unused room too.
+// A set and a plan that are handed in as numbers, in the order of their fields, unused room too: the numbers, and where a plan's parts stand.
 // What they are stands in specs/Handed.antt.
-pub mod plans; // plans.rt: the plan of numbers
-pub mod sets; // sets.rt: the set of numbers
-
+use tasks::set::TaskSet;
 ghost use mathlib.Core.Path.{_≡_};
 ghost use Rattle.handed.specs.Handed.{numberAt};
+
+pub const SERVERS: usize = 5;
+
+pub const EACH: usize = TaskSet::MOST_TASKS + 4;
+
+pub const PLACEMENT: usize = SERVERS + EACH * TaskSet::MOST_TASKS;
+
+pub const FIRST: usize = PLACEMENT + TaskSet::MOST_TASKS;
 
 // Number i, from 0; 0 past the end.
 pub fn number_at(numbers: &[u64], i: usize) -> u64

@@ -1,7 +1,7 @@
 // The figures of a plan's lines, one line behind the other, as the writer of lines takes them.
 // What they are stands in specs/Figures.antt.
+use fieldwrite::MARK;
 use framelines::figures::put_figures;
-use framewrite::MARK;
 use plan::plan::Plan;
 use tasks::set::TaskSet;
 ghost use mathlib.Core.Path.{_≡_};

@@ -17,7 +17,7 @@ use Rattle.turn.specs.declared.Turn.{Turn}
 use Rattle.turn.specs.Stretch.{Laid}
 use Rattle.turn.specs.Switches.{switchLines, turnSwitches, switchText}
 use Rattle.turn.specs.Count.{switchCount, mostSwitches}
-use Rattle.ticklines.proofs.LaidLaws.{slotted-taken}
+use Rattle.switchline.proofs.LaidLaws.{slotted-taken}
 use Rattle.turn.proofs.TextLaws.{lines-length}
 use Rattle.turn.proofs.CountLaws.{turn-count, count-most}
 use Rattle.ring_claims.specs.Slotted.{Slotted}

@@ -1,5 +1,3 @@
 pub mod LinesLaws
-pub mod LaidLaws
 pub mod LeastLaws
-pub mod StepLaws
 pub mod TickLaws

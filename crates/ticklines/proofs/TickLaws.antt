@@ -15,10 +15,11 @@ use Rattle.frames.specs.Table.{lengthOf}
 use Rattle.ring_claims.specs.Slotted.{Slotted}
 use Rattle.reserves.specs.Reserves.{ringProcessors}
 use Rattle.turn.specs.Switches.{Switch, runs, switches, switchesAt, switchLine, switchLines}
-use Rattle.ticklines.specs.declared.Switched.{Switched}
-use Rattle.ticklines.specs.Walk.{Carried, serverBefore, untilBefore}
+use Rattle.switchline.specs.declared.Switched.{Switched}
+use Rattle.switchline.specs.Before.{serverBefore, untilBefore}
+use Rattle.ticklines.specs.Walk.{Carried}
 use Rattle.ticklines.proofs.LinesLaws.{at-over, at-on, at-bytes, line-bytes}
-use Rattle.ticklines.proofs.StepLaws.{until-ahead, is-over, runs-on, server-on, until-on}
+use Rattle.switchline.proofs.StepLaws.{until-ahead, is-over, runs-on, server-on, until-on}
 
 -- the lines of the first i of n processors at a tick are put, these processors are carried past it, and the others are yet to be
 pub record Walked (S : ℕ) (rs : List ℕ) (x n : ℕ) (b : List ℕ) (at : ℕ) (out servers untils : List ℕ) (next i : ℕ) : Type 0 where

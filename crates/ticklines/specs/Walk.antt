@@ -1,19 +1,9 @@
 -- What a walk through the turn carries from switch to switch: for each ring processor its server and the tick until which it runs.
-use Prim.Native.Nat.{ℕ, zero, suc, min, _+_, _≤_, _<_}
+use Prim.Native.Nat.{ℕ, zero, suc, min, _≤_, _<_}
 use mathlib.Core.Path.{_≡_}
 use mathlib.Core.List.{List}
 use lib.ListN.{length, getD}
-use Rattle.ring.specs.Who.{whoOf}
-use Rattle.turn.specs.Switches.{runs}
-
--- the server that runs right before tick x, and until when; before tick 0 nobody runs, until tick 0
-abbrev pub serverBefore : (S : ℕ) (reserves : List ℕ) (p x : ℕ) → ℕ
-serverBefore S reserves p zero = 0
-serverBefore S reserves p (suc x) = runs S reserves p x
-
-abbrev pub untilBefore : (S : ℕ) (reserves : List ℕ) (p x : ℕ) → ℕ
-untilBefore S reserves p zero = 0
-untilBefore S reserves p (suc x) = x + whoOf S reserves p (record { 0 = x }) .left
+use Rattle.switchline.specs.Before.{serverBefore, untilBefore}
 
 -- the smallest of a number and f 1 to f n
 unfoldable pub leastOf : (f : ℕ → ℕ) (most n : ℕ) → ℕ

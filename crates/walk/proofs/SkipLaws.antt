@@ -12,10 +12,11 @@ use Rattle.digits.proofs.Stored.{stored-nil, stored-stored}
 use Rattle.ring_claims.specs.Slotted.{Slotted}
 use Rattle.reserves.specs.Reserves.{ringProcessors, ringLength}
 use Rattle.turn.specs.Switches.{Switch, switches, switchesAt, switchesBefore, switchLines, switchText, turnSwitches}
-use Rattle.ticklines.specs.Walk.{Carried, serverBefore, untilBefore, leastOf}
+use Rattle.switchline.specs.Before.{serverBefore, untilBefore}
+use Rattle.ticklines.specs.Walk.{Carried, leastOf}
 use Rattle.ticklines.proofs.LinesLaws.{at-on, before-next, before-bytes}
 use Rattle.ticklines.proofs.LeastLaws.{least-most, least-each, least-above}
-use Rattle.ticklines.proofs.StepLaws.{until-ahead, runs-on, server-on, until-on}
+use Rattle.switchline.proofs.StepLaws.{until-ahead, runs-on, server-on, until-on}
 
 -- from tick x to tick y nothing switches, and what is carried stays
 record Passed (S : ℕ) (rs : List ℕ) (x y : ℕ) : Type 0 where

@@ -1,7 +1,7 @@
 // A line of plain words with numbers in it, put to the start of a lent buffer.
 // What it is stands in specs/Words.antt, and what is answered in specs/Lined.antt.
 use decimaltext::put_decimal;
-use framewrite::put_bytes;
+use fieldwrite::put_bytes;
 use refusals::Refusal;
 use refusals::Written;
 ghost use mathlib.Core.Path.{_≡_};

@@ -8,7 +8,7 @@ use Rattle.planner.specs.declared.PlanAnswer.{PlanAnswer}
 use Rattle.planner.specs.Planner.{planOf}
 use Rattle.told.specs.Told.{statusOf, leavesNumbers}
 use Rattle.told.proofs.ToldLaws.{Told, told-by, told-refused}
-use Rattle.handed.specs.Handed.{setFrom}
+use Rattle.handedset.specs.Set.{setFrom}
 use Rattle.numbered.specs.Numbered.{planNumbers}
 use Rattle.called.specs.Called.{plannedNumbers, plannedTold}
 use Rattle.called.proofs.handed_plan.Statement.{statement}

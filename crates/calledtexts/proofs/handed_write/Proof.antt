@@ -5,7 +5,7 @@ use Rattle.refusals.specs.Leaves.{leaves}
 use Rattle.tasks.specs.declared.set.TaskSet.{TaskSet}
 use Rattle.tasktext.specs.Text.{textOf}
 use Rattle.taskwrite.specs.Write.{writeOf}
-use Rattle.handed.specs.Handed.{setFrom}
+use Rattle.handedset.specs.Set.{setFrom}
 use Rattle.calledtexts.specs.Texts.{setWritten}
 use Rattle.calledtexts.proofs.TextsLaws.{written-told}
 use Rattle.calledtexts.proofs.handed_write.Statement.{statement}

@@ -4,7 +4,8 @@ use Rattle.tasks.specs.declared.set.TaskSet.{TaskSet}
 use Rattle.plan.specs.declared.plan.Plan.{Plan}
 use Rattle.plantext.specs.Text.{planText}
 use Rattle.planfile.specs.Write.{writePlan}
-use Rattle.handed.specs.Handed.{setFrom, planFrom}
+use Rattle.handedset.specs.Set.{setFrom}
+use Rattle.handedplan.specs.Plan.{planFrom}
 use Rattle.calledtexts.specs.Texts.{planWritten}
 use Rattle.calledtexts.proofs.TextsLaws.{asked-of, written-told}
 use Rattle.calledtexts.proofs.handed_write_plan.Statement.{statement}

@@ -4,7 +4,7 @@ use borrow.Author.Needs.{needs}
 use Rattle.tasks.specs.declared.set.TaskSet.{TaskSet}
 use Rattle.plan.specs.declared.plan.Plan.{Plan}
 use Rattle.switchlist.specs.Write.{planSwitches, writeSwitches}
-use Rattle.handed.specs.Handed.{planFrom}
+use Rattle.handedplan.specs.Plan.{planFrom}
 use Rattle.calledtexts.specs.Texts.{switchesWritten}
 use Rattle.calledtexts.proofs.TextsLaws.{asked-of, written-told}
 use Rattle.calledtexts.proofs.handed_write_switches.Statement.{statement}

@@ -15,8 +15,9 @@ use Rattle.frames.proofs.Tables.{length-most}
 use Rattle.reserves.specs.Reserves.{ringProcessors}
 use Rattle.ring.specs.declared.cover.Stand.{Stand}
 use Rattle.turn.specs.Stretch.{Laid}
-use Rattle.ticklines.specs.Walk.{serverBefore, untilBefore, leastOf}
-use Rattle.ticklines.proofs.LaidLaws.{laid-slotted, laid-length, laid-room, left-within}
+use Rattle.switchline.specs.Before.{serverBefore, untilBefore}
+use Rattle.ticklines.specs.Walk.{leastOf}
+use Rattle.switchline.proofs.LaidLaws.{laid-slotted, laid-length, laid-room, left-within}
 use Rattle.ticklines.proofs.LeastLaws.{least-none, least-next}
 use Rattle.ticklines.proofs.TickLaws.{Walked, walked-none, walked-room, walked-over, walked-on, walked-all, servers-there, untils-there, until-here, until-reached, server-here}
 use Rattle.ticklines.proofs.put_tick.Statement.{statement}

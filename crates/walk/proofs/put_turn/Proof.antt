@@ -9,7 +9,7 @@ use lib.ListN.{length, take}
 use Rattle.tasks.specs.Set.{mostProcessors}
 use Rattle.turn.specs.Stretch.{Laid}
 use Rattle.ticklines.specs.declared.Next.{Next}
-use Rattle.ticklines.proofs.LaidLaws.{laid-slotted, laid-room}
+use Rattle.switchline.proofs.LaidLaws.{laid-slotted, laid-room}
 use Rattle.walk.proofs.SkipLaws.{Turned, turned-none, turned-room, turned-next, turned-all, next-later}
 use Rattle.walk.proofs.put_turn.Statement.{statement}
 use Rattle.walk.proofs.put_turn.Tie as tie

@@ -1,0 +1,28 @@
+-- The set that is handed in as numbers: its count, the seven figures of the header, then each place.
+use Prim.Native.Nat.{ℕ, _+_, _*_, _-_}
+use mathlib.Core.List.{List}
+use Rattle.tasks.specs.declared.set.Header.{Header}
+use Rattle.tasks.specs.declared.set.Task.{Task}
+use Rattle.tasks.specs.declared.set.TaskSet.{TaskSet}
+use Rattle.tasks.specs.Set.{mostTasks}
+use Rattle.places.specs.Padded.{upTo}
+use Rattle.handed.specs.Handed.{numberAt, byteAt, halfAt, wordAt}
+
+abbrev pub headerFrom : (numbers : List ℕ) → Header
+headerFrom ns =
+    record {
+      processors = byteAt ns 1;
+      slot = wordAt ns 2;
+      relj = halfAt ns 3;
+      relo = halfAt ns 4;
+      ctswo = halfAt ns 5;
+      resd = halfAt ns 6;
+      cpmdo = halfAt ns 7;
+    }
+
+-- the task whose numbers stand from a place on
+abbrev pub taskFrom : (numbers : List ℕ) (at : ℕ) → Task
+taskFrom ns at = record { id = byteAt ns at; cost = wordAt ns (at + 1); deadline = wordAt ns (at + 2); period = wordAt ns (at + 3) }
+
+unfoldable pub setFrom : (numbers : List ℕ) → TaskSet
+setFrom ns = record { header = headerFrom ns; count = numberAt ns 0; tasks = upTo (λ (k : ℕ). taskFrom ns (8 + 4 * (k - 1))) mostTasks }

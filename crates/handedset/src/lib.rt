@@ -1,0 +1,65 @@
+// The set of numbers: its count, the seven figures of the header, then id, cost, deadline and period of each place.
+use handed::number_at;
+use tasks::set::Header;
+use tasks::set::Task;
+use tasks::set::TaskSet;
+ghost use mathlib.Core.Path.{_≡_};
+ghost use Prim.Native.Nat.{_≤_};
+ghost use Rattle.handed.specs.Handed.{mostNumbers};
+ghost use Rattle.handedset.specs.Set.{headerFrom, taskFrom, setFrom};
+
+const BYTE: u64 = 256;
+
+const HALF: u64 = 65_536;
+
+const WORD: u64 = 4_294_967_296;
+
+fn header_from(numbers: &[u64]) -> Header
+    ensures { λ r. ⌜ r ≡ headerFrom (now (numbers .entry)) ⌝ }
+{
+    Header {
+        processors: (number_at(numbers, 1) % BYTE) as u8,
+        slot: (number_at(numbers, 2) % WORD) as u32,
+        relj: (number_at(numbers, 3) % HALF) as u16,
+        relo: (number_at(numbers, 4) % HALF) as u16,
+        ctswo: (number_at(numbers, 5) % HALF) as u16,
+        resd: (number_at(numbers, 6) % HALF) as u16,
+        cpmdo: (number_at(numbers, 7) % HALF) as u16,
+    }
+}
+
+// The task whose numbers stand from `at` on.
+fn task_from(numbers: &[u64], at: usize) -> Task
+    requires { ⌜ at ≤ mostNumbers ⌝ }
+    ensures { λ r. ⌜ r ≡ taskFrom (now (numbers .entry)) at ⌝ }
+{
+    Task {
+        id: (number_at(numbers, at) % BYTE) as u8,
+        cost: (number_at(numbers, at + 1) % WORD) as u32,
+        deadline: (number_at(numbers, at + 2) % WORD) as u32,
+        period: (number_at(numbers, at + 3) % WORD) as u32,
+    }
+}
+
+pub fn set_from(numbers: &[u64]) -> TaskSet
+    ensures { λ r. ⌜ r ≡ setFrom (now (numbers .entry)) ⌝ }
+{
+    let mut tasks = [Task {
+        id: 0,
+        cost: 0,
+        deadline: 0,
+        period: 0,
+    }; TaskSet::MOST_TASKS];
+    let mut i: usize = 0;
+    while i < TaskSet::MOST_TASKS {
+        tasks[i] = task_from(numbers, 8 + 4 * i);
+        i += 1;
+    }
+    let header = header_from(numbers);
+    let count = number_at(numbers, 0) as usize;
+    TaskSet {
+        header,
+        count,
+        tasks,
+    }
+}
