@@ -2,10 +2,10 @@
 // What they are stands in specs/Figures.antt.
 use framelines::figures::put_figures;
 use framewrite::MARK;
+use plan::by_server::counts;
+use plan::by_server::starts;
 use plan::plan::Plan;
 use plan::plan::reserves;
-use plan::rows::counts;
-use plan::rows::starts;
 use ring::cover::Stand;
 use tasks::set::TaskSet;
 ghost use mathlib.Core.Path.{_≡_};

@@ -1,4 +1,4 @@
--- `rows::counts` meets its contract. The loop's invariant: the places passed hold the numbers of tasks of the servers so far.
+-- `by_server::counts` meets its contract. The loop's invariant: the places passed hold the numbers of tasks of the servers so far.
 -- The measure is what is left of the room. Assumes nothing.
 use Prim.Native.Nat.{ℕ, _-_, _≤_}
 use mathlib.Core.Path.{_≡_, refl, sym, _∙_}
@@ -9,8 +9,8 @@ use Rattle.tasks.specs.Set.{mostTasks}
 use Rattle.places.proofs.PaddedLaws.{Filled, filled-none, filled-next}
 use Rattle.plan.specs.declared.server.Server.{Server}
 use Rattle.plan.proofs.RecordLaws.{before, before-next, row-filled}
-use Rattle.plan.proofs.rows.counts.Statement.{statement}
-use Rattle.plan.proofs.rows.counts.Tie as tie
+use Rattle.plan.proofs.by_server.counts.Statement.{statement}
+use Rattle.plan.proofs.by_server.counts.Tie as tie
 
 abbrev count : Server → ℕ
 count s = s .count
