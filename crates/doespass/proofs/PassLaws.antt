@@ -1,17 +1,35 @@
 -- Laws of the question does a server pass, of a plan that the planner makes of its set, and of another.
 -- Assumes nothing.
-use Prim.Native.Nat.{ℕ}
+use Prim.Native.Nat.{ℕ, _-_}
 use mathlib.Core.Path.{_≡_}
 use mathlib.Core.Bool.{true, false}
+use lib.ListN.{length, getD}
 use Rattle.refusals.specs.declared.Refusal.the-variants.{Ask}
 use Rattle.refusals.specs.declared.Outcome.the-variants.{Done}
 use Rattle.verdict.specs.declared.answer.Verdict.{Verdict}
 use Rattle.members.specs.Server.{verdictFor}
 use Rattle.tasks.specs.declared.set.TaskSet.{TaskSet}
+use Rattle.tasks.specs.Set.{mostTasks}
+use Rattle.loads.specs.Charge.{serverLoss}
 use Rattle.plan.specs.declared.plan.Plan.{Plan}
+use Rattle.plan.specs.declared.server.Server.{Server}
+use Rattle.plan.specs.Plan.{noServer}
 use Rattle.plancheck.specs.Makes.{makes}
-use Rattle.doespass.specs.DoesPass.{refusedPass, doesPass}
-use Rattle.planserver.specs.Named.{isServer, allowedTo, serverMembers}
+use Rattle.doespass.specs.DoesPass.{refusedPass, ownPass, doesPass}
+use Rattle.planserver.specs.Named.{isServer, allowed}
+use Rattle.planserver.specs.Recorded.{ownMembers}
+use Rattle.planserver.proofs.Judging.{own-members}
+
+-- a server by its record
+module _ (set : TaskSet) (own : Server) (R : ℕ) where
+  pub own-barred : allowed (set .header .slot) (serverLoss (set .header) (ownMembers set own)) R ≡ false → refusedPass Ask ≡ ownPass set own R
+  unfolding ownPass
+  own-barred e = rw e
+
+  pub own-there : {v : Verdict} → allowed (set .header .slot) (serverLoss (set .header) (ownMembers set own)) R ≡ true
+      → v ≡ verdictFor (set .header) (ownMembers set own) R → record { outcome = Done; verdict = v } ≡ ownPass set own R
+  unfolding ownPass
+  own-there e g = rw (e, g)
 
 -- a plan that the planner makes of its set
 module _ (set : TaskSet) (plan : Plan) (m : makes set plan ≡ true) where
@@ -19,15 +37,10 @@ module _ (set : TaskSet) (plan : Plan) (m : makes set plan ≡ true) where
   unfolding doesPass
   pass-absent q R e = rw (m, e)
 
-  pub pass-barred : (q R : ℕ) → isServer plan q ≡ true → allowedTo set q R ≡ false → refusedPass Ask ≡ doesPass set plan q R
-  unfolding doesPass
-  pass-barred q R e f = rw (m, e, f)
-
-  pub pass-there : (q R : ℕ) (v : Verdict) → isServer plan q ≡ true → allowedTo set q R ≡ true
-      → v ≡ verdictFor (set .header) (serverMembers set q) R
-      → record { outcome = Done; verdict = v } ≡ doesPass set plan q R
-  unfolding doesPass
-  pass-there q R v e f g = rw (m, e, f, g)
+  -- the question by the record of a server that is there
+  pub pass-there : length (set .tasks) ≡ mostTasks → (q R : ℕ) → isServer plan q ≡ true → ownPass set (getD (plan .server) (q - 1) noServer) R ≡ doesPass set plan q R
+  unfolding ownPass doesPass
+  pass-there full q R e = rw (m, e, own-members set full plan m q e)
 
 -- a plan that it does not make
 pub pass-unmade : (set : TaskSet) (plan : Plan) → makes set plan ≡ false → (q R : ℕ) → refusedPass Ask ≡ doesPass set plan q R

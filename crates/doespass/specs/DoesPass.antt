@@ -11,7 +11,10 @@ use Rattle.members.specs.Server.{verdictFor}
 use Rattle.tasks.specs.declared.set.TaskSet.{TaskSet}
 use Rattle.plan.specs.declared.plan.Plan.{Plan}
 use Rattle.plancheck.specs.Makes.{makes}
-use Rattle.planserver.specs.Named.{isServer, serverMembers, allowedTo}
+use Rattle.loads.specs.Charge.{serverLoss}
+use Rattle.plan.specs.declared.server.Server.{Server}
+use Rattle.planserver.specs.Named.{isServer, serverMembers, allowed, allowedTo}
+use Rattle.planserver.specs.Recorded.{ownMembers}
 use Rattle.doespass.specs.declared.PassAnswer.{PassAnswer}
 
 -- a refused question has zeros
@@ -20,6 +23,14 @@ refusedPass r = record { outcome = Refused r; verdict = Yes (record { length = 0
 
 abbrev pub passAnswer : Verdict → PassAnswer
 passAnswer verdict = record { outcome = Done; verdict = verdict }
+
+-- does a server pass with R, by its record
+unfoldable pub ownPass : TaskSet → Server → (R : ℕ) → PassAnswer
+ownPass set own R =
+    cond
+    (allowed (set .header .slot) (serverLoss (set .header) (ownMembers set own)) R)
+    (passAnswer (verdictFor (set .header) (ownMembers set own) R))
+    (refusedPass Ask)
 
 -- does server q pass with R
 unfoldable pub doesPass : TaskSet → Plan → (q R : ℕ) → PassAnswer

@@ -1,6 +1,7 @@
 // The question does a server pass with a reserve, about a set and its plan.
 // What it means stands in specs/DoesPass.antt. Before it stands the function for a plan that is checked already.
 use plan::plan::Plan;
+use plan::server::Server;
 use plancheck::makes_plan;
 use planserver::is_allowed_to;
 use planserver::is_server;
@@ -13,7 +14,8 @@ use verdict::answer::Verdict;
 ghost use mathlib.Core.Path.{_≡_};
 ghost use mathlib.Core.Bool.{true};
 ghost use Rattle.plancheck.specs.Makes.{makes};
-ghost use Rattle.doespass.specs.DoesPass.{refusedPass, doesPass};
+ghost use Rattle.planserver.specs.Recorded.{Recorded};
+ghost use Rattle.doespass.specs.DoesPass.{refusedPass, ownPass, doesPass};
 
 // A refused question holds a yes of zeros, which says nothing.
 pub struct PassAnswer {
@@ -34,6 +36,20 @@ pub fn refused_pass(refusal: Refusal) -> PassAnswer
     }
 }
 
+// Does a server pass, by its record in a plan that is checked already.
+pub fn pass_own(set: TaskSet, own: Server, reserve: u64) -> PassAnswer
+    requires { ⌜ Recorded set own ⌝ }
+    ensures { λ r. ⌜ r ≡ ownPass set own reserve ⌝ }
+{
+    if !is_allowed_to(set.header, own.cache, reserve) {
+        return refused_pass(Refusal::Ask);
+    }
+    PassAnswer {
+        outcome: Outcome::Done,
+        verdict: pass_judged(set, own, reserve),
+    }
+}
+
 // Does a server pass, by a plan that is checked already.
 pub fn pass_made(set: TaskSet, plan: Plan, server: u64, reserve: u64) -> PassAnswer
     requires { ⌜ makes set plan ≡ true ⌝ }
@@ -42,13 +58,9 @@ pub fn pass_made(set: TaskSet, plan: Plan, server: u64, reserve: u64) -> PassAns
     if !is_server(plan, server) {
         return refused_pass(Refusal::Ask);
     }
-    if !is_allowed_to(set, plan, server, reserve) {
-        return refused_pass(Refusal::Ask);
-    }
-    PassAnswer {
-        outcome: Outcome::Done,
-        verdict: pass_judged(set, plan, server, reserve),
-    }
+    let at = server as usize - 1;
+    let own = plan.server[at];
+    pass_own(set, own, reserve)
 }
 
 pub fn pass(set: TaskSet, plan: Plan, server: u64, reserve: u64) -> PassAnswer

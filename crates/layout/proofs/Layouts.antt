@@ -65,6 +65,11 @@ plan-of w r n s i servers placement first = record {
   first = first;
 }
 
+-- a plan with other servers
+abbrev pub with-servers : Plan → List Server → Plan
+with-servers plan servers =
+    plan-of (plan .whole) (plan .ring) (plan .servers) (plan .slot) (plan .idle) servers (plan .placement) (plan .first)
+
 same-plan : {w w′ r r′ n n′ i i′ : ℕ} (s : ℕ) {a a′ : List Server} {b b′ : List ℕ} {c c′ : List Stand} →
     w ≡ w′ → r ≡ r′ → n ≡ n′ → i ≡ i′ → a ≡ a′ → b ≡ b′ → c ≡ c′ →
     plan-of w r n s i a b c ≡ plan-of w′ r′ n′ s i′ a′ b′ c′

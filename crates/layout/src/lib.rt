@@ -20,7 +20,7 @@ ghost use Rattle.reserves.specs.Slotted.{SlottedFirst};
 ghost use Rattle.reserves.specs.Reserves.{processorsOf};
 ghost use Rattle.ring.specs.Who.{firstReserve};
 ghost use Rattle.layout.specs.Layout.{ringStart, serverOf, laidOut};
-ghost use Rattle.plan.specs.Plan.{zeroServer, zeroStand};
+ghost use Rattle.plan.specs.Plan.{zeroStand};
 ghost use Rattle.layout.specs.Layable.{Layable};
 
 // Where server q stands on the ring; 0 for a server that has a whole processor.
@@ -64,36 +64,6 @@ fn server_of<'a>(
     }
 }
 
-// The records of all servers.
-fn records<'a>(
-    placement: &'a [u64],
-    tasks: usize,
-    reserves: &'a [u64],
-    n: usize,
-    slot: u64,
-    cache: u64,
-) -> [Server; TaskSet::MOST_TASKS]
-    requires { ⌜ (tasks ≤ length (now placement)) × (tasks ≤ mostTasks) ⌝ }
-    requires { ⌜ SlottedFirst slot (now reserves) n × (n ≤ mostTasks) ⌝ }
-    ensures { λ r. ⌜ r ≡ padWith zeroServer (upTo (serverOf slot cache (take tasks (now (placement .entry))) (take n (now (reserves .entry)))) n) ⌝ }
-{
-    let places = [0u8; TaskSet::MOST_TASKS];
-    let none = Server {
-        count: 0,
-        places,
-        reserve: 0,
-        start: Position(0),
-        cache: 0,
-    };
-    let mut server = [none; TaskSet::MOST_TASKS];
-    let mut i: usize = 0;
-    while i < n {
-        server[i] = server_of(placement, tasks, reserves, n, slot, cache, i + 1);
-        i += 1;
-    }
-    server
-}
-
 // The first server of each processor, and the ticks of that reserve.
 fn first_reserves(
     reserves: &[u64],
@@ -114,7 +84,7 @@ fn first_reserves(
     first
 }
 
-// The plan of so many tasks, placed and sized.
+// The plan of so many tasks, placed and sized. The records of the servers are written in their place, so that the plan stands once.
 pub fn lay_out(served: Servers, tasks: usize, slot: u64, cache: u64) -> Plan
     requires { ⌜ Layable served tasks slot ⌝ }
     ensures { λ r. ⌜ r ≡ laidOut slot cache (take tasks (served .placement)) (take (served .count) (served .reserve)) ⌝ }
@@ -125,16 +95,30 @@ pub fn lay_out(served: Servers, tasks: usize, slot: u64, cache: u64) -> Plan
     let whole = whole_count(&reserve, n, slot);
     let ring = ring_processors(&reserve, n, slot);
     let idle = ring * slot - ring_ticks(&reserve, n, slot);
-    let server = records(&placement, tasks, &reserve, n, slot, cache);
     let first = first_reserves(&reserve, n, slot, (ring + whole) as usize);
-    Plan {
+    let places = [0u8; TaskSet::MOST_TASKS];
+    let start = Position(0);
+    let none = Server {
+        count: 0,
+        places,
+        reserve: 0,
+        start,
+        cache: 0,
+    };
+    let mut plan = Plan {
         whole,
         ring,
         servers: served.count,
         slot,
         idle,
-        server,
+        server: [none; TaskSet::MOST_TASKS],
         placement,
         first,
+    };
+    let mut i: usize = 0;
+    while i < n {
+        plan.server[i] = server_of(&placement, tasks, &reserve, n, slot, cache, i + 1);
+        i += 1;
     }
+    plan
 }

@@ -1,4 +1,4 @@
--- The row of all reserves, as the code finds it, is that of the definitions.
+-- A row of one number of every server, as the code finds it, is that of the definitions.
 -- Assumes nothing.
 use Prim.Native.Nat.{ℕ, zero, suc, pred, _+_, _-_, _<_}
 use mathlib.Core.Path.{_≡_, refl, sym, ap, _∙_}
@@ -14,26 +14,31 @@ use Rattle.plan.specs.declared.plan.Plan.{Plan}
 use Rattle.plan.specs.declared.server.Server.{Server}
 use Rattle.plan.specs.Plan.{noServer, reservesIn}
 
--- the reserve of the server at place k − 1
-abbrev pub reserveBefore : List Server → ℕ → ℕ
-reserveBefore servers k = getD servers (pred k) noServer .reserve
+-- a number of the server at place k − 1
+abbrev pub before : (Server → ℕ) → List Server → ℕ → ℕ
+before number servers k = number (getD servers (pred k) noServer)
 
-pub before-next : (servers : List Server) (i : ℕ) → getD servers i noServer .reserve ≡ reserveBefore servers (i + 1)
-before-next servers i = ap (λ (k : ℕ). getD servers (pred k) noServer .reserve) (sym (add-one i))
+module _ (number : Server → ℕ) (servers : List Server) where
+  pub before-next : (i : ℕ) → number (getD servers i noServer) ≡ before number servers (i + 1)
+  before-next i = ap (λ (k : ℕ). number (getD servers (pred k) noServer)) (sym (add-one i))
 
--- the reserves of all places are the row
-pub row-filled : (servers : List Server) {n : ℕ} {row : List ℕ} → length servers ≡ mostTasks → FilledWith 0 (reserveBefore servers) n row → n ≡ mostTasks →
-    row ≡ map (λ (s : Server). s .reserve) servers
-row-filled servers full w e =
-    filled-all w e ∙
-    ext-getD 0 (padded (upTo (reserveBefore servers) mostTasks)) (map (λ (s : Server). s .reserve) servers)
-    (padded-length (upTo (reserveBefore servers) mostTasks) (omega (arith, up-length (reserveBefore servers) mostTasks)) ∙ sym (length-map servers _ ∙ full))
-    (λ i h.
-    let here : i < mostTasks = omega (arith, h, padded-length (upTo (reserveBefore servers) mostTasks) (omega (arith, up-length (reserveBefore servers) mostTasks))) in
-    pad-at 0 (upTo (reserveBefore servers) mostTasks) i 0 (omega (arith, up-length (reserveBefore servers) mostTasks)) ∙
-    up-at (reserveBefore servers) mostTasks i here ∙
-    sym (before-next servers i) ∙
-    sym (List·getD-map (λ (s : Server). s .reserve) servers i noServer))
+  -- what stands in such a row at place i
+  pub row-at : (i : ℕ) → number noServer ≡ 0 → getD (map number servers) i 0 ≡ number (getD servers i noServer)
+  row-at i none = ap (getD (map number servers) i) (sym none) ∙ List·getD-map number servers i noServer
+
+  -- the number of each place, in a row
+  pub row-filled : {n : ℕ} {row : List ℕ} → number noServer ≡ 0 → length servers ≡ mostTasks → FilledWith 0 (before number servers) n row → n ≡ mostTasks →
+      row ≡ map number servers
+  row-filled none full w e =
+      filled-all w e ∙
+      ext-getD 0 (padded (upTo (before number servers) mostTasks)) (map number servers)
+      (padded-length (upTo (before number servers) mostTasks) (omega (arith, up-length (before number servers) mostTasks)) ∙ sym (length-map servers _ ∙ full))
+      (λ i h.
+      let here : i < mostTasks = omega (arith, h, padded-length (upTo (before number servers) mostTasks) (omega (arith, up-length (before number servers) mostTasks))) in
+      pad-at 0 (upTo (before number servers) mostTasks) i 0 (omega (arith, up-length (before number servers) mostTasks)) ∙
+      up-at (before number servers) mostTasks i here ∙
+      sym (before-next i) ∙
+      sym (row-at i none))
 
 -- the front of a row of something of each element
 pub take-map : {A B : Type 0} (f : A → B) (n : ℕ) (xs : List A) → take n (map f xs) ≡ map f (take n xs)

@@ -2,7 +2,11 @@
 // What they are stands in specs/Figures.antt.
 use fieldwrite::MARK;
 use framelines::figures::put_figures;
+use plan::by_server::counts;
+use plan::by_server::starts;
 use plan::plan::Plan;
+use plan::plan::reserves;
+use ring::cover::Stand;
 use tasks::set::TaskSet;
 ghost use mathlib.Core.Path.{_≡_};
 ghost use mathlib.Core.Bool.{cond};
@@ -31,11 +35,13 @@ pub fn server_values(plan: Plan) -> [u64; 4 * TaskSet::MOST_TASKS]
     let mut values = [0; 4 * TaskSet::MOST_TASKS];
     let n = plan.servers as usize;
     let slot = plan.slot;
+    let reserve = reserves(plan);
+    let start = starts(plan);
+    let count = counts(plan);
     let mut i = 0;
     while i < n {
-        let server = plan.server[i];
-        let begin = start_or_mark(server.reserve, slot, server.start.0);
-        let figures = [i as u64 + 1, server.reserve, begin, server.count as u64];
+        let begin = start_or_mark(reserve[i], slot, start[i]);
+        let figures = [i as u64 + 1, reserve[i], begin, count[i]];
         put_figures(&mut values, 4 * i, &figures);
         i += 1;
     }
@@ -60,15 +66,18 @@ pub fn placed_values(set: TaskSet, placement: &[u64]) -> [u64; 2 * TaskSet::MOST
 }
 
 // The figures of the 14 lines of the first processors.
-pub fn processor_values(plan: Plan, n: usize) -> [u64; 3 * TaskSet::MOST_PROCESSORS as usize]
+pub fn processor_values(
+    first: [Stand; TaskSet::MOST_TASKS],
+    n: usize,
+) -> [u64; 3 * TaskSet::MOST_PROCESSORS as usize]
     requires { ⌜ n ≤ mostProcessors ⌝ }
-    ensures { λ r. ⌜ r ≡ filled (3 * mostProcessors) (processorFigures (plan .first)) n ⌝ }
+    ensures { λ r. ⌜ r ≡ filled (3 * mostProcessors) (processorFigures first) n ⌝ }
 {
     let mut values = [0; 3 * TaskSet::MOST_PROCESSORS as usize];
     let mut i = 0;
     while i < n {
-        let first = plan.first[i];
-        let figures = [i as u64 + 1, first.server, first.left];
+        let stand = first[i];
+        let figures = [i as u64 + 1, stand.server, stand.left];
         put_figures(&mut values, 3 * i, &figures);
         i += 1;
     }

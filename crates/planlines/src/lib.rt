@@ -63,6 +63,7 @@ pub fn put_processors(out: &mut [u8], at: usize, plan: Plan, n: usize)
     requires { ⌜ (n ≤ mostProcessors) × (at + n * (lengthOf Frame.Processor + 1) ≤ bytes (now out)) ⌝ }
     ensures { λ r. ⌜ now (out .exit) ≡ stored (now (out .entry)) at (joined (processorLine plan) n) ⌝ }
 {
-    let values = processor_values(plan, n);
+    let first = plan.first;
+    let values = processor_values(first, n);
     put_lines(out, at, Frame::Processor, &values, n);
 }

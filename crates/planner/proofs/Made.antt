@@ -24,6 +24,7 @@ use Rattle.refusals.specs.First.{firstOf, when}
 use Rattle.taskask.specs.Ask.{askRow}
 use Rattle.taskask.proofs.Carried.{count-within, ask-count}
 use Rattle.plan.specs.declared.plan.Plan.{Plan}
+use Rattle.reserves.specs.Reserves.{processorsOf}
 use Rattle.setfigures.specs.Figures.{setFigures, figureNumbers}
 use Rattle.rows.specs.Rows.{chargedOutcome, horizonOf, Chargeable, RowsClear}
 use Rattle.layout.specs.Layout.{laidOut}
@@ -35,7 +36,7 @@ use Rattle.refusals.proofs.FirstLaws.{first-done, when-done}
 use Rattle.setfigures.proofs.FigureLaws.{figures-length, figures-back}
 use Rattle.rows.proofs.Clears.{board-slot, charged-clear, figures-members, figures-alone, slot-small, set-filed}
 use Rattle.layout.proofs.Layouts.{processors-few}
-use Rattle.planner.proofs.Served.{count-few, reserves-count, layable, laid-is}
+use Rattle.planner.proofs.Served.{count-few, reserves-count, front-reserves, layable, laid-is}
 
 module _ (set : TaskSet) (full : length (set .tasks) ≡ mostTasks) (clear : Clear set) where
   pub rows-clear : RowsClear set
@@ -97,10 +98,11 @@ module _ (set : TaskSet) (full : length (set .tasks) ≡ mostTasks) (clear : Cle
   pub filed : {numbers : List ℕ} {H : ℕ} → numbers ≡ figureNumbers set → H ≡ horizonOf set → Filed (set .header) numbers (set .count) H
   filed e h = rw (e, h) (set-filed set fits may-charge (rows-clear .horizon))
 
-  module _ {numbers : List ℕ} (e : numbers ≡ figureNumbers set) {sv : Servers} (g : sv ≡ serversOf (set .header) (loadsOf numbers (set .count))) where
-    own : sv ≡ serversOf (set .header) (setFigures set)
-    own = g ∙ ap (λ (ns : List ℕ). serversOf (set .header) (loadsOf ns (set .count))) e ∙ ap (serversOf (set .header)) (figures-back set fits)
+  -- they are the servers of the set's figures
+  pub set-served : {numbers : List ℕ} → numbers ≡ figureNumbers set → {sv : Servers} → sv ≡ serversOf (set .header) (loadsOf numbers (set .count)) → sv ≡ serversOf (set .header) (setFigures set)
+  set-served e g = g ∙ ap (λ (ns : List ℕ). serversOf (set .header) (loadsOf ns (set .count))) e ∙ ap (serversOf (set .header)) (figures-back set fits)
 
+  module _ {sv : Servers} (own : sv ≡ serversOf (set .header) (setFigures set)) where
     -- and then laid out
     pub set-layable : Layable sv (set .count) (set .header .slot)
     set-layable = layable (set .header) (setFigures set) few-figures members alone slot-some slot-below own (sym (figures-length set fits))
@@ -110,14 +112,15 @@ module _ (set : TaskSet) (full : length (set .tasks) ≡ mostTasks) (clear : Cle
     unfolding planMade planWith reservesWith setPlacement
     set-laid = laid-is (set .header) (setFigures set) few-figures members alone slot-some slot-below own (sym (figures-length set fits)) (set .header .cpmdo)
 
+    -- their processors are those that the set needs
+    pub set-needs : processorsOf (set .header .slot) (take (sv .count) (sv .reserve)) ≡ needed set
+    unfolding needed setReserves reservesWith setPlacement
+    set-needs = ap (processorsOf (set .header .slot)) (front-reserves (set .header) (setFigures set) few-figures members alone slot-some slot-below own (sym (figures-length set fits)))
+
 -- the processors of the set's plan are those that it needs
 pub made-needs : (set : TaskSet) → planMade set .ring + planMade set .whole ≡ needed set
 unfolding planMade planWith laidOut setReserves needed
 made-needs set = refl
-
--- the same of any plan that is the set's
-pub made-sum : (set : TaskSet) {p : Plan} → p ≡ planMade set → p .ring + p .whole ≡ needed set
-made-sum set e = ap (λ (q : Plan). q .ring + q .whole) e ∙ made-needs set
 
 -- row 10 by the test of the sum
 pub full-holds : (set : TaskSet) {n : ℕ} → n ≡ needed set → set .header .processors < n → fullRow set ≡ true

@@ -72,7 +72,8 @@ module _ (h : Header) (figures : List Load) (few : length figures ≤ mostTasks)
     unfolding sized
     placement-is = ap (λ (s : Servers). s .placement) g
 
-    front-reserves : take (sv .count) (sv .reserve) ≡ reserves
+    -- its reserves stand at the front
+    pub front-reserves : take (sv .count) (sv .reserve) ≡ reserves
     front-reserves =
         ap (λ (k : ℕ). take k (sv .reserve)) count-is ∙ ap (take (serversIn placement)) reserve-is
         ∙ padded-take reserves (serversIn placement) reserves-count

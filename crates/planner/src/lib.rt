@@ -4,55 +4,77 @@ use layout::lay_out;
 use plan::plan::Plan;
 use refusals::Outcome;
 use refusals::Refusal;
+use reserves::sums::ring_processors;
+use reserves::sums::whole_count;
 use rows::rows::Rows;
 use rows::rows::charged;
 use setfigures::figures;
+use sizing::Servers;
 use tasks::set::TaskSet;
 ghost use mathlib.Core.Path.{_≡_};
+ghost use lib.ListN.{take};
+ghost use Rattle.reserves.specs.Slotted.{SlottedFirst};
+ghost use Rattle.reserves.specs.Reserves.{processorsOf};
+ghost use Rattle.sizing.specs.Reserve.{serversOf};
+ghost use Rattle.setfigures.specs.Figures.{setFigures};
 ghost use Rattle.rows.specs.Rows.{horizonOf};
-ghost use Rattle.layout.specs.Made.{planMade};
 ghost use Rattle.plan.specs.Plan.{zeroPlan};
 ghost use Rattle.planner.specs.Planner.{Clear, answer, planOf};
 
+// The plan stands first: what is compiled then holds it once (docs/SPEED.md).
 pub struct PlanAnswer {
-    pub outcome: Outcome,
     pub plan: Plan,
+    pub outcome: Outcome,
 }
 
-// The plan of a set for which row 11 and rows 5 to 9 are clear, by the horizon that row 9 found.
-fn lay(set: TaskSet, horizon: u64) -> Plan
+// The servers of a set for which row 11 and rows 5 to 9 are clear, by the horizon that row 9 found.
+fn serve(set: TaskSet, horizon: u64) -> Servers
     requires { ⌜ Clear set × (horizon ≡ horizonOf set) ⌝ }
-    ensures { λ r. ⌜ r ≡ planMade set ⌝ }
+    ensures { λ r. ⌜ r ≡ serversOf (set .header) (setFigures set) ⌝ }
 {
     let header = set.header;
     let n = set.count;
     let numbers = figures(set);
-    let served = sizing::serve(header, &numbers, n, horizon);
-    lay_out(served, n, header.slot as u64, header.cpmdo as u64)
+    sizing::serve(header, &numbers, n, horizon)
+}
+
+// The processors that servers need: those of the ring, and one for each that has its own.
+fn processors_of(served: Servers, slot: u64) -> u64
+    requires { ⌜ SlottedFirst slot (served .reserve) (served .count) ⌝ }
+    ensures { λ r. ⌜ r ≡ processorsOf slot (take (served .count) (served .reserve)) ⌝ }
+{
+    let n = served.count as usize;
+    let reserve = served.reserve;
+    let ring = ring_processors(&reserve, n, slot);
+    let whole = whole_count(&reserve, n, slot);
+    ring + whole
 }
 
 fn refused(refusal: Refusal) -> PlanAnswer
     ensures { λ r. ⌜ r ≡ answer (Outcome.Refused refusal) zeroPlan ⌝ }
 {
     PlanAnswer {
-        outcome: Outcome::Refused(refusal),
         plan: Plan::zero(),
+        outcome: Outcome::Refused(refusal),
     }
 }
 
-// The plan of such a set, or row 10.
+// The plan of such a set, or row 10. No plan is laid where the board is full.
 fn planned(set: TaskSet, horizon: u64) -> PlanAnswer
     requires { ⌜ Clear set × (horizon ≡ horizonOf set) ⌝ }
     ensures { λ r. ⌜ r ≡ planOf set ⌝ }
 {
-    let plan = lay(set, horizon);
-    let processors = plan.ring + plan.whole;
-    if (set.header.processors as u64) < processors {
+    let header = set.header;
+    let slot = header.slot as u64;
+    let served = serve(set, horizon);
+    let processors = processors_of(served, slot);
+    if (header.processors as u64) < processors {
         return refused(Refusal::Full(processors as u8));
     }
+    let plan = lay_out(served, set.count, slot, header.cpmdo as u64);
     PlanAnswer {
-        outcome: Outcome::Done,
         plan,
+        outcome: Outcome::Done,
     }
 }
 

@@ -1,7 +1,7 @@
--- The record of one server of a checked plan: its places are those of the server's members, and the server may be judged by it.
+-- The record of one server of a checked plan: the members at its places are the server's, and the server may be judged by it.
 -- Assumes nothing.
 use Prim.Native.Nat.{ℕ, _+_, _-_, _^_, _≤_, _<_}
-use mathlib.Core.Path.{_≡_, refl, sym, ap, ap₂, _∙_}
+use mathlib.Core.Path.{_≡_, refl, sym, ap, _∙_}
 use mathlib.Core.Bool.{Bool, true, false, _&&_, _||_}
 use mathlib.Core.Logic.{inl, inr}
 use mathlib.Core.List.{List}
@@ -15,20 +15,16 @@ use Rattle.laws.proofs.Tests.{and-left, and-right}
 use Rattle.charging.specs.Charging.{entryLoss}
 use Rattle.demand.specs.Load.{Load}
 use Rattle.demand.specs.Supply.{Allowed}
-use Rattle.verdict.specs.declared.answer.Verdict.{Verdict}
 use Rattle.places.specs.Places.{placesIn, chosen}
 use Rattle.places.proofs.PaddedLaws.{padded-take}
 use Rattle.places.proofs.PlacesLaws.{places-most, places-below}
 use Rattle.loads.specs.Charge.{cacheOf, serverLoss, membersAt}
-use Rattle.members.specs.Server.{verdictFor}
 use Rattle.members.proofs.FiledLaws.{Below, placed-chosen}
-use Rattle.served.specs.Served.{Served}
-use Rattle.served.proofs.ServedLaws.{filed-served}
+use Rattle.served.proofs.ServedLaws.{filed-served, small-cache}
 use Rattle.tasks.specs.declared.set.TaskSet.{TaskSet}
 use Rattle.plan.specs.declared.plan.Plan.{Plan}
 use Rattle.plan.specs.declared.server.Server.{Server}
 use Rattle.setfigures.specs.Figures.{figureNumbers}
-use Rattle.rows.specs.Rows.{horizonOf}
 use Rattle.setfigures.proofs.FigureLaws.{figures-back}
 use Rattle.rows.proofs.Clears.{set-overheads}
 use Rattle.plan.specs.Plan.{noServer}
@@ -40,7 +36,8 @@ use Rattle.planner.proofs.Made.{count-most, fits, set-few, filed}
 use Rattle.planagree.specs.Agrees.{used, usedServers}
 use Rattle.plancheck.specs.Makes.{makes}
 use Rattle.plancheck.proofs.Checked.{of-set, same-made, placement-count}
-use Rattle.planserver.specs.Named.{isServer, allowed, allowedTo, serverMembers}
+use Rattle.planserver.specs.Named.{isServer, allowed, serverMembers}
+use Rattle.planserver.specs.Recorded.{ownMembers, Recorded}
 
 -- the test of a reserve says that it is allowed
 module _ (S L R : ℕ) where
@@ -122,49 +119,40 @@ module _ (set : TaskSet) (full : length (set .tasks) ≡ mostTasks) (plan : Plan
   cache-is : own .cache ≡ set .header .cpmdo
   cache-is = ap (λ (s : Server). s .cache) same
 
-  -- which has four digits at most
-  pub cache-small : own .cache < 2 ^ 32
-  cache-small = omega (arith, cache-is, set-overheads set (clear .carried) .cache)
-
   -- and is that of any members
   own-cache : (ms : List Load) → own .cache ≡ cacheOf (set .header) ms
   unfolding cacheOf
   own-cache ms = cache-is
 
-  -- the entry loss by it is the server's
-  pub own-loss : {lost : ℕ} → lost ≡ entryLoss (set .header .resd) (own .cache) → lost ≡ serverLoss (set .header) (serverMembers set q)
-  unfolding serverLoss
-  own-loss h = h ∙ ap (entryLoss (set .header .resd)) (own-cache (serverMembers set q))
+  -- the members that stand at its places are the server's
+  pub own-members : ownMembers set own ≡ serverMembers set q
+  own-members =
+      ap (membersAt (figureNumbers set)) places-are
+      ∙ placed-chosen (figureNumbers set) (set .count) (setPlacement set) q (omega (arith, placement-count set full plan clear))
+      ∙ ap (λ (ls : List Load). chosen ls (setPlacement set) q) (figures-back set (fits set full clear))
 
-  module _ {numbers : List ℕ} (f : numbers ≡ figureNumbers set) where
-    -- the members that stand at its places
-    abbrev found : List Load
-    found = membersAt numbers (take (own .count) (own .places))
-
-    -- are the server's
-    own-members : found ≡ serverMembers set q
-    own-members =
-        ap₂ membersAt f places-are
-        ∙ placed-chosen (figureNumbers set) (set .count) (setPlacement set) q (omega (arith, placement-count set full plan clear))
-        ∙ ap (λ (ls : List Load). chosen ls (setPlacement set) q) (figures-back set (fits set full clear))
-
-    -- they may be judged
-    pub own-served : {H : ℕ} → H ≡ horizonOf set → Served (set .header) (own .cache) numbers (own .places) (own .count) H
-    own-served h =
-        filed-served (filed set full clear f h) (own .places) (own .count) (own .cache)
+  -- they may be judged
+  pub own-recorded : Recorded set own
+  own-recorded = record {
+    clear = clear;
+    served =
+        filed-served (filed set full clear refl refl) (own .places) (own .count) (own .cache)
         (omega (arith, ap length places-are, own-count, length-take (own .count) (own .places)))
         (omega (arith, own-count, places-most (setPlacement set) q (omega (arith, placement-count set full plan clear, count-most set full clear))))
         (rw places-are below)
-        (own-cache found)
-      where
-        below : Below (set .count) own-places
-        below i l = omega (arith, places-below (setPlacement set) q i l, placement-count set full plan clear)
+        (own-cache (ownMembers set own));
+  }
+    where
+      below : Below (set .count) own-places
+      below i l = omega (arith, places-below (setPlacement set) q i l, placement-count set full plan clear)
 
-    -- with an allowed reserve
-    pub own-allowed : {R : ℕ} → allowedTo set q R ≡ true →
-        Allowed (set .header .slot) (serverLoss (set .header) found) R
-    own-allowed {R} a = rw own-members (allowed-is (set .header .slot) (serverLoss (set .header) (serverMembers set q)) R a)
+-- of a server that may be judged
+module _ {set : TaskSet} {own : Server} (of : Recorded set own) where
+  -- the cache cost has four digits at most
+  pub cache-small : own .cache < 2 ^ 32
+  cache-small = small-cache (of .served) (set-overheads set (of .clear .carried))
 
-    -- and the verdict on them is that on the server
-    pub own-verdict : (R : ℕ) {v : Verdict} → v ≡ verdictFor (set .header) found R → v ≡ verdictFor (set .header) (serverMembers set q) R
-    own-verdict R v = v ∙ ap (λ (ms : List Load). verdictFor (set .header) ms R) own-members
+  -- the entry loss by it is that of the members
+  pub own-loss : entryLoss (set .header .resd) (own .cache) ≡ serverLoss (set .header) (ownMembers set own)
+  unfolding serverLoss
+  own-loss = ap (entryLoss (set .header .resd)) (of .served .cost)

@@ -1,13 +1,15 @@
 // A task file taken to its set and its plan, or to its refusal: what the tool prints and what both questions are asked of.
 // What it means stands in specs/File.antt. A set is planned once.
 use plan::plan::Plan;
+use planner::PlanAnswer;
 use planner::make;
 use refusals::Outcome;
 use refusals::Refusal;
+use taskread::read::ReadAnswer;
 use taskread::read::read;
 use tasks::set::TaskSet;
 ghost use mathlib.Core.Path.{_≡_};
-ghost use Rattle.taskplan.specs.File.{refusedFile, plannedSet, filedOf};
+ghost use Rattle.taskplan.specs.File.{refusedPlan, plannedRead, filedOf};
 
 pub struct FileAnswer {
     pub outcome: Outcome,
@@ -15,30 +17,23 @@ pub struct FileAnswer {
     pub plan: Plan,
 }
 
-fn refused(refusal: Refusal) -> FileAnswer
-    ensures { λ r. ⌜ r ≡ refusedFile refusal ⌝ }
+fn refused(refusal: Refusal) -> PlanAnswer
+    ensures { λ r. ⌜ r ≡ refusedPlan refusal ⌝ }
 {
-    FileAnswer {
-        outcome: Outcome::Refused(refusal),
-        set: TaskSet::zero(),
+    PlanAnswer {
         plan: Plan::zero(),
+        outcome: Outcome::Refused(refusal),
     }
 }
 
-// A set that was read, with its plan.
-fn planned(set: TaskSet) -> FileAnswer
-    ensures { λ r. ⌜ r ≡ plannedSet set ⌝ }
+// The plan of the set that was read.
+fn planned(answer: ReadAnswer) -> PlanAnswer
+    ensures { λ r. ⌜ r ≡ plannedRead answer ⌝ }
 {
-    let made = make(set);
-    let outcome = made.outcome;
-    let plan = made.plan;
+    let outcome = answer.outcome;
     match outcome {
-        Outcome::Done => FileAnswer {
-            outcome: Outcome::Done,
-            set,
-            plan,
-        },
-        Outcome::Refused(row) => refused(row),
+        Outcome::Done => make(answer.set),
+        Outcome::Refused(refusal) => refused(refusal),
     }
 }
 
@@ -46,10 +41,12 @@ pub fn filed(text: &[u8]) -> FileAnswer
     ensures { λ r. ⌜ r ≡ filedOf (now (text .entry)) ⌝ }
 {
     let answer = read(text);
-    let outcome = answer.outcome;
-    let set = answer.set;
-    match outcome {
-        Outcome::Done => planned(set),
-        Outcome::Refused(refusal) => refused(refusal),
+    let made = planned(answer);
+    let outcome = made.outcome;
+    let plan = made.plan;
+    let mut set = answer.set;
+    if let Outcome::Refused(_) = outcome {
+        set = TaskSet::zero();
     }
+    FileAnswer { outcome, set, plan }
 }

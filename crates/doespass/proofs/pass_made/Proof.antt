@@ -1,55 +1,65 @@
--- A server that is there and a reserve that is allowed are judged; others are refused.
+-- A server that is there is judged by its record; another is refused.
 -- Assumes nothing.
 use borrow.Author.Needs.{needs}
 use borrow.Author.Tests.{not-true, not-false}
+use Prim.Native.Nat.{_≤_}
+use native.Mathlib.Omega.{arith}
 use mathlib.Core.Path.{_≡_, sym, _∙_}
-use mathlib.Core.Bool.{true, false, not}
-use Rattle.planserver.specs.Named.{isServer, allowedTo}
-use Rattle.doespass.proofs.PassLaws.{pass-absent, pass-barred, pass-there}
+use mathlib.Core.Bool.{true}
+use lib.ListN.{length, length-map}
+use Rattle.tasks.specs.Set.{mostTasks}
+use Rattle.planserver.specs.Named.{isServer}
+use Rattle.planserver.proofs.Judging.{server-within, server-below, own-recorded}
+use Rattle.doespass.proofs.PassLaws.{pass-absent, pass-there}
 use Rattle.doespass.proofs.pass_made.Statement.{statement}
 use Rattle.doespass.proofs.pass_made.Tie as tie
-
--- once the reserve is tested
-module _ (c : tie.After-is-allowed-to) where
-  abbrev start : tie.Start
-  start = c .before .before .before
-
-  -- the server is there
-  there : isServer (start .args .plan) (start .args .server) ≡ true
-  there = sym (c .before .before .is-server .ensures) ∙ not-false _ (c .before .if1 .left)
-
-  -- the reserve is allowed by the server's entry loss, or not
-  barred : not (c .is-allowed-to .result) ≡ true → allowedTo (start .args .set) (start .args .server) (start .args .reserve) ≡ false
-  barred e = sym (c .is-allowed-to .ensures) ∙ not-true _ e
-
-  admitted : not (c .is-allowed-to .result) ≡ false → allowedTo (start .args .set) (start .args .server) (start .args .reserve) ≡ true
-  admitted e = sym (c .is-allowed-to .ensures) ∙ not-false _ e
 
 returns : tie.Need-returns
 returns c =
     let s = c .before .before .before in
     let a = s .args in
-    c .refused-pass .ensures ∙ pass-absent (a .set) (a .plan) (s .pre) (a .server) (a .reserve) (sym (c .before .before .is-server .ensures) ∙ not-true _ (c .before .if1 .taken))
+    c .refused-pass .ensures ∙ pass-absent (a .set) (a .t2) (s .pre) (a .server) (a .reserve) (sym (c .before .before .is-server .ensures) ∙ not-true _ (c .before .if1 .taken))
 
-is-allowed-to-requires : tie.Need-is-allowed-to-requires
-is-allowed-to-requires c κs = (c .before .before .pre, sym (c .before .is-server .ensures) ∙ not-false _ (c .if1 .left))
+-- where the server is there
+module _ (c : tie.Else1) where
+  abbrev start : tie.Start
+  start = c .before .before
+
+  there : isServer (start .args .t2) (start .args .server) ≡ true
+  there = sym (c .before .is-server .ensures) ∙ not-false _ (c .if1 .left)
+
+  -- a set's tasks have their places
+  full : length (start .args .set .tasks) ≡ mostTasks
+  full = sym (length-map (start .args .set .tasks) _) ∙ start .good .0 .1 .1 .1 .1 .0 .1 .0 .1
+
+  -- its number is from 1 on
+  some : 1 ≤ start .args .server
+  some = server-within (start .args .t2) (start .args .server) there .0
+
+  -- to their limit
+  below : start .args .server ≤ mostTasks
+  below = server-below (start .args .set) full (start .args .t2) (start .pre) (start .args .server) there
+
+sub-at : tie.Need-sub-at
+sub-at c = some c
+
+mul-own : tie.Need-mul-own
+mul-own c = omega (arith, some c, below c)
+
+element-copy-out-own : tie.Need-element-copy-out-own
+element-copy-out-own c = omega (arith, some c, below c)
+
+pass-own-requires : tie.Need-pass-own-requires
+pass-own-requires c κs =
+    let e = c .before in
+    let a = start e .args in
+    own-recorded (a .set) (full e) (a .t2) (start e .pre) (a .server) (there e)
 
 returns-2 : tie.Need-returns-2
 returns-2 c =
-    let at = c .before .before in
-    let a = start at .args in
-    c .refused-pass2 .ensures ∙ pass-barred (a .set) (a .plan) (start at .pre) (a .server) (a .reserve) (there at) (barred at (c .before .if2 .taken))
-
-pass-judged-requires : tie.Need-pass-judged-requires
-pass-judged-requires c κs =
-    let at = c .before in
-    ((start at .pre, there at), admitted at (c .if2 .left))
-
-returns-3 : tie.Need-returns-3
-returns-3 c =
-    let at = c .before .before in
-    let a = start at .args in
-    pass-there (a .set) (a .plan) (start at .pre) (a .server) (a .reserve) (c .pass-judged .result) (there at) (admitted at (c .before .if2 .left)) (c .pass-judged .ensures)
+    let e = c .before .before in
+    let a = start e .args in
+    c .pass-own .ensures ∙ pass-there (a .set) (a .t2) (start e .pre) (full e) (a .server) (a .reserve) (there e)
 
 pub pass-made-spec : {M : Type 1} → statement M
 pass-made-spec =
@@ -58,8 +68,8 @@ pass-made-spec =
     (λ c κs. search needs)
     (λ c κs. search needs)
     returns
-    is-allowed-to-requires
-    (λ c κs. search needs)
-    returns-2
-    pass-judged-requires
-    returns-3)
+    sub-at
+    mul-own
+    element-copy-out-own
+    pass-own-requires
+    returns-2)

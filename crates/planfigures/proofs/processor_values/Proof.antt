@@ -13,16 +13,16 @@ use Rattle.planfigures.proofs.processor_values.Statement.{statement}
 use Rattle.planfigures.proofs.processor_values.Tie as tie
 
 abbrev Inv-loop : tie.InvT-loop
-Inv-loop n plan values₀ i₀ values i = Filled (processorFigures (plan .first)) (3 * mostProcessors) n values i
+Inv-loop n first values₀ i₀ values i = Filled (processorFigures first) (3 * mostProcessors) n values i
 
 abbrev μ-loop : tie.MeasureT-loop
-μ-loop n plan values₀ i₀ values i = n - i
+μ-loop n first values₀ i₀ values i = n - i
 
 loop-holds : tie.Need-loop-holds Inv-loop μ-loop
 loop-holds c = filled-none _ _ _
 
-element-copy-out-first : tie.Need-element-copy-out-first Inv-loop μ-loop
-element-copy-out-first c = omega arith
+array-copy-out-stand : tie.Need-array-copy-out-stand Inv-loop μ-loop
+array-copy-out-stand c = omega arith
 
 add-t14 : tie.Need-add-t14 Inv-loop μ-loop
 add-t14 c = omega arith
@@ -43,13 +43,13 @@ loop-again : tie.Need-loop-again Inv-loop μ-loop
 loop-again c =
     let turn = c .before .before .before .before .before in
     let a = turn .before .before .args in
-    filled-next (processorFigures (a .t1 .first)) 3 (processor-each (a .t1 .first)) (omega arith) (turn .before .loop .inv) (turn .loop-test .taken)
-    (c .before .put-figures .ensures ∙ ap (stored (turn .before .loop .values) (3 * turn .before .loop .i)) (processor-at (a .t1 .first) (turn .before .loop .i))) (c .before .put-figures .kept .0)
+    filled-next (processorFigures (a .t1)) 3 (processor-each (a .t1)) (omega arith) (turn .before .loop .inv) (turn .loop-test .taken)
+    (c .before .put-figures .ensures ∙ ap (stored (turn .before .loop .values) (3 * turn .before .loop .i)) (processor-at (a .t1) (turn .before .loop .i))) (c .before .put-figures .kept .0)
 
 returns : tie.Need-returns Inv-loop μ-loop
 returns c =
     let a = c .before .before .args in
-    filled-all (processorFigures (a .t1 .first)) 3 (processor-each (a .t1 .first)) (omega arith) (c .before .loop .inv) (c .loop-test .left)
+    filled-all (processorFigures (a .t1)) 3 (processor-each (a .t1)) (omega arith) (c .before .loop .inv) (c .loop-test .left)
 
 pub processor-values-spec : {M : Type 1} → statement M
 processor-values-spec =
@@ -59,7 +59,7 @@ processor-values-spec =
     μ-loop
     loop-holds
     (λ c. search needs)
-    element-copy-out-first
+    array-copy-out-stand
     add-t14
     (λ c. search needs)
     mul-put-figures

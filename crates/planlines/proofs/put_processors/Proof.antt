@@ -21,14 +21,14 @@ use Rattle.planlines.proofs.put_processors.Tie as tie
 put-lines-requires : tie.Need-put-lines-requires
 unfolding widthsOf
 put-lines-requires c κs =
-    let s = c .before .before .before .before in
+    let s = c .before .before .before .before .before in
     let a = s .args in
     (omega (arith, s .pre .0, ap length (c .before .before .processor-values .ensures), filled-length (processorFigures (a .plan .first)) 3 (processor-each (a .plan .first)) (3 * mostProcessors) (a .n) (omega (arith, s .pre .0))), s .pre .1)
 
 returns : tie.Need-returns
 unfolding widthsOf processorLine
 returns c =
-    let a = c .before .before .before .before .before .before .before .args in
+    let a = c .before .before .before .before .before .before .before .before .args in
     c .before .before .put-lines .ensures ∙ ap (stored (a .out .now) (a .at))
     (ap (λ (v : List ℕ). linesOf Frame.Processor v (a .n)) (c .before .before .before .before .before .processor-values .ensures) ∙ lines-filled Frame.Processor (processorFigures (a .plan .first)) (processor-each (a .plan .first)) (3 * mostProcessors) (a .n))
 

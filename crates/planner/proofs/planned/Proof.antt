@@ -1,13 +1,13 @@
--- `planned` meets its contract: the plan is laid, and row 10 is tried by its processors.
+-- `planned` meets its contract: row 10 is tried by the processors that the servers need, and then the plan is laid.
 -- Assumes nothing.
-use Prim.Native.Nat.{_+_, _≤_, _<_}
+use Prim.Native.Nat.{_≤_, _<_}
 use mathlib.Core.Path.{_≡_, sym, _∙_}
 use native.Mathlib.Omega.{arith}
 use borrow.Author.Needs.{needs}
 use lib.ListN.{length, length-map}
 use Rattle.tasks.specs.Set.{mostTasks}
 use Rattle.planner.specs.Planner.{needed}
-use Rattle.planner.proofs.Made.{needed-few, made-sum, full-holds, full-clear, plan-full, plan-done}
+use Rattle.planner.proofs.Made.{needed-few, set-layable, set-laid, set-needs, full-holds, full-clear, plan-full, plan-done}
 use Rattle.planner.proofs.planned.Statement.{statement}
 use Rattle.planner.proofs.planned.Tie as tie
 
@@ -15,33 +15,60 @@ use Rattle.planner.proofs.planned.Tie as tie
 full : (c : tie.Start) → length (c .args .set .tasks) ≡ mostTasks
 full c = sym (length-map (c .args .set .tasks) _) ∙ c .good .0 .1 .1 .1 .1 .0 .1 .0 .1
 
--- the plan's processors are those that the set needs, and few
-sum : (c : tie.After-lay) → c .lay .result .ring + c .lay .result .whole ≡ needed (c .before .args .set)
-sum c = made-sum (c .before .args .set) (c .lay .ensures)
+processors-of-requires : tie.Need-processors-of-requires
+processors-of-requires c κs =
+    let s = c .before .before .before in
+    set-layable (s .args .set) (full s) (s .pre .0) (c .serve .ensures) .laid
 
-few : (c : tie.After-lay) → needed (c .before .args .set) ≤ mostTasks
-few c = needed-few (c .before .args .set) (full (c .before)) (c .before .pre .0)
+-- once the processors are known
+module _ (c : tie.After-processors-of) where
+  abbrev start : tie.Start
+  start = c .before .before .before .before
 
-add-processors : tie.Need-add-processors
-add-processors c = omega (arith, sum (c .before), few (c .before))
+  -- they are those that the set needs
+  sum : c .processors-of .result ≡ needed (start .args .set)
+  sum = c .processors-of .ensures ∙ set-needs (start .args .set) (full start) (start .pre .0) (c .before .serve .ensures)
 
-cast-t7 : tie.Need-cast-t7
-cast-t7 c = omega (arith, sum (c .before .before .before), few (c .before .before .before))
+  -- and few
+  few : needed (start .args .set) ≤ mostTasks
+  few = needed-few (start .args .set) (full start) (start .pre .0)
+
+cast-t10 : tie.Need-cast-t10
+cast-t10 c = let at = c .before .before in omega (arith, sum at, few at)
 
 returns : tie.Need-returns
 returns c =
-    let laid = c .before .before .before .before in
-    let s = laid .before in
-    let over : s .args .set .header .processors < laid .lay .result .ring + laid .lay .result .whole = omega (arith, c .before .if1 .taken) in
-    c .refused .ensures ∙ plan-full (s .args .set) (s .pre .0) (full-holds (s .args .set) (sum laid) over) (sum laid)
+    let at = c .before .before .before in
+    let s = start at in
+    let over : s .args .set .header .processors < at .processors-of .result = omega (arith, c .before .if1 .taken) in
+    c .refused .ensures ∙ plan-full (s .args .set) (s .pre .0) (full-holds (s .args .set) (sum at) over) (sum at)
+
+lay-out-requires : tie.Need-lay-out-requires
+lay-out-requires c κs =
+    let at = c .before .before .before in
+    let s = start at in
+    set-layable (s .args .set) (full s) (s .pre .0) (at .before .serve .ensures)
 
 returns-2 : tie.Need-returns-2
 returns-2 c =
-    let laid = c .before .before .before in
-    let s = laid .before in
-    let within : laid .lay .result .ring + laid .lay .result .whole ≤ s .args .set .header .processors = omega (arith, c .if1 .left) in
-    plan-done (s .args .set) (s .pre .0) (full-clear (s .args .set) (sum laid) within) (laid .lay .ensures)
+    let left = c .before .before in
+    let at = left .before .before in
+    let s = start at in
+    let within : at .processors-of .result ≤ s .args .set .header .processors = omega (arith, left .if1 .left) in
+    plan-done (s .args .set) (s .pre .0) (full-clear (s .args .set) (sum at) within)
+    (c .lay-out .ensures ∙ set-laid (s .args .set) (full s) (s .pre .0) (at .before .serve .ensures))
 
 pub planned-spec : {M : Type 1} → statement M
 planned-spec =
-    tie.close (tie.spec (λ c κs. search needs) add-processors (λ c. search needs) cast-t7 (λ c κs. search needs) returns returns-2)
+    tie.close
+    (tie.spec
+    (λ c. search needs)
+    (λ c κs. search needs)
+    processors-of-requires
+    (λ c. search needs)
+    cast-t10
+    (λ c κs. search needs)
+    returns
+    (λ c. search needs)
+    lay-out-requires
+    returns-2)
