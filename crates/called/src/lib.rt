@@ -11,7 +11,7 @@ use refusals::Outcome;
 use ring::clock::Tick;
 use told::code;
 use told::numbers_of;
-use told::put_numbers;
+use told::tell;
 use whoruns::who;
 ghost use mathlib.Core.Path.{_≡_};
 ghost use Rattle.told.specs.Told.{statusOf, leavesNumbers};
@@ -58,10 +58,7 @@ pub extern "C" fn handed_who<'a>(
     let who = who(set_from(set), plan_from(plan), processor, Tick(tick));
     let numbers = [who.server, who.left];
     let outcome = who.outcome;
-    match outcome {
-        Outcome::Done => put_numbers(answer, &numbers),
-        Outcome::Refused(refusal) => code(refusal),
-    }
+    tell(answer, &numbers, outcome)
 }
 
 // Does a server pass with a reserve.
@@ -80,8 +77,5 @@ pub extern "C" fn handed_pass<'a>(
     let verdict = passed.verdict;
     let numbers = numbers_of(verdict);
     let outcome = passed.outcome;
-    match outcome {
-        Outcome::Done => put_numbers(answer, &numbers),
-        Outcome::Refused(refusal) => code(refusal),
-    }
+    tell(answer, &numbers, outcome)
 }

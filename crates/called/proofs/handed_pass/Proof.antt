@@ -1,27 +1,15 @@
--- `called::handed_pass` meets its contract: the verdict as numbers, or the question's refusal. Assumes nothing.
-use Prim.Native.Nat.{ℕ}
-use mathlib.Core.Path.{_≡_, _∙_, ap₂, subst}
-use mathlib.Core.List.{List}
+-- `called::handed_pass` meets its contract: the question's verdict told in numbers. Assumes nothing.
+use mathlib.Core.Path.{_≡_, refl, _∙_, ap₂}
 use borrow.Author.Needs.{needs}
-use Rattle.refusals.specs.declared.Outcome.{Outcome}
 use Rattle.tasks.specs.declared.set.TaskSet.{TaskSet}
 use Rattle.plan.specs.declared.plan.Plan.{Plan}
 use Rattle.doespass.specs.declared.PassAnswer.{PassAnswer}
 use Rattle.doespass.specs.DoesPass.{doesPass}
 use Rattle.verdict.specs.Numbers.{verdictNumbers}
-use Rattle.told.specs.Told.{statusOf, leavesNumbers}
-use Rattle.told.proofs.ToldLaws.{Told, told-by, told-refused}
+use Rattle.told.proofs.ToldLaws.{told-by, told-numbers}
 use Rattle.called.specs.Called.{passHanded, passNumbers, passTold}
 use Rattle.called.proofs.handed_pass.Statement.{statement}
 use Rattle.called.proofs.handed_pass.Tie as tie
-
--- the numbers of the question's verdict, told with an outcome
-told : (answer set plan : List ℕ) (q R : ℕ) {p : PassAnswer} {o : Outcome} {numbers : List ℕ} {status : ℕ} {left : List ℕ} → p ≡ passHanded set plan q R → p .outcome ≡ o
-    → numbers ≡ verdictNumbers (p .verdict) → Told o numbers answer status left
-    → (status ≡ statusOf (passTold set plan q R answer)) × (left ≡ leavesNumbers (passTold set plan q R answer) (passNumbers set plan q R) answer)
-unfolding passTold passNumbers
-told answer set plan q R {o = o} {status = status} {left = left} e f g t =
-    told-by (λ (p : PassAnswer). p .outcome) (λ (p : PassAnswer). verdictNumbers (p .verdict)) answer e f (subst (λ (ns : List ℕ). Told o ns answer status left) g t)
 
 -- the question is asked of the set and the plan that the numbers give
 asked : (c : tie.After-pass) →
@@ -32,16 +20,12 @@ asked c =
     c .pass .ensures ∙ ap₂ (λ (s : TaskSet) (p : Plan). doesPass s p (a .server) (a .reserve)) (c .before .before .set-from .ensures) (c .before .plan-from .ensures)
 
 returns : tie.Need-returns
+unfolding passTold passNumbers
 returns c =
-    let numbers = c .before .before .before .before .before .before .before in
-    let a = numbers .before .before .before .before .before .before .before .args in
-    told (a .answer .now) (a .set .now) (a .plan .now) (a .server) (a .reserve) (asked (numbers .before)) (c .before .before .before .before .before .enum-told .given .1) (numbers .numbers-of .ensures) (c .before .before .put-numbers .ensures)
-
-returns-2 : tie.Need-returns-2
-returns-2 c =
-    let numbers = c .before .before .before .before in
-    let a = numbers .before .before .before .before .before .before .before .args in
-    told (a .answer .now) (a .set .now) (a .plan .now) (a .server) (a .reserve) (asked (numbers .before)) (c .before .before .outcome .given .1) (numbers .numbers-of .ensures) (told-refused _ (a .answer .now) _ (c .code .ensures))
+    let numbers = c .before .before .before .before .before in
+    let p = numbers .before in
+    told-by (λ (p : PassAnswer). p .outcome) (λ (p : PassAnswer). verdictNumbers (p .verdict)) _ (asked p) refl
+    (told-numbers (p .pass .result .outcome) _ (numbers .numbers-of .ensures) (c .before .before .tell .ensures))
 
 pub handed-pass-spec : {M : Type 1} → statement M
 handed-pass-spec =
@@ -52,10 +36,6 @@ handed-pass-spec =
     (λ c κs. search needs)
     (λ c κs. search needs)
     (λ c. search needs)
-    (λ c. search needs)
     (λ c κs. search needs)
     (λ c. search needs)
-    (λ c κs. search needs)
-    (λ c. search needs)
-    returns
-    returns-2)
+    returns)
