@@ -1,9 +1,9 @@
 -- Laws of the question does a server pass, of a plan that the planner makes of its set, and of another.
 -- Assumes nothing.
-use Prim.Native.Nat.{ℕ, _-_}
+use Prim.Native.Nat.{ℕ}
 use mathlib.Core.Path.{_≡_}
 use mathlib.Core.Bool.{true, false}
-use lib.ListN.{length, getD}
+use lib.ListN.{length}
 use Rattle.refusals.specs.declared.Refusal.the-variants.{Ask}
 use Rattle.refusals.specs.declared.Outcome.the-variants.{Done}
 use Rattle.verdict.specs.declared.answer.Verdict.{Verdict}
@@ -13,11 +13,11 @@ use Rattle.tasks.specs.Set.{mostTasks}
 use Rattle.loads.specs.Charge.{serverLoss}
 use Rattle.plan.specs.declared.plan.Plan.{Plan}
 use Rattle.plan.specs.declared.server.Server.{Server}
-use Rattle.plan.specs.Plan.{noServer}
 use Rattle.plancheck.specs.Makes.{makes}
+use Rattle.plancheck.proofs.Checked.{of-set}
 use Rattle.doespass.specs.DoesPass.{refusedPass, ownPass, doesPass}
 use Rattle.planserver.specs.Named.{isServer, allowed}
-use Rattle.planserver.specs.Recorded.{ownMembers}
+use Rattle.planserver.specs.Recorded.{serverIn, ownMembers}
 use Rattle.planserver.proofs.Judging.{own-members}
 
 -- a server by its record
@@ -38,9 +38,9 @@ module _ (set : TaskSet) (plan : Plan) (m : makes set plan ≡ true) where
   pass-absent q R e = rw (m, e)
 
   -- the question by the record of a server that is there
-  pub pass-there : length (set .tasks) ≡ mostTasks → (q R : ℕ) → isServer plan q ≡ true → ownPass set (getD (plan .server) (q - 1) noServer) R ≡ doesPass set plan q R
+  pub pass-there : length (set .tasks) ≡ mostTasks → (q R : ℕ) → isServer plan q ≡ true → {own : Server} → own ≡ serverIn set q → ownPass set own R ≡ doesPass set plan q R
   unfolding ownPass doesPass
-  pass-there full q R e = rw (m, e, own-members set full plan m q e)
+  pass-there full q R e is = rw (m, e, own-members set full (of-set set full plan m .clear) q is)
 
 -- a plan that it does not make
 pub pass-unmade : (set : TaskSet) (plan : Plan) → makes set plan ≡ false → (q R : ℕ) → refusedPass Ask ≡ doesPass set plan q R

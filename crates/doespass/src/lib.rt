@@ -6,6 +6,7 @@ use plancheck::makes_plan;
 use planserver::is_allowed_to;
 use planserver::is_server;
 use planserver::pass_judged;
+use planserver::record_of;
 use refusals::Outcome;
 use refusals::Refusal;
 use tasks::set::TaskSet;
@@ -58,8 +59,7 @@ pub fn pass_made(set: TaskSet, plan: Plan, server: u64, reserve: u64) -> PassAns
     if !is_server(plan, server) {
         return refused_pass(Refusal::Ask);
     }
-    let at = server as usize - 1;
-    let own = plan.server[at];
+    let own = record_of(set, plan, server);
     pass_own(set, own, reserve)
 }
 

@@ -37,7 +37,7 @@ fn start_of(reserves: &[u64], n: usize, slot: u64, q: usize) -> u64
 }
 
 // The record of server q.
-fn server_of<'a>(
+pub fn server_of<'a>(
     placement: &'a [u64],
     tasks: usize,
     reserves: &'a [u64],

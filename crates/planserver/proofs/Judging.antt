@@ -1,15 +1,14 @@
--- The record of one server of a checked plan: the members at its places are the server's, and the server may be judged by it.
+-- The record of one server of a checked plan, from the plan's rows: the members at its places are the server's, and it may be judged.
 -- Assumes nothing.
-use Prim.Native.Nat.{ℕ, _+_, _-_, _^_, _≤_, _<_}
-use mathlib.Core.Path.{_≡_, refl, sym, ap, _∙_}
+use Prim.Native.Nat.{ℕ, _+_, _^_, _≤_, _<_}
+use mathlib.Core.Path.{_≡_, refl, ap, _∙_}
 use mathlib.Core.Bool.{Bool, true, false, _&&_, _||_}
 use mathlib.Core.Logic.{inl, inr}
-use mathlib.Core.List.{List}
+use mathlib.Core.List.{List, map}
 use native.Mathlib.Omega.{arith}
 use borrow.Author.Tests.{leb-true, eqb-true}
 use lib.Dec.{leb, eqb}
-use lib.ListN.{length, take, getD, length-take, List·getD-map}
-use lib.Seq.{getD-take}
+use lib.ListN.{length, take, length-take}
 use Rattle.tasks.specs.Set.{mostTasks}
 use Rattle.laws.proofs.Tests.{and-left, and-right}
 use Rattle.charging.specs.Charging.{entryLoss}
@@ -27,17 +26,16 @@ use Rattle.plan.specs.declared.server.Server.{Server}
 use Rattle.setfigures.specs.Figures.{figureNumbers}
 use Rattle.setfigures.proofs.FigureLaws.{figures-back}
 use Rattle.rows.proofs.Clears.{set-overheads}
-use Rattle.plan.specs.Plan.{noServer}
-use Rattle.layout.specs.Layout.{serverOf, laidOut}
-use Rattle.layout.specs.Made.{reservesWith, planWith, setPlacement, setReserves, planMade}
-use Rattle.layout.proofs.LaidLaws.{laid-server}
+use Rattle.plan.proofs.RecordLaws.{row-front}
+use Rattle.reserves.specs.Slotted.{SlottedFirst}
+use Rattle.layout.specs.Layout.{serverOf}
+use Rattle.layout.specs.Made.{setPlacement, planMade}
 use Rattle.planner.specs.Planner.{Clear}
-use Rattle.planner.proofs.Made.{count-most, fits, set-few, filed}
-use Rattle.planagree.specs.Agrees.{used, usedServers}
+use Rattle.planner.proofs.Made.{count-most, fits, filed}
 use Rattle.plancheck.specs.Makes.{makes}
-use Rattle.plancheck.proofs.Checked.{of-set, same-made, placement-count}
+use Rattle.plancheck.proofs.Checked.{of-set, laid-in, placement-count}
 use Rattle.planserver.specs.Named.{isServer, allowed, serverMembers}
-use Rattle.planserver.specs.Recorded.{ownMembers, Recorded}
+use Rattle.planserver.specs.Recorded.{serverIn, ownMembers, Recorded}
 
 -- the test of a reserve says that it is allowed
 module _ (S L R : ℕ) where
@@ -62,73 +60,49 @@ unfolding isServer
 server-within plan q e =
     (leb-true 1 q (and-left (leb 1 q) (leb q (plan .servers)) e), leb-true q (plan .servers) (and-right (leb 1 q) (leb q (plan .servers)) e))
 
--- the server at place i of a plan, without unused room
-used-at : (plan : Plan) (i : ℕ) → i < plan .servers → getD (usedServers plan) i (used noServer) ≡ used (getD (plan .server) i noServer)
-used-at plan i h =
-    List·getD-map used (take (plan .servers) (plan .server)) i noServer ∙ ap used (getD-take (plan .servers) (plan .server) i noServer h)
-
 module _ (set : TaskSet) (full : length (set .tasks) ≡ mostTasks) (plan : Plan) (e : makes set plan ≡ true) (q : ℕ) (there : isServer plan q ≡ true) where
   clear : Clear set
   clear = of-set set full plan e .clear
 
-  -- there is room for its record
-  pub server-below : q ≤ mostTasks
-  server-below = omega (arith, server-within plan q there .1, of-set set full plan e .servers, set-few set full clear)
+  abbrev row : List ℕ → Type 0
+  row rs = rs ≡ map (λ (s : Server). s .reserve) (plan .server)
 
-  -- the server as document 01 gives it
-  abbrev given : Server
-  given = serverOf (set .header .slot) (set .header .cpmdo) (setPlacement set) (setReserves set) q
+  -- the row of its reserves is laid, and the server is among them
+  pub row-laid : length (plan .server) ≡ mostTasks → {rs : List ℕ} → row rs → SlottedFirst (plan .slot) rs (plan .servers) × (1 ≤ q) × (q ≤ plan .servers)
+  row-laid room r = (rw (of-set set full plan e .slot, r) (laid-in set full plan e room), server-within plan q there .0, server-within plan q there .1)
 
+  -- the record from the plan's rows is that of the set's plan
+  pub row-server : {rs : List ℕ} → row rs → serverOf (plan .slot) (set .header .cpmdo) (take (set .count) (plan .placement)) (take (plan .servers) rs) q ≡ serverIn set q
+  row-server r = rw (of-set set full plan e .slot, of-set set full plan e .placement, row-front plan r ∙ of-set set full plan e .reserves)
+
+module _ (set : TaskSet) (full : length (set .tasks) ≡ mostTasks) (clear : Clear set) (q : ℕ) {own : Server} (is : own ≡ serverIn set q) where
   abbrev own-places : List ℕ
   own-places = placesIn (setPlacement set) q
 
-  -- its record stands at the place before its number
-  next : q - 1 + 1 ≡ q
-  next = omega (arith, server-within plan q there .0)
-
-  made-server : q - 1 < length (setReserves set) → getD (planMade set .server) (q - 1) noServer ≡ given
-  unfolding planMade planWith setReserves
-  made-server h =
-      laid-server (set .header .slot) (set .header .cpmdo) (setPlacement set) (reservesWith set (setPlacement set)) noServer (q - 1) h
-      ∙ ap (serverOf (set .header .slot) (set .header .cpmdo) (setPlacement set) (reservesWith set (setPlacement set))) next
-
-  made-many : planMade set .servers ≡ length (setReserves set)
-  unfolding planMade planWith laidOut setReserves
-  made-many = refl
-
-  abbrev own : Server
-  own = getD (plan .server) (q - 1) noServer
-
-  -- the record is the server given, in all that is used
-  same : used own ≡ used given
-  same =
-      let made = same-made set full plan e in
-      let here : q - 1 < plan .servers = omega (arith, next, server-within plan q there .1) in
-      let laid : q - 1 < planMade set .servers = omega (arith, here, made .servers) in
-      sym (used-at plan (q - 1) here) ∙ ap (λ (ss : List Server). getD ss (q - 1) (used noServer)) (made .server) ∙ used-at (planMade set) (q - 1) laid
-      ∙ ap used (made-server (omega (arith, laid, made-many)))
-
   own-count : own .count ≡ length own-places
-  own-count = ap (λ (s : Server). s .count) same
+  own-count = ap (λ (s : Server). s .count) is
 
   -- its places are those of the server's tasks
   places-are : take (own .count) (own .places) ≡ own-places
-  places-are = ap (λ (s : Server). s .places) same ∙ padded-take own-places (length own-places) refl
+  places-are = ap (λ (s : Server). take (s .count) (s .places)) is ∙ padded-take own-places (length own-places) refl
 
   -- its cache cost is the header's
   cache-is : own .cache ≡ set .header .cpmdo
-  cache-is = ap (λ (s : Server). s .cache) same
+  cache-is = ap (λ (s : Server). s .cache) is
 
   -- and is that of any members
   own-cache : (ms : List Load) → own .cache ≡ cacheOf (set .header) ms
   unfolding cacheOf
   own-cache ms = cache-is
 
+  many : length (setPlacement set) ≡ set .count
+  many = placement-count set full (planMade set) clear
+
   -- the members that stand at its places are the server's
   pub own-members : ownMembers set own ≡ serverMembers set q
   own-members =
       ap (membersAt (figureNumbers set)) places-are
-      ∙ placed-chosen (figureNumbers set) (set .count) (setPlacement set) q (omega (arith, placement-count set full plan clear))
+      ∙ placed-chosen (figureNumbers set) (set .count) (setPlacement set) q (omega (arith, many))
       ∙ ap (λ (ls : List Load). chosen ls (setPlacement set) q) (figures-back set (fits set full clear))
 
   -- they may be judged
@@ -138,13 +112,13 @@ module _ (set : TaskSet) (full : length (set .tasks) ≡ mostTasks) (plan : Plan
     served =
         filed-served (filed set full clear refl refl) (own .places) (own .count) (own .cache)
         (omega (arith, ap length places-are, own-count, length-take (own .count) (own .places)))
-        (omega (arith, own-count, places-most (setPlacement set) q (omega (arith, placement-count set full plan clear, count-most set full clear))))
+        (omega (arith, own-count, places-most (setPlacement set) q (omega (arith, many, count-most set full clear))))
         (rw places-are below)
         (own-cache (ownMembers set own));
   }
     where
       below : Below (set .count) own-places
-      below i l = omega (arith, places-below (setPlacement set) q i l, placement-count set full plan clear)
+      below i l = omega (arith, places-below (setPlacement set) q i l, many)
 
 -- of a server that may be judged
 module _ {set : TaskSet} {own : Server} (of : Recorded set own) where

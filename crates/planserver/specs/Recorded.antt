@@ -1,5 +1,6 @@
 -- A server by its record in a plan: its members, and what judging it asks.
 -- Document 01, "From tasks to servers to ring" (RULES 3).
+use Prim.Native.Nat.{ℕ}
 use mathlib.Core.List.{List}
 use lib.ListN.{take}
 use Rattle.demand.specs.Load.{Load}
@@ -9,7 +10,13 @@ use Rattle.tasks.specs.declared.set.TaskSet.{TaskSet}
 use Rattle.setfigures.specs.Figures.{figureNumbers}
 use Rattle.rows.specs.Rows.{horizonOf}
 use Rattle.plan.specs.declared.server.Server.{Server}
+use Rattle.layout.specs.Layout.{serverOf}
+use Rattle.layout.specs.Made.{setPlacement, setReserves}
 use Rattle.planner.specs.Planner.{Clear}
+
+-- the record of server q in the plan of a set
+abbrev pub serverIn : TaskSet → (q : ℕ) → Server
+serverIn set q = serverOf (set .header .slot) (set .header .cpmdo) (setPlacement set) (setReserves set) q
 
 -- the figures of the tasks at its places
 abbrev pub ownMembers : TaskSet → Server → List Load

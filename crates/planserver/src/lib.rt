@@ -1,8 +1,10 @@
 // One server of a plan that is checked already: is it there, which reserves is it allowed, does it pass with one.
 // What they mean stands in specs/Named.antt, and by the server's record in specs/Recorded.antt.
 use judging::judged;
+use layout::server_of;
 use members::loss;
 use plan::plan::Plan;
+use plan::plan::reserves;
 use plan::server::Server;
 use rows::rows::horizon;
 use setfigures::figures;
@@ -10,13 +12,15 @@ use tasks::set::Header;
 use tasks::set::TaskSet;
 use verdict::answer::Verdict;
 ghost use mathlib.Core.Path.{_≡_};
+ghost use mathlib.Core.Bool.{true};
 ghost use Prim.Native.Nat.{_^_, _<_};
 ghost use Rattle.charging.specs.Charging.{entryLoss};
 ghost use Rattle.demand.specs.Supply.{Allowed};
 ghost use Rattle.loads.specs.Charge.{serverLoss};
 ghost use Rattle.members.specs.Server.{verdictFor};
+ghost use Rattle.plancheck.specs.Makes.{makes};
 ghost use Rattle.planserver.specs.Named.{isServer, allowed};
-ghost use Rattle.planserver.specs.Recorded.{ownMembers, Recorded};
+ghost use Rattle.planserver.specs.Recorded.{serverIn, ownMembers, Recorded};
 
 // L + 1 ≤ R ≤ S − 1, or R = S.
 pub fn is_allowed(slot: u64, loss: u64, reserve: u64) -> bool
@@ -38,6 +42,27 @@ pub fn is_server(plan: Plan, server: u64) -> bool
         return false;
     }
     server <= plan.servers
+}
+
+// The record of a server of a plan that is checked already, made anew from the plan's rows: to pick it out would copy every record.
+pub fn record_of(set: TaskSet, plan: Plan, server: u64) -> Server
+    requires { ⌜ (makes set plan ≡ true) × (isServer plan server ≡ true) ⌝ }
+    ensures { λ r. ⌜ r ≡ serverIn set server ⌝ }
+{
+    let tasks = set.count;
+    let cache = set.header.cpmdo as u64;
+    let n = plan.servers as usize;
+    let placement = plan.placement;
+    let reserve = reserves(plan);
+    server_of(
+        &placement,
+        tasks,
+        &reserve,
+        n,
+        plan.slot,
+        cache,
+        server as usize,
+    )
 }
 
 // The reserve is allowed by the entry loss of a server of this cache cost.

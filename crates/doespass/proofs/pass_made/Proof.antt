@@ -2,14 +2,13 @@
 -- Assumes nothing.
 use borrow.Author.Needs.{needs}
 use borrow.Author.Tests.{not-true, not-false}
-use Prim.Native.Nat.{_≤_}
-use native.Mathlib.Omega.{arith}
 use mathlib.Core.Path.{_≡_, sym, _∙_}
 use mathlib.Core.Bool.{true}
 use lib.ListN.{length, length-map}
 use Rattle.tasks.specs.Set.{mostTasks}
 use Rattle.planserver.specs.Named.{isServer}
-use Rattle.planserver.proofs.Judging.{server-within, server-below, own-recorded}
+use Rattle.plancheck.proofs.Checked.{of-set}
+use Rattle.planserver.proofs.Judging.{own-recorded}
 use Rattle.doespass.proofs.PassLaws.{pass-absent, pass-there}
 use Rattle.doespass.proofs.pass_made.Statement.{statement}
 use Rattle.doespass.proofs.pass_made.Tie as tie
@@ -18,48 +17,34 @@ returns : tie.Need-returns
 returns c =
     let s = c .before .before .before in
     let a = s .args in
-    c .refused-pass .ensures ∙ pass-absent (a .set) (a .t2) (s .pre) (a .server) (a .reserve) (sym (c .before .before .is-server .ensures) ∙ not-true _ (c .before .if1 .taken))
+    c .refused-pass .ensures ∙ pass-absent (a .set) (a .plan) (s .pre) (a .server) (a .reserve) (sym (c .before .before .is-server .ensures) ∙ not-true _ (c .before .if1 .taken))
 
 -- where the server is there
 module _ (c : tie.Else1) where
   abbrev start : tie.Start
   start = c .before .before
 
-  there : isServer (start .args .t2) (start .args .server) ≡ true
+  there : isServer (start .args .plan) (start .args .server) ≡ true
   there = sym (c .before .is-server .ensures) ∙ not-false _ (c .if1 .left)
 
   -- a set's tasks have their places
   full : length (start .args .set .tasks) ≡ mostTasks
   full = sym (length-map (start .args .set .tasks) _) ∙ start .good .0 .1 .1 .1 .1 .0 .1 .0 .1
 
-  -- its number is from 1 on
-  some : 1 ≤ start .args .server
-  some = server-within (start .args .t2) (start .args .server) there .0
-
-  -- to their limit
-  below : start .args .server ≤ mostTasks
-  below = server-below (start .args .set) full (start .args .t2) (start .pre) (start .args .server) there
-
-sub-at : tie.Need-sub-at
-sub-at c = some c
-
-mul-own : tie.Need-mul-own
-mul-own c = omega (arith, some c, below c)
-
-element-copy-out-own : tie.Need-element-copy-out-own
-element-copy-out-own c = omega (arith, some c, below c)
+record-of-requires : tie.Need-record-of-requires
+record-of-requires c κs = (start c .pre, there c)
 
 pass-own-requires : tie.Need-pass-own-requires
 pass-own-requires c κs =
     let e = c .before in
     let a = start e .args in
-    own-recorded (a .set) (full e) (a .t2) (start e .pre) (a .server) (there e)
+    own-recorded (a .set) (full e) (of-set (a .set) (full e) (a .plan) (start e .pre) .clear) (a .server) (c .record-of .ensures)
 
 returns-2 : tie.Need-returns-2
 returns-2 c =
     let e = c .before .before in
     let a = start e .args in
-    c .pass-own .ensures ∙ pass-there (a .set) (a .t2) (start e .pre) (full e) (a .server) (a .reserve) (there e)
+    c .pass-own .ensures ∙ pass-there (a .set) (a .plan) (start e .pre) (full e) (a .server) (a .reserve) (there e) (c .before .record-of .ensures)
 
 pub pass-made-spec : {M : Type 1} → statement M
 pass-made-spec =
@@ -68,8 +53,6 @@ pass-made-spec =
     (λ c κs. search needs)
     (λ c κs. search needs)
     returns
-    sub-at
-    mul-own
-    element-copy-out-own
+    record-of-requires
     pass-own-requires
     returns-2)

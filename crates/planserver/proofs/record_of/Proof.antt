@@ -1,0 +1,50 @@
+-- `record_of` meets its contract: the plan's placement and reserves are the set's.
+-- Assumes nothing.
+use borrow.Author.Needs.{needs}
+use native.Mathlib.Omega.{arith}
+use mathlib.Core.Path.{_≡_, sym, _∙_}
+use lib.ListN.{length, length-map}
+use Rattle.tasks.specs.Set.{mostTasks}
+use Rattle.planner.proofs.Made.{count-most}
+use Rattle.plancheck.proofs.Checked.{of-set}
+use Rattle.planserver.proofs.Judging.{row-laid, row-server}
+use Rattle.planserver.proofs.record_of.Statement.{statement}
+use Rattle.planserver.proofs.record_of.Tie as tie
+
+-- a set's tasks have their places
+full : (s : tie.Start) → length (s .args .set .tasks) ≡ mostTasks
+full s = sym (length-map (s .args .set .tasks) _) ∙ s .good .0 .1 .1 .1 .1 .0 .1 .0 .1
+
+-- so have a plan's servers
+room : (s : tie.Start) → length (s .args .plan .server) ≡ mostTasks
+room s = sym (length-map (s .args .plan .server) _) ∙ s .good .1 .0 .1 .1 .1 .1 .1 .1 .1 .0 .1 .0 .1
+
+-- and its placement
+placed : (s : tie.Start) → length (s .args .plan .placement) ≡ mostTasks
+placed s = sym (length-map (s .args .plan .placement) _) ∙ s .good .1 .0 .1 .1 .1 .1 .1 .1 .1 .1 .0 .1 .0 .1
+
+server-of-requires : tie.Need-server-of-requires
+server-of-requires c κs =
+    let rows = c .before .before in
+    let s = rows .before .before .before in
+    let a = s .args in
+    let few = count-most (a .set) (full s) (of-set (a .set) (full s) (a .plan) (s .pre .0) .clear) in
+    ((omega (arith, few, placed s), few), row-laid (a .set) (full s) (a .plan) (s .pre .0) (a .server) (s .pre .1) (room s) (rows .reserves .ensures))
+
+returns : tie.Need-returns
+returns c =
+    let rows = c .before .before .before in
+    let s = rows .before .before .before in
+    let a = s .args in
+    c .server-of .ensures ∙ row-server (a .set) (full s) (a .plan) (s .pre .0) (a .server) (s .pre .1) (rows .reserves .ensures)
+
+pub record-of-spec : {M : Type 1} → statement M
+record-of-spec =
+    tie.close
+    (tie.spec
+    (λ c. search needs)
+    (λ c κs. search needs)
+    (λ c. search needs)
+    (λ c. search needs)
+    server-of-requires
+    returns)
