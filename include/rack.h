@@ -18,8 +18,9 @@ extern "C" {
 #endif
 
 /* No function takes more stack than this, its own return address included: reckoned from the built code, in which no
- * function calls itself and no call is indirect. What memcpy and memset take below their return address is not in it. */
-#define RACK_STACK_BYTES 45056
+ * function calls itself and no call is indirect. What memcpy and memset take below their return address is assumed small
+ * and not in it. */
+#define RACK_STACK_BYTES 32768
 
 /* The longest text that rack_plan stores. */
 #define RACK_PLAN_BYTES 2647

@@ -1,7 +1,8 @@
 // The deepest stack of each function named, by a disassembly: `objdump -d -r --no-show-raw-insn` on standard input; as
 // arguments the functions outside that may be called, parted by commas, then the names. Every way through every function is
-// followed, and every call. Refused: a function that calls itself, directly or through others; an indirect call or jump; a
-// change of the stack pointer that is not a push, a pop, an addition or a subtraction of a constant; any other call outside.
+// followed, and every call. Refused: a function that calls itself, directly or through others; an indirect call; a change of
+// the stack pointer that is not a push, a pop, an addition or a subtraction of a constant; any other call outside. An indirect
+// jump with room taken is one through a table of the function's own places, at that depth; without, it could be a call.
 // A figure is in bytes, from the function's return address on down. What a function outside takes is not in it, except its
 // own return address.
 use std::collections::HashMap;
@@ -90,21 +91,30 @@ fn below(step: &Step) -> u64 {
     step.operands.iter().filter_map(far).max().unwrap_or(0)
 }
 
-// Where a call or jump leads: to another function by a relocation, else to an address of its own.
+// Where a call or jump leads: to another function by a relocation, to an address of its own, or wherever a register says.
 enum Target {
     Function(String),
     Address(u64),
+    Indirect,
 }
 
 fn target(step: &Step) -> Result<Target, String> {
     let to = step.operands.first().ok_or("a jump to nowhere")?;
-    if to.starts_with('*') {
-        return Err("calls or jumps indirectly".to_string());
-    }
     match &step.symbol {
+        _ if to.starts_with('*') => Ok(Target::Indirect),
         Some(symbol) => callee(symbol).map(Target::Function),
         None => hex(to).map(Target::Address).ok_or(format!("a jump to {}", to)),
     }
+}
+
+fn ends(step: &Step) -> bool {
+    ["ret", "jmp", "ud2", "hlt", "int3"].contains(&step.name.trim_end_matches('q'))
+}
+
+// The first step, not yet reached, that a table may lead to: one right behind an end.
+fn by_table(steps: &[Step], depths: &[Option<u64>]) -> Option<usize> {
+    let behind = |i: &usize| ends(&steps[i - 1]) && depths[*i].is_none() && steps[*i..].iter().any(|s| !s.name.starts_with("nop") && s.name != "xchg");
+    (1..steps.len()).find(behind)
 }
 
 // A large frame is taken page by page in a loop, down to a place reckoned before it: how much the loop takes in all.
@@ -121,7 +131,8 @@ fn frame(name: &str, steps: &[Step]) -> Result<Frame, String> {
     let mut depths: Vec<Option<u64>> = vec![None; steps.len()];
     let mut found = Frame { reach: WORD, calls: Vec::new() };
     let mut open = vec![(0, WORD)];
-    while let Some((i, depth)) = open.pop() {
+    let mut table = None;
+    while let Some((i, depth)) = open.pop().or_else(|| Some((by_table(steps, &depths)?, table?))) {
         let step = steps.get(i).ok_or("runs past its end")?;
         match depths[i] {
             Some(before) if before == depth => continue,
@@ -150,11 +161,14 @@ fn frame(name: &str, steps: &[Step]) -> Result<Frame, String> {
                 Target::Function(callee) => found.calls.push((depth, callee)),
                 Target::Address(at) if at == steps[0].at => found.calls.push((depth, name.to_string())),
                 Target::Address(_) => return Err(format!("a call into its middle at {:x}", step.at)),
+                Target::Indirect => return Err("calls indirectly".to_string()),
             },
             jump if jump.starts_with('j') => {
                 match target(step)? {
                     Target::Function(callee) => found.calls.push((depth - WORD, callee)),
                     Target::Address(at) => open.push((*index.get(&at).ok_or("jumps out of itself")?, depth)),
+                    Target::Indirect if depth > WORD && table.unwrap_or(depth) == depth => table = Some(depth),
+                    Target::Indirect => return Err("jumps indirectly, which may be a call".to_string()),
                 }
                 if jump == "jmp" {
                     continue;

@@ -1,12 +1,12 @@
 -- Laws of a plan's text: its length, and that its groups of lines are stored one behind the other.
 -- Assumes nothing.
 use Prim.Native.Nat.{ℕ, _+_, _*_, _≤_}
-use mathlib.Core.Path.{_≡_, sym, _∙_, ap}
+use mathlib.Core.Path.{_≡_, sym, _∙_, ap, ap₂}
 use mathlib.Core.List.{List, _++_, append-assoc}
 use native.Mathlib.Omega.{arith}
-use lib.ListN.{length, length-append}
+use lib.ListN.{length, take, drop, length-append}
+use lib.Seq.{length-take-le, take-take, take-append-le, drop-append-seam}
 use Rattle.digits.specs.Stored.{stored}
-use Rattle.digits.proofs.Stored.{stored-stored}
 use Rattle.frames.specs.Table.{widthsOf, sum}
 use Rattle.framelines.specs.Lines.{joined}
 use Rattle.framelines.proofs.LinesLaws.{joined-length}
@@ -17,13 +17,30 @@ use Rattle.plantext.specs.Text.{planText, longestText}
 use Rattle.plantext.specs.Counts.{CountsFit}
 use Rattle.planlines.proofs.LineLaws.{plan-bytes, server-size, placed-size, processor-size, server-bytes, placed-bytes, processor-bytes}
 
--- a text stored right behind one at the buffer's start
-behind : (b x y : List ℕ) (m : ℕ) → m ≡ length x → length x + length y ≤ length b → stored (stored b 0 x) m y ≡ stored b 0 (x ++ y)
-behind b x y m e fits =
-    ap (λ (n : ℕ). stored (stored b 0 x) n y) (e ∙ omega arith) ∙ stored-stored b 0 x y (omega arith)
+-- a text stored right before another is both stored as one
+ahead : (b x y : List ℕ) (at : ℕ) {m : ℕ} → m ≡ at + length x → m + length y ≤ length b → stored (stored b m y) at x ≡ stored b at (x ++ y)
+unfolding stored
+ahead b x y at {m} e fits =
+    ap₂ (λ (p q : List ℕ). p ++ (x ++ q)) front back
+    ∙ ap (λ (l : List ℕ). take at b ++ l) (sym (append-assoc x y (drop (m + length y) b)))
+    ∙ ap (λ (n : ℕ). take at b ++ ((x ++ y) ++ drop n b)) end
+  where
+    end : m + length y ≡ at + length (x ++ y)
+    end = omega (arith, length-append x y)
 
-regroup : (a b c d : List ℕ) → ((a ++ b) ++ c) ++ d ≡ a ++ (b ++ (c ++ d))
-regroup a b c d = simp append-assoc
+    head : length (take m b) ≡ m
+    head = length-take-le m b (omega arith)
+
+    rest : List ℕ
+    rest = y ++ drop (m + length y) b
+
+    front : take at (take m b ++ rest) ≡ take at b
+    front = take-append-le at (take m b) rest (omega (arith, head)) ∙ take-take at m b (omega arith)
+
+    back : drop (at + length x) (take m b ++ rest) ≡ rest
+    back =
+        let seam : at + length x ≡ length (take m b) = omega (arith, head) in
+        ap (λ (n : ℕ). drop n (take m b ++ rest)) seam ∙ drop-append-seam (take m b) rest
 
 -- the bytes of a plan's text
 module _ (set : TaskSet) (plan : Plan) where
@@ -40,19 +57,14 @@ module _ (set : TaskSet) (plan : Plan) where
   unfolding planText
   text-bytes = simp length-append (omega (arith, plan-bytes plan, servers-bytes, tasks-bytes, processors-bytes))
 
-  -- the four groups of lines, each stored right behind the one before it, are the text stored
+  -- the four groups of lines, each stored right before the one behind it, are the text stored
   pub text-stored : (b : List ℕ) {o₁ o₂ o₃ o₄ : List ℕ} {k m n : ℕ} → length (planText set plan) ≤ length b → k ≡ 23 → m ≡ 23 + plan .servers * 21 → n ≡ m + set .count * 7
-      → o₁ ≡ stored b 0 (planLine plan) → o₂ ≡ stored o₁ k (joined (serverLine plan) (plan .servers))
-      → o₃ ≡ stored o₂ m (joined (placedLine set plan) (set .count)) → o₄ ≡ stored o₃ n (joined (processorLine plan) (plan .ring + plan .whole))
+      → o₁ ≡ stored b n (joined (processorLine plan) (plan .ring + plan .whole)) → o₂ ≡ stored o₁ m (joined (placedLine set plan) (set .count))
+      → o₃ ≡ stored o₂ k (joined (serverLine plan) (plan .servers)) → o₄ ≡ stored o₃ 0 (planLine plan)
       → o₄ ≡ stored b 0 (planText set plan)
   unfolding planText
-  text-stored b {k = k} {m = m} {n = n} fits o p q e₁ e₂ e₃ e₄ =
-      e₄
-      ∙ ap (λ (l : List ℕ). stored l n processors) (e₃ ∙ ap (λ (l : List ℕ). stored l m tasks) (e₂ ∙ ap (λ (l : List ℕ). stored l k servers) e₁))
-      ∙ ap (λ (l : List ℕ). stored (stored l m tasks) n processors) (behind b first servers k (o ∙ sym (plan-bytes plan)) (omega (arith, room, plan-bytes plan, servers-bytes)))
-      ∙ ap (λ (l : List ℕ). stored l n processors) (behind b (first ++ servers) tasks m (p ∙ sym two) (omega (arith, room, two, tasks-bytes)))
-      ∙ behind b ((first ++ servers) ++ tasks) processors n (q ∙ sym (three p)) (omega (arith, room, three p, p, processors-bytes))
-      ∙ ap (stored b 0) (regroup first servers tasks processors)
+  text-stored b {o₂ = o₂} {o₃ = o₃} {k = k} {m = m} {n = n} fits o p q e₁ e₂ e₃ e₄ =
+      e₄ ∙ ap (λ (l : List ℕ). stored l 0 first) from-servers ∙ ahead b first (servers ++ (tasks ++ processors)) 0 (omega (arith, o, plan-bytes plan)) (omega (arith, room, o, behind-servers))
     where
       first : List ℕ
       first = planLine plan
@@ -69,11 +81,19 @@ module _ (set : TaskSet) (plan : Plan) where
       room : 23 + plan .servers * 21 + set .count * 7 + (plan .ring + plan .whole) * 13 ≤ length b
       room = omega (arith, text-bytes)
 
-      two : length (first ++ servers) ≡ 23 + plan .servers * 21
-      two = length-append first servers ∙ omega (arith, plan-bytes plan, servers-bytes)
+      behind-tasks : length (tasks ++ processors) ≡ set .count * 7 + (plan .ring + plan .whole) * 13
+      behind-tasks = length-append tasks processors ∙ omega (arith, tasks-bytes, processors-bytes)
 
-      three : m ≡ 23 + plan .servers * 21 → length ((first ++ servers) ++ tasks) ≡ m + set .count * 7
-      three e = length-append (first ++ servers) tasks ∙ omega (arith, two, tasks-bytes, e)
+      behind-servers : length (servers ++ (tasks ++ processors)) ≡ plan .servers * 21 + set .count * 7 + (plan .ring + plan .whole) * 13
+      behind-servers = length-append servers (tasks ++ processors) ∙ omega (arith, servers-bytes, behind-tasks)
+
+      from-tasks : o₂ ≡ stored b m (tasks ++ processors)
+      from-tasks = e₂ ∙ ap (λ (l : List ℕ). stored l m tasks) e₁ ∙ ahead b tasks processors m (omega (arith, q, tasks-bytes)) (omega (arith, room, p, q, processors-bytes))
+
+      from-servers : o₃ ≡ stored b k (servers ++ (tasks ++ processors))
+      from-servers =
+          e₃ ∙ ap (λ (l : List ℕ). stored l k servers) from-tasks
+          ∙ ahead b servers (tasks ++ processors) k (omega (arith, o, p, servers-bytes)) (omega (arith, room, p, behind-tasks))
 
 -- a text whose counts fit is at most the longest
 pub text-short : (set : TaskSet) (plan : Plan) → CountsFit set plan → length (planText set plan) ≤ longestText

@@ -26,16 +26,17 @@ pub fn text_length(set: TaskSet, plan: Plan) -> usize
     first + servers + tasks + processors
 }
 
+// From the back to the front, so that what is compiled holds the plan once (docs/SPEED.md).
 pub fn put_text(out: &mut [u8], set: TaskSet, plan: Plan)
     requires { ⌜ CountsFit set plan × (bytes (planText set plan) ≤ bytes (now out)) ⌝ }
     ensures { λ r. ⌜ now (out .exit) ≡ stored (now (out .entry)) 0 (planText set plan) ⌝ }
 {
     let count = (plan.ring + plan.whole) as usize;
-    put_plan(out, plan);
     let servers = lines_length(Frame::Plan, 1);
-    put_servers(out, servers, plan);
     let tasks = servers + lines_length(Frame::Server, plan.servers as usize);
-    put_tasks(out, tasks, set, plan);
     let processors = tasks + lines_length(Frame::Placed, set.count);
     put_processors(out, processors, plan, count);
+    put_tasks(out, tasks, set, plan);
+    put_servers(out, servers, plan);
+    put_plan(out, plan);
 }
