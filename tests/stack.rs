@@ -126,6 +126,53 @@ fn probed(steps: &[Step]) -> Option<u64> {
     (text == pages && whole > 0 && whole % 0x1000 == 0).then_some(whole)
 }
 
+// What a step does: how far down the next one stands, if it goes on; whom it calls, and from how far down; where else it leads.
+struct Effect {
+    after: Option<u64>,
+    call: Option<(u64, String)>,
+    leads: Option<u64>,
+    table: bool,
+}
+
+// Other changes of the stack pointer than those that are followed.
+fn moves_otherwise(step: &Step) -> bool {
+    let is = |names: &[&str], o: &String| names.contains(&o.as_str());
+    step.operands.last().map_or(false, |o| is(&["%rsp"], o))
+        || step.operands.iter().any(|o| is(&["%esp", "%sp", "%spl"], o) || step.name.starts_with('x') && is(&["%rsp"], o))
+        || ["leave", "enter", "pushf", "popf"].contains(&step.name.trim_end_matches('q'))
+}
+
+fn effect(name: &str, entry: u64, step: &Step, depth: u64) -> Result<Effect, String> {
+    let mut does = Effect { after: Some(depth), call: None, leads: None, table: false };
+    let of_rsp = step.operands.last().map(String::as_str) == Some("%rsp");
+    let room = || constant(&step.operands[0]).ok_or("takes or gives back room that is not constant");
+    match step.name.trim_end_matches('q') {
+        "push" => does.after = Some(depth + WORD),
+        "pop" if !of_rsp => does.after = depth.checked_sub(WORD),
+        "sub" if of_rsp => does.after = Some(depth + room()?),
+        "add" if of_rsp => does.after = Some(depth.checked_sub(room()?).ok_or("gives back more than it took")?),
+        "ret" if depth != WORD => return Err(format!("returns from depth {}", depth)),
+        "call" => match target(step)? {
+            Target::Function(callee) => does.call = Some((depth, callee)),
+            Target::Address(at) if at == entry => does.call = Some((depth, name.to_string())),
+            Target::Address(_) => return Err(format!("a call into its middle at {:x}", step.at)),
+            Target::Indirect => return Err("calls indirectly".to_string()),
+        },
+        jump if jump.starts_with('j') => match target(step)? {
+            Target::Function(callee) => does.call = Some((depth - WORD, callee)),
+            Target::Address(at) => does.leads = Some(at),
+            Target::Indirect if depth > WORD => does.table = true,
+            Target::Indirect => return Err("jumps indirectly, which may be a call".to_string()),
+        },
+        _ if moves_otherwise(step) => return Err(format!("{} of the stack pointer at {:x}", step.name, step.at)),
+        _ => {}
+    }
+    if ends(step) {
+        does.after = None;
+    }
+    Ok(does)
+}
+
 fn frame(name: &str, steps: &[Step]) -> Result<Frame, String> {
     let index: HashMap<u64, usize> = steps.iter().enumerate().map(|(i, s)| (s.at, i)).collect();
     let mut depths: Vec<Option<u64>> = vec![None; steps.len()];
@@ -143,42 +190,16 @@ fn frame(name: &str, steps: &[Step]) -> Result<Frame, String> {
             open.push((i + 6, depth + room));
             continue;
         }
-        found.reach = found.reach.max(depth + below(step));
-        let mut after = depth;
-        let of_rsp = step.operands.last().map(String::as_str) == Some("%rsp");
-        let exchanged = step.name.starts_with('x') && step.operands.iter().any(|o| o == "%rsp");
-        let of_part = step.operands.iter().any(|o| ["%esp", "%sp", "%spl"].contains(&o.as_str()));
-        match step.name.trim_end_matches('q') {
-            "push" => after += WORD,
-            "pop" if !of_rsp => after -= WORD,
-            "sub" if of_rsp => after += constant(&step.operands[0]).ok_or("takes room that is not constant")?,
-            "add" if of_rsp => after -= constant(&step.operands[0]).ok_or("gives back room that is not constant")?,
-            "ret" if depth == WORD => continue,
-            "ret" => return Err(format!("returns from depth {}", depth)),
-            "ud2" | "hlt" | "int3" => continue,
-            "leave" | "enter" | "pushf" | "popf" => return Err(format!("{} at {:x}", step.name, step.at)),
-            "call" => match target(step)? {
-                Target::Function(callee) => found.calls.push((depth, callee)),
-                Target::Address(at) if at == steps[0].at => found.calls.push((depth, name.to_string())),
-                Target::Address(_) => return Err(format!("a call into its middle at {:x}", step.at)),
-                Target::Indirect => return Err("calls indirectly".to_string()),
-            },
-            jump if jump.starts_with('j') => {
-                match target(step)? {
-                    Target::Function(callee) => found.calls.push((depth - WORD, callee)),
-                    Target::Address(at) => open.push((*index.get(&at).ok_or("jumps out of itself")?, depth)),
-                    Target::Indirect if depth > WORD && table.unwrap_or(depth) == depth => table = Some(depth),
-                    Target::Indirect => return Err("jumps indirectly, which may be a call".to_string()),
-                }
-                if jump == "jmp" {
-                    continue;
-                }
-            }
-            _ if of_rsp || exchanged || of_part => return Err(format!("{} of the stack pointer at {:x}", step.name, step.at)),
-            _ => {}
+        let does = effect(name, steps[0].at, step, depth)?;
+        found.reach = found.reach.max(depth + below(step)).max(does.after.unwrap_or(0));
+        found.calls.extend(does.call);
+        open.extend(does.after.map(|after| (i + 1, after)));
+        if let Some(at) = does.leads {
+            open.push((*index.get(&at).ok_or("jumps out of itself")?, depth));
         }
-        found.reach = found.reach.max(after);
-        open.push((i + 1, after));
+        if does.table && *table.get_or_insert(depth) != depth {
+            return Err(format!("tables at two depths, at {:x}", step.at));
+        }
     }
     Ok(found)
 }
