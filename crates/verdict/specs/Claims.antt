@@ -9,8 +9,10 @@ use Rattle.demand.specs.Lawful.{Lawful}
 use Rattle.demand.specs.Demand.{demand}
 use Rattle.demand.specs.Supply.{Allowed, supply}
 use Rattle.demand.specs.Passes.{Passes}
-use Rattle.verdict.specs.Verdict.{firstFailing, verdictOf, passing, ownHorizon}
+use Rattle.steps.specs.Stepping.{StepsAt}
+use Rattle.verdict.specs.Verdict.{verdictOf, readingOf, passing, ownHorizon}
 use Rattle.verdict.specs.Reserve.{smallestReserve, Smallest}
+use Rattle.verdict.specs.declared.answer.Verdict.{Verdict}
 use Rattle.verdict.specs.declared.answer.Verdict.the-variants.{Yes, No}
 
 -- a lawful demand is passing exactly when demand ≤ supply at every length, with no bound on the length
@@ -27,18 +29,45 @@ pub record FailsFirst (g : ℕ → ℕ) (S L R t w s : ℕ) : Type 0 where
   pub supplied : s ≡ supply S L R t
   pub before : (x : ℕ) → 1 ≤ x → x < t → g x ≤ supply S L R x
 
--- the verdict is yes, with three zeros, exactly when the demand passes; it is no with t, w and s exactly when it fails first there
+-- t is the smallest of all lengths where the demand steps and the difference of supply and demand is smallest; w is the demand and
+-- s the supply there. Beside Passes no difference is cut off at 0.
+pub record Closest (g : ℕ → ℕ) (S L R t w s : ℕ) : Type 0 where
+  pub steps : StepsAt g t
+  pub demanded : w ≡ g t
+  pub supplied : s ≡ supply S L R t
+  pub least : (x : ℕ) → StepsAt g x → s - w ≤ supply S L R x - g x
+  pub first : (x : ℕ) → StepsAt g x → x < t → s - w < supply S L R x - g x
+
+-- what a verdict tells: yes with t, w and s exactly when the demand passes and is closest there, no with them exactly when it fails
+-- first there
+pub record VerdictTells (g : ℕ → ℕ) (S L R : ℕ) (v : Verdict) : Type 0 where
+  pub yes-means : (t w s : ℕ) → (v ≡ Yes (record { length = t; demand = w; supply = s })) ↔ (Passes g S L R × Closest g S L R t w s)
+  pub no-means : (t w s : ℕ) → (v ≡ No (record { length = t; demand = w; supply = s })) ↔ FailsFirst g S L R t w s
+
+-- the verdict over the lengths up to a horizon tells this of all lengths, for a demand that asks for something somewhere
 abbrev pub VerdictMeans : Type 0
 VerdictMeans =
-    (g : ℕ → ℕ) (H S L R : ℕ) → Lawful g H → 1 ≤ S
-    → ((verdictOf g H S L R ≡ Yes (record { length = 0; demand = 0; supply = 0 })) ↔ Passes g S L R)
-    × ((t w s : ℕ) → (verdictOf g H S L R ≡ No (record { length = t; demand = w; supply = s })) ↔ FailsFirst g S L R t w s)
+    (g : ℕ → ℕ) (H S L R a : ℕ) → Lawful g H → 1 ≤ S → 1 ≤ g a → VerdictTells g S L R (verdictOf g H S L R)
 
--- any two horizons under which the demand is lawful give the same smallest failing length: the file's and a server's own
+-- the length that a verdict carries is within the horizon
+abbrev pub ReadWithin : Type 0
+ReadWithin = (g : ℕ → ℕ) (H S L R : ℕ) → readingOf (verdictOf g H S L R) .length ≤ H
+
+-- one that never asks passes, with three zeros
+abbrev pub NothingAsked : Type 0
+NothingAsked =
+    (g : ℕ → ℕ) (H S L R : ℕ) → 1 ≤ S → ((x : ℕ) → g x ≡ 0) → verdictOf g H S L R ≡ Yes (record { length = 0; demand = 0; supply = 0 })
+
+-- from its first step on no length at all is closer: between steps demand does not rise and supply does not fall
+abbrev pub ClosestOfAll : Type 0
+ClosestOfAll =
+    (g : ℕ → ℕ) (S L R t w s m x : ℕ) → 1 ≤ S → Closest g S L R t w s → StepsAt g m → m ≤ x → s - w ≤ supply S L R x - g x
+
+-- any two horizons under which the demand is lawful give the same verdict: the file's and a server's own
 abbrev pub AnyHorizon : Type 0
 AnyHorizon =
     (g : ℕ → ℕ) (H H′ S L R : ℕ) → Lawful g H → Lawful g H′ → 1 ≤ S
-    → firstFailing g H S L R ≡ firstFailing g H′ S L R
+    → verdictOf g H S L R ≡ verdictOf g H′ S L R
 
 -- the demand of sound loads is lawful under their own horizon
 abbrev pub OwnHorizon : Type 0

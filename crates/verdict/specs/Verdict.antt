@@ -1,13 +1,18 @@
--- The verdict on a demand with a reserve, in document 01's words: yes with three zeros, or no with the smallest failing length,
--- the demand and the supply there. Lengths up to a horizon H are looked at; Claims says when they decide for all.
+-- The verdict on a demand with a reserve, with a length and the demand and the supply there. Document 02, Req 02: yes with the
+-- smallest length of those where the demand steps and the slack is smallest. Document 01: no with the smallest failing length.
+-- Lengths up to a horizon H are looked at; Claims says when they decide for all.
 use Prim.Native.Nat.{ℕ, zero, suc, _^_, _≤_, _<_}
 use mathlib.Core.Bool.{Bool, true, false}
 use mathlib.Core.List.{List, map}
 use lib.Dec.{ltb}
 use Rattle.wholes.specs.Multiple.{leastMultipleOf}
 use Rattle.demand.specs.Load.{Load}
-use Rattle.demand.specs.Supply.{supply}
+use Rattle.demand.specs.Supply.{supplyPast, supply}
 use Rattle.search.specs.Search.{firstUpTo}
+use Rattle.steps.specs.Stepping.{steps}
+use Rattle.slack.specs.Least.{leastUpTo}
+use Rattle.slack.specs.Slack.{slack}
+use Rattle.verdict.specs.declared.answer.Reading.{Reading}
 use Rattle.verdict.specs.declared.answer.Verdict.{Verdict}
 use Rattle.verdict.specs.declared.answer.Verdict.the-variants.{Yes, No}
 
@@ -19,17 +24,34 @@ failing g S L R t = ltb (supply S L R t) (g t)
 unfoldable pub firstFailing : (g : ℕ → ℕ) → (H S L R : ℕ) → ℕ
 firstFailing g H S L R = firstUpTo (failing g S L R) H
 
--- yes for 0; no for a failing length, with the demand and the supply there
-unfoldable pub verdictAt : (g : ℕ → ℕ) → (S L R t : ℕ) → Verdict
-verdictAt g S L R zero = Yes (record { length = 0; demand = 0; supply = 0 })
-verdictAt g S L R (suc t) = No (record { length = suc t; demand = g (suc t); supply = supply S L R (suc t) })
+-- the smallest length up to H with the smallest slack, of those where the demand steps; 0 where it never does
+unfoldable pub closest : (g : ℕ → ℕ) → (H S L R : ℕ) → ℕ
+closest g H S L R = leastUpTo (steps g) (slack g S L R) H
+
+-- a length with the demand and the supply there
+unfoldable pub readingAt : (g : ℕ → ℕ) → (S L R t : ℕ) → Reading
+readingAt g S L R t = record { length = t; demand = g t; supply = supply S L R t }
+
+-- the same past a gap of f
+unfoldable pub readingPast : (g : ℕ → ℕ) → (S f t : ℕ) → Reading
+readingPast g S f t = record { length = t; demand = g t; supply = supplyPast S f t }
+
+-- yes where no length fails, else no
+unfoldable pub verdictAt : (g : ℕ → ℕ) → (H S L R : ℕ) → (failing : ℕ) → Verdict
+verdictAt g H S L R zero = Yes (readingAt g S L R (closest g H S L R))
+verdictAt g H S L R (suc t) = No (readingAt g S L R (suc t))
 
 unfoldable pub verdictOf : (g : ℕ → ℕ) → (H S L R : ℕ) → Verdict
-verdictOf g H S L R = verdictAt g S L R (firstFailing g H S L R)
+verdictOf g H S L R = verdictAt g H S L R (firstFailing g H S L R)
 
 abbrev pub isYes : Verdict → Bool
 isYes (Yes r) = true
 isYes (No r) = false
+
+-- the reading that it carries
+abbrev pub readingOf : Verdict → Reading
+readingOf (Yes r) = r
+readingOf (No r) = r
 
 -- the verdict is yes
 unfoldable pub passing : (g : ℕ → ℕ) → (H S L R : ℕ) → Bool

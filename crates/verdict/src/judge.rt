@@ -4,11 +4,13 @@ use crate::answer::Reading;
 use crate::answer::Verdict;
 use search::first_short;
 use search::last_short;
+use slack::closest;
 ghost use mathlib.Core.Path.{_≡_};
+ghost use Prim.Native.Nat.{_<_, _≤_, _^_};
 ghost use Rattle.demand.specs.Load.{Loaded, loadsOf};
 ghost use Rattle.demand.specs.Demand.{demand};
 ghost use Rattle.demand.specs.Supply.{Allowed};
-ghost use Rattle.verdict.specs.Verdict.{Testable, passing, verdictOf};
+ghost use Rattle.verdict.specs.Verdict.{Testable, passing, readingPast, verdictOf};
 
 pub fn passes(loads: &[u64], n: usize, slot: u64, loss: u64, reserve: u64, horizon: u64) -> bool
     requires { ⌜ Loaded (now loads) n ⌝ }
@@ -21,6 +23,21 @@ pub fn passes(loads: &[u64], n: usize, slot: u64, loss: u64, reserve: u64, horiz
     last == 0
 }
 
+// A length with the demand and the supply there.
+fn reading(loads: &[u64], n: usize, slot: u64, gap: u64, length: u64) -> Reading
+    requires { ⌜ Loaded (now loads) n × (length < 2 ^ 36) ⌝ }
+    requires { ⌜ (1 ≤ slot) × (gap ≤ slot) ⌝ }
+    ensures { λ r. ⌜ r ≡ readingPast (demand (loadsOf (now (loads .entry)) n)) slot gap length ⌝ }
+{
+    let asked = demand::demand_at(loads, n, length);
+    let supply = demand::supply_at(slot, gap, length);
+    Reading {
+        length,
+        demand: asked,
+        supply,
+    }
+}
+
 pub fn verdict(loads: &[u64], n: usize, slot: u64, loss: u64, reserve: u64, horizon: u64) -> Verdict
     requires { ⌜ Loaded (now loads) n ⌝ }
     requires { ⌜ Testable horizon slot loss ⌝ }
@@ -28,19 +45,10 @@ pub fn verdict(loads: &[u64], n: usize, slot: u64, loss: u64, reserve: u64, hori
     ensures { λ r. ⌜ r ≡ verdictOf (demand (loadsOf (now (loads .entry)) n)) horizon slot loss reserve ⌝ }
 {
     let gap = demand::gap_of(slot, loss, reserve);
-    let length = first_short(loads, n, slot, gap, 0, 0, horizon);
-    if length == 0 {
-        return Verdict::Yes(Reading {
-            length: 0,
-            demand: 0,
-            supply: 0,
-        });
+    let failing = first_short(loads, n, slot, gap, 0, 0, horizon);
+    if failing == 0 {
+        let close = closest(loads, n, slot, gap, horizon);
+        return Verdict::Yes(reading(loads, n, slot, gap, close));
     }
-    let asked = demand::demand_at(loads, n, length);
-    let supply = demand::supply_at(slot, gap, length);
-    Verdict::No(Reading {
-        length,
-        demand: asked,
-        supply,
-    })
+    Verdict::No(reading(loads, n, slot, gap, failing))
 }
