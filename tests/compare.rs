@@ -111,7 +111,8 @@ fn most_servers() {
     }
     let file = oracle::file(&set).into_bytes();
     assert_eq!(plan_text(&file).len(), 23 + 64 * 21 + 64 * 7 + 33 * 13);
-    assert_eq!((who(&file, 33, u64::MAX).0, pass(&file, 64, 1440)), (0, (0, [1, 0, 0, 0])));
+    // Server 64 has the last task alone, and is closest at its deadline.
+    assert_eq!((who(&file, 33, u64::MAX).0, pass(&file, 64, 1440)), (0, (0, [1, 43200, 21601, 43200])));
 }
 
 fn who_runs() {
@@ -143,7 +144,7 @@ fn who_runs() {
 fn does_pass() {
     let mut random = Random(15);
     let mut asked = 0;
-    while asked < 300 {
+    while asked < 1000 {
         let set = good(&mut random);
         let plan = match oracle::plan(&set) {
             Ok(plan) => plan,
@@ -157,16 +158,43 @@ fn does_pass() {
                 let expected = if q == 0 || q > plan.reserves.len() || !allowed {
                     (11 * 256, [0xA5; 4])
                 } else {
-                    let loads = plan.members_loads(q);
-                    match oracle::first_failing(&loads, set.s, plan.loss, r) {
-                        None => (0, [1, 0, 0, 0]),
-                        Some(t) => (0, [0, t, oracle::demand(&loads, t), oracle::supply(set.s, plan.loss, r, t)]),
-                    }
+                    (0, oracle::verdict(&plan.members_loads(q), set.s, plan.loss, r))
                 };
                 assert_eq!(pass(&file, q as u64, r), expected, "server {} reserve {}\n{}", q, r, oracle::file(&set));
             }
         }
     }
+}
+
+// Horizons of some millions of ticks: each server with its reserve, one tick less and more, a whole processor, and some others.
+fn long_horizons() {
+    let mut random = Random(18);
+    let mut later = 0;
+    for i in 0..100 {
+        let horizon = [9_979_200, 9_990_000, 10_000_000][i % 3];
+        let periods: Vec<u64> = (20_000..=1_000_000).filter(|d| horizon % d == 0).collect();
+        let mut set = Set { m: 64, s: random.one(&[40, 80, 400]), resd: random.within(0, 3), ..Set::default() };
+        for id in 0..random.within(2, 16) {
+            let t = random.one(&periods);
+            let d = random.within(t / 2, t);
+            set.tasks.push(Task { id, c: random.within(1, d / 8), d, t });
+        }
+        let (file, plan) = match oracle::plan(&set) {
+            Ok(plan) => (oracle::file(&set).into_bytes(), plan),
+            Err(_) => continue,
+        };
+        for (q, own) in plan.reserves.iter().enumerate() {
+            let loads = plan.members_loads(q + 1);
+            let mut reserves = vec![own - 1, *own, own + 1, set.s];
+            reserves.extend((0..8).map(|_| random.within(1, set.s)));
+            for r in reserves.into_iter().filter(|r| *r == set.s || (plan.loss < *r && *r < set.s)) {
+                let expected = oracle::verdict(&loads, set.s, plan.loss, r);
+                assert_eq!(pass(&file, q as u64 + 1, r), (0, expected), "server {} reserve {}\n{}", q + 1, r, oracle::file(&set));
+                later += (expected[0] == 1 && expected[1] > loads.iter().map(|l| l.d).min().unwrap()) as u32;
+            }
+        }
+    }
+    assert!(later > 200, "only {} answers named a length past the first deadline", later);
 }
 
 // The note's promise, on the rota as the tool tells it tick by tick: no server on two processors, R ticks in any slot.
@@ -210,6 +238,7 @@ fn main() {
         ("64 servers", most_servers),
         ("who runs", who_runs),
         ("does it pass", does_pass),
+        ("does it pass, long horizons", long_horizons),
         ("one processor a server", one_processor_a_server),
     ]);
 }

@@ -174,11 +174,7 @@ fn passes(set: &Set, plan: &Plan, q: u64, r: u64) -> Option<[u64; 4]> {
     if q < 1 || q > plan.reserves.len() as u64 || !allowed {
         return None;
     }
-    let loads = plan.members_loads(q as usize);
-    Some(match oracle::first_failing(&loads, set.s, plan.loss, r) {
-        None => [1, 0, 0, 0],
-        Some(t) => [0, t, oracle::demand(&loads, t), oracle::supply(set.s, plan.loss, r, t)],
-    })
+    Some(oracle::verdict(&plan.members_loads(q as usize), set.s, plan.loss, r))
 }
 
 // A set as numbers, its unused room at zero.

@@ -1,5 +1,5 @@
-// An independent account of document 01, by the slowest plain means: no search skips a length, the ring is an array of
-// positions, a line is a split string. The outside tests hold the proved tool to it.
+// An independent account of document 01, and of what document 02 asks for since, by the slowest plain means: no search skips
+// a length, the ring is an array of positions, a line is a split string. The outside tests hold the proved tool to it.
 #![allow(dead_code)]
 
 #[derive(Clone, Debug, PartialEq)]
@@ -167,6 +167,22 @@ pub fn first_failing(loads: &[Load], s: u64, l: u64, r: u64) -> Option<u64> {
         }
     }
     worst
+}
+
+// The smallest length with the least to spare, by looking at every step of every load up to three horizons.
+pub fn closest(loads: &[Load], s: u64, l: u64, r: u64) -> u64 {
+    let h = lcm(s, loads.iter().map(|x| x.t)) as u64;
+    let steps = loads.iter().flat_map(|load| (load.d..=3 * h).step_by(load.t as usize));
+    steps.map(|t| (supply(s, l, r, t) - demand(loads, t), t)).min().unwrap().1
+}
+
+// 1 for yes, 0 for no; the length that it is said of, the demand and the supply there.
+pub fn verdict(loads: &[Load], s: u64, l: u64, r: u64) -> [u64; 4] {
+    let (yes, t) = match first_failing(loads, s, l, r) {
+        None => (1, closest(loads, s, l, r)),
+        Some(t) => (0, t),
+    };
+    [yes, t, demand(loads, t), supply(s, l, r, t)]
 }
 
 #[derive(Clone, Debug)]

@@ -42,12 +42,8 @@ static void tell_pass(size_t n)
         tell_refusal("pass", status);
         return;
     }
-    if (answer[0] == 1) {
-        printf("server 1 passes with its slot\n");
-        return;
-    }
-    printf("server 1 fails at length %" PRIu64 ": demand %" PRIu64 ", supply %" PRIu64 "\n",
-           answer[1], answer[2], answer[3]);
+    printf("server 1 %s at length %" PRIu64 ": demand %" PRIu64 ", supply %" PRIu64 "\n",
+           answer[0] == 1 ? "passes with its slot, closest" : "fails", answer[1], answer[2], answer[3]);
 }
 
 int main(void)

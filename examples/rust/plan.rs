@@ -56,8 +56,10 @@ fn main() -> std::io::Result<()> {
         Err(Refusal(number, place)) => println!("who: refusal {number} at {place}"),
     }
     match pass(&tasks, 1, slot_of(&tasks)) {
-        Ok([1, ..]) => println!("server 1 passes with its slot"),
-        Ok([_, length, demand, supply]) => println!("server 1 fails at length {length}: demand {demand}, supply {supply}"),
+        Ok([yes, length, demand, supply]) => {
+            let how = if yes == 1 { "passes with its slot, closest" } else { "fails" };
+            println!("server 1 {how} at length {length}: demand {demand}, supply {supply}");
+        }
         Err(Refusal(number, place)) => println!("pass: refusal {number} at {place}"),
     }
     Ok(())
