@@ -1,5 +1,6 @@
-// The search for a short length: the proved descent against a plain walk over all steps, on the same servers in one run.
-// Evaluations of demand are counted in a Rust copy of the descent, whose answers are held to the proved one's.
+// The search for a short length, and for the length with the least to spare: each proved descent against a plain walk over all
+// steps, on the same servers in one run. The lengths that a descent looks at are counted in a Rust copy of it, whose answers are
+// held to the proved one's.
 mod random;
 
 use random::Random;
@@ -8,6 +9,7 @@ use std::time::Instant;
 
 extern "C" {
     fn probe_last_short(loads: *const u64, loads_len: usize, n: usize, slot: u64, gap: u64, hi: u64) -> u64;
+    fn probe_closest(loads: *const u64, loads_len: usize, n: usize, slot: u64, gap: u64, hi: u64) -> u64;
 }
 
 // The loads stand in one row of numbers, as the search takes them: cost, deadline, period.
@@ -92,6 +94,59 @@ impl Server {
             )
         }
     }
+
+    fn spare(&self, t: u64) -> u64 {
+        self.supply(t) - self.demand(t)
+    }
+
+    fn last_step(&self, hi: u64) -> u64 {
+        self.loads.chunks_exact(3).filter(|load| load[1] <= hi).map(|load| hi - (hi - load[1]) % load[2]).max().unwrap()
+    }
+
+    // The smallest step with the least to spare, and how many lengths were looked at.
+    fn close_descent(&self) -> (u64, u64) {
+        let usable = self.slot - self.gap;
+        let mut best = self.loads.chunks_exact(3).map(|load| load[1]).min().unwrap();
+        let (mut least, mut t, mut supply) = (self.spare(best), self.horizon, self.supply(self.horizon));
+        let (mut w, mut looked) = (self.demand(t), 2);
+        while w > 0 {
+            if supply > w + least {
+                supply = w + least;
+            } else {
+                best = self.last_step(t);
+                looked += 1;
+                least = self.supply(best) - w;
+                supply = self.supply(best) - 1;
+            }
+            t = supply / usable * self.slot + self.gap + supply % usable;
+            w = self.demand(t);
+            looked += 1;
+        }
+        (best, looked)
+    }
+
+    // As for `proved`; and every server that is asked this passes.
+    fn proved_close(&self) -> u64 {
+        unsafe {
+            probe_closest(
+                self.loads.as_ptr(), self.loads.len(), self.loads.len() / 3, self.slot, self.gap, self.horizon,
+            )
+        }
+    }
+
+    // With the largest gap with which it passes: the smallest reserve.
+    fn tight(mut self, name: &'static str) -> Server {
+        let (mut passes, mut fails) = (0, self.slot);
+        while passes + 1 < fails {
+            self.gap = (passes + fails) / 2;
+            if self.descent().0 == 0 {
+                passes = self.gap;
+            } else {
+                fails = self.gap;
+            }
+        }
+        Server { name, gap: passes, ..self }
+    }
 }
 
 fn divisors(h: u64, low: u64, high: u64) -> Vec<u64> {
@@ -100,29 +155,34 @@ fn divisors(h: u64, low: u64, high: u64) -> Vec<u64> {
 
 const H: u64 = 9_979_200;
 
-// n loads with periods from the divisors of H, that use about `share` thousandths of the processor.
-fn server(random: &mut Random, name: &'static str, n: usize, share: u64, slot: u64, gap: u64) -> Server {
-    let periods_of = divisors(H, 2_000, 1_000_000);
+// 64 loads with periods from the divisors of H, that use about `share` thousandths of the processor, and deadlines from `due`
+// hundredths of the period on.
+fn loaded(random: &mut Random, name: &'static str, periods_of: &[u64], due: u64, share: u64, slot: u64, gap: u64) -> Server {
+    let n = 64;
     let mut s = Server::new(name, slot, gap, H);
     for _ in 0..n {
-        let period = random.one(&periods_of);
-        let cost = (period * share / 1000 / n as u64).max(1);
-        s.add(cost, random.within(cost.max(period / 2), period), period);
+        let period = random.one(periods_of);
+        let cost = (period * share / 1000 / n).max(1);
+        s.add(cost, random.within(cost.max(period * due / 100), period), period);
     }
     s
+}
+
+fn server(random: &mut Random, name: &'static str, share: u64, slot: u64, gap: u64) -> Server {
+    loaded(random, name, &divisors(H, 2_000, 1_000_000), 50, share, slot, gap)
 }
 
 fn servers() -> Vec<Server> {
     let mut random = Random(0x9E37_79B9_7F4A_7C15);
     let mut all = Vec::new();
     for _ in 0..5 {
-        all.push(server(&mut random, "random, 55 % of a reserve of 75 %", 64, 550, 1440, 360));
+        all.push(server(&mut random, "random, 55 % of a reserve of 75 %", 550, 1440, 360));
     }
     for _ in 0..3 {
-        all.push(server(&mut random, "random, 90 % of a whole processor", 64, 900, 1440, 0));
+        all.push(server(&mut random, "random, 90 % of a whole processor", 900, 1440, 0));
     }
     for _ in 0..3 {
-        all.push(server(&mut random, "just under the reserve's share, 749 of 750", 64, 749, 1440, 360));
+        all.push(server(&mut random, "just under the reserve's share, 749 of 750", 749, 1440, 360));
     }
     // Utilisation exactly 1: 64 loads of T/64, deadlines at the period.
     let mut full = Server::new("utilisation exactly 1", 1440, 0, H);
@@ -143,6 +203,23 @@ fn servers() -> Vec<Server> {
     all
 }
 
+// Where the least to spare is dear to find: a reserve that is just enough, and periods close to each other, so that many lengths
+// are about as close.
+fn close_servers() -> Vec<Server> {
+    let mut random = Random(0x2545_F491_4F6C_DD1D);
+    let near = divisors(H, 5_000, 10_000);
+    let mut all = servers();
+    for share in [300, 550, 900] {
+        all.push(server(&mut random, "random, the smallest reserve", share, 1440, 0).tight("random, the smallest reserve"));
+    }
+    for share in [300, 550, 750, 900] {
+        let s = loaded(&mut random, "periods 5,000 to 10,000", &near, 90, share, 4752, 475);
+        all.push(s.clone());
+        all.push(s.tight("the same, the smallest reserve"));
+    }
+    all
+}
+
 fn micros(mut run: impl FnMut()) -> f64 {
     let mut best = f64::MAX;
     for _ in 0..7 {
@@ -153,7 +230,7 @@ fn micros(mut run: impl FnMut()) -> f64 {
     best
 }
 
-fn main() {
+fn short_lengths() {
     println!("{:<44} {:>8} {:>8} {:>8} {:>11} {:>11} {:>9}", "server (64 loads)", "steps", "walked", "descent", "walk us", "proved us", "answer");
     for s in servers() {
         let steps: Vec<u64> = s.steps().into_iter().collect();
@@ -171,4 +248,28 @@ fn main() {
             s.name, steps.len(), walk_evaluations, evaluations, walk_time, proved_time, answer
         );
     }
+}
+
+fn close_lengths() {
+    println!("{:<44} {:>8} {:>8} {:>8} {:>9} {:>9} {:>9} {:>6}", "server (64 loads)", "steps", "test", "closest", "walk us", "test us", "close us", "ratio");
+    for s in close_servers() {
+        let steps: Vec<u64> = s.steps().into_iter().collect();
+        let walk = || steps.iter().map(|t| (s.spare(*t), *t)).min().unwrap().1;
+        let (answer, (descended, looked), (short, tested)) = (s.proved_close(), s.close_descent(), s.descent());
+        assert_eq!((short, walk(), descended), (0, answer, answer));
+        assert!(looked <= 3 * steps.len() as u64 + 2);
+        let walk_time = micros(|| assert_eq!(walk(), answer));
+        let test_time = micros(|| assert_eq!(s.proved(), 0));
+        let close_time = micros(|| assert_eq!(s.proved_close(), answer));
+        println!(
+            "{:<44} {:>8} {:>8} {:>8} {:>9.1} {:>9.1} {:>9.1} {:>6.1}",
+            s.name, steps.len(), tested, looked, walk_time, test_time, close_time, (test_time + close_time) / test_time
+        );
+    }
+}
+
+fn main() {
+    short_lengths();
+    println!("\nThe least to spare; ratio: the question, which tests and then looks for it, to the test alone.");
+    close_lengths();
 }
