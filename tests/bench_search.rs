@@ -103,10 +103,14 @@ impl Server {
         self.loads.chunks_exact(3).filter(|load| load[1] <= hi).map(|load| hi - (hi - load[1]) % load[2]).max().unwrap()
     }
 
-    // The smallest step with the least to spare, and how many lengths were looked at.
-    fn close_descent(&self) -> (u64, u64) {
+    fn first_step(&self) -> u64 {
+        self.loads.chunks_exact(3).map(|load| load[1]).min().unwrap()
+    }
+
+    // The smallest step with the least to spare, and how many lengths were looked at; what a first step has to spare is known.
+    fn close_descent(&self, first: u64) -> (u64, u64) {
         let usable = self.slot - self.gap;
-        let mut best = self.loads.chunks_exact(3).map(|load| load[1]).min().unwrap();
+        let mut best = first;
         let (mut least, mut t, mut supply) = (self.spare(best), self.horizon, self.supply(self.horizon));
         let (mut w, mut looked) = (self.demand(t), 2);
         while w > 0 {
@@ -251,25 +255,30 @@ fn short_lengths() {
 }
 
 fn close_lengths() {
-    println!("{:<44} {:>8} {:>8} {:>8} {:>9} {:>9} {:>9} {:>6}", "server (64 loads)", "steps", "test", "closest", "walk us", "test us", "close us", "ratio");
+    println!(
+        "{:<44} {:>8} {:>8} {:>8} {:>8} {:>9} {:>9} {:>9} {:>6}",
+        "server (64 loads)", "steps", "test", "closest", "from H", "walk us", "test us", "close us", "ratio"
+    );
     for s in close_servers() {
         let steps: Vec<u64> = s.steps().into_iter().collect();
         let walk = || steps.iter().map(|t| (s.spare(*t), *t)).min().unwrap().1;
-        let (answer, (descended, looked), (short, tested)) = (s.proved_close(), s.close_descent(), s.descent());
-        assert_eq!((short, walk(), descended), (0, answer, answer));
+        let (answer, (descended, looked), (short, tested)) = (s.proved_close(), s.close_descent(s.first_step()), s.descent());
+        let (from_horizon, looked_from_horizon) = s.close_descent(s.last_step(s.horizon));
+        assert_eq!((short, walk(), descended, from_horizon), (0, answer, answer, answer));
         assert!(looked <= 3 * steps.len() as u64 + 2);
         let walk_time = micros(|| assert_eq!(walk(), answer));
         let test_time = micros(|| assert_eq!(s.proved(), 0));
         let close_time = micros(|| assert_eq!(s.proved_close(), answer));
         println!(
-            "{:<44} {:>8} {:>8} {:>8} {:>9.1} {:>9.1} {:>9.1} {:>6.1}",
-            s.name, steps.len(), tested, looked, walk_time, test_time, close_time, (test_time + close_time) / test_time
+            "{:<44} {:>8} {:>8} {:>8} {:>8} {:>9.1} {:>9.1} {:>9.1} {:>6.1}",
+            s.name, steps.len(), tested, looked, looked_from_horizon, walk_time, test_time, close_time, (test_time + close_time) / test_time
         );
     }
 }
 
 fn main() {
     short_lengths();
-    println!("\nThe least to spare; ratio: the question, which tests and then looks for it, to the test alone.");
+    println!("\nThe least to spare. from H: the lengths looked at, had the search begun with what the horizon has to spare.");
+    println!("ratio: the question, which tests and then looks for the least to spare, to the test alone.");
     close_lengths();
 }
