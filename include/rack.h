@@ -5,8 +5,7 @@
  * memory is read or written only within its length, and what is written must not overlap what is read or what else
  * is written.
  *
- * A task file is the text of document 01: one 01 line, then 02 lines, in hexadecimal. Of a longer file only the
- * first 1,534 bytes are looked at, which is more than any good file has. */
+ * A task file is the text of document 01: one 01 line, then 02 lines, in hexadecimal. */
 #ifndef RACK_H
 #define RACK_H
 
@@ -21,6 +20,9 @@ extern "C" {
  * function calls itself and no call is indirect. What memcpy and memset take below their return address is assumed small
  * and not in it. */
 #define RACK_STACK_BYTES 32768
+
+/* Of a task file no more than this is looked at, which is more than any good file has: a caller need not read on. */
+#define RACK_TASKS_BYTES 1534
 
 /* The longest text that rack_plan stores. */
 #define RACK_PLAN_BYTES 2647

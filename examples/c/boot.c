@@ -7,7 +7,7 @@
 
 #define TICK 1000026
 
-static uint8_t tasks[4096];
+static uint8_t tasks[RACK_TASKS_BYTES];
 static uint8_t plan[RACK_PLAN_BYTES];
 static uint8_t list[RACK_SWITCHES_BYTES];
 

@@ -5,7 +5,7 @@
 #include <inttypes.h>
 #include <stdio.h>
 
-static uint8_t tasks[4096];
+static uint8_t tasks[RACK_TASKS_BYTES];
 static uint8_t text[RACK_PLAN_BYTES];
 
 static void tell_refusal(const char *question, uint64_t status)
