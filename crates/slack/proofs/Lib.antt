@@ -1,0 +1,2 @@
+pub mod LeastLaws
+pub mod Claims
