@@ -1,0 +1,97 @@
+-- Laws of the smallest number with the smallest value, over any property and any value: what is found, and that nothing else fits.
+-- Assumes nothing.
+use Prim.Native.Nat.{ℕ, zero, suc, _≤_, _<_}
+use native.Mathlib.Omega.{arith}
+use native.Mathlib.Nat.{le-suc-iff}
+use mathlib.Core.Path.{_≡_, refl, sym, ap, subst, _∙_}
+use mathlib.Core.Logic.{_⊎_, inl, inr, ⊎-elim}
+use mathlib.Core.Bool.{Bool, true, false, cond, _&&_}
+use lib.Dec.{ltb}
+use borrow.Author.Tests.{ltb-true, ltb-false}
+use Rattle.laws.proofs.Tests.{true-false}
+use Rattle.laws.proofs.Orders.{eq-by-cases}
+use Rattle.search.specs.Search.{NoneIn}
+use Rattle.search.proofs.Bounded.{none-more, none-has}
+use Rattle.slack.specs.Least.{lesser, leastUpTo, Least}
+
+module _ {p : ℕ → Bool} {v : ℕ → ℕ} {n : ℕ} where
+  -- the first number that has p is the least so far
+  least-begins : NoneIn p 0 n → p (suc n) ≡ true → Least p v (suc n) (suc n)
+  least-begins none has =
+      record {
+        there = omega arith;
+        within = omega arith;
+        has = has;
+        least = λ x a b e. ⊎-elim (λ h. none-has none a h e) (λ (q : x ≡ suc n). subst (λ (y : ℕ). v (suc n) ≤ v y) (sym q) (omega arith)) (le-suc-iff .0 b);
+        first = λ x a b e. none-has none a (omega arith) e;
+      }
+
+  -- a number with a smaller value takes the place of the least
+  least-moves : {t : ℕ} → Least p v n t → p (suc n) ≡ true → v (suc n) < v t → Least p v (suc n) (suc n)
+  least-moves {t} l has h =
+      record {
+        there = omega arith;
+        within = omega arith;
+        has = has;
+        least = λ x a b e. ⊎-elim (λ k. omega (arith, l .least x a k e)) (λ (q : x ≡ suc n). subst (λ (y : ℕ). v (suc n) ≤ v y) (sym q) (omega arith)) (le-suc-iff .0 b);
+        first = λ x a b e. omega (arith, l .least x a (omega arith) e);
+      }
+
+  -- and any other leaves it
+  least-stays : {t : ℕ} → Least p v n t → (p (suc n) ≡ true → v t ≤ v (suc n)) → Least p v (suc n) t
+  least-stays {t} l no-less =
+      record {
+        there = l .there;
+        within = omega (arith, l .within);
+        has = l .has;
+        least = λ x a b e.
+            ⊎-elim (λ k. l .least x a k e) (λ (q : x ≡ suc n). subst (λ (y : ℕ). v t ≤ v y) (sym q) (no-less (sym (ap p q) ∙ e))) (le-suc-iff .0 b);
+        first = l .first;
+      }
+
+-- 0 where nothing has p, and else the least
+pub least-view : (p : ℕ → Bool) (v : ℕ → ℕ) (n : ℕ) → ((leastUpTo p v n ≡ 0) × NoneIn p 0 n) ⊎ Least p v n (leastUpTo p v n)
+unfolding leastUpTo lesser
+least-view p v zero = inl (refl, λ x a b. absurd (omega arith))
+least-view p v (suc n) = by (leastUpTo p v n) (p (suc n)) refl (least-view p v n)
+  where
+    chosen : (t : ℕ) (c : Bool) → p (suc n) ≡ true → ltb (v (suc n)) (v t) ≡ c → Least p v n t → Least p v (suc n) (cond c (suc n) t)
+    chosen t true e d l = least-moves l e (ltb-true (v (suc n)) (v t) d)
+    chosen t false e d l = least-stays l (λ q. ltb-false (v (suc n)) (v t) d)
+
+    by : (t : ℕ) (b : Bool) → p (suc n) ≡ b → ((t ≡ 0) × NoneIn p 0 n) ⊎ Least p v n t
+        → ((lesser p v t (suc n) ≡ 0) × NoneIn p 0 (suc n)) ⊎ Least p v (suc n) (lesser p v t (suc n))
+    by zero true e (inl w) = inr (rw e (least-begins (w .1) e))
+    by zero false e (inl w) = inl (rw e, none-more (w .1) e)
+    by zero b e (inr l) = let h : 1 ≤ 0 = l .there in absurd (omega arith)
+    by (suc t) b e (inl w) = let h : suc t ≡ 0 = w .0 in absurd (omega arith)
+    by (suc t) true e (inr l) = inr (rw e (chosen (suc t) (ltb (v (suc n)) (v (suc t))) e refl l))
+    by (suc t) false e (inr l) = inr (rw e (least-stays l (λ q. true-false (sym q ∙ e))))
+
+pub least-none : (p : ℕ → Bool) (v : ℕ → ℕ) (n : ℕ) → NoneIn p 0 n → leastUpTo p v n ≡ 0
+least-none p v n none =
+    ⊎-elim (λ w. w .0) (λ l. none-has none (l .there) (l .within) (l .has)) (least-view p v n)
+
+pub least-zero : (p : ℕ → Bool) (v : ℕ → ℕ) (n : ℕ) → leastUpTo p v n ≡ 0 → NoneIn p 0 n
+least-zero p v n e =
+    ⊎-elim (λ w. w .1) (λ l. let h : 1 ≤ leastUpTo p v n = l .there in absurd (omega arith)) (least-view p v n)
+
+pub least-found : (p : ℕ → Bool) (v : ℕ → ℕ) (n t : ℕ) → leastUpTo p v n ≡ t → 1 ≤ t → Least p v n t
+least-found p v n t e h =
+    ⊎-elim (λ w. let z : leastUpTo p v n ≡ 0 = w .0 in absurd (omega arith)) (λ l. rw e at l) (least-view p v n)
+
+-- two leasts are one
+least-same : {p : ℕ → Bool} {v : ℕ → ℕ} {n t u : ℕ} → Least p v n t → Least p v n u → t ≡ u
+least-same {p} {v} {n} {t} {u} l k =
+    eq-by-cases t u
+    (λ (h : t < u). omega (arith, k .first t (l .there) h (l .has), l .least u (k .there) (k .within) (k .has)))
+    (λ (h : u < t). omega (arith, l .first u (k .there) h (k .has), k .least t (l .there) (l .within) (l .has)))
+
+pub least-is : (p : ℕ → Bool) (v : ℕ → ℕ) (n t : ℕ) → Least p v n t → leastUpTo p v n ≡ t
+least-is p v n t l =
+    ⊎-elim (λ w. none-has (w .1) (l .there) (l .within) (l .has)) (λ k. least-same k l) (least-view p v n)
+
+-- what is found lies within the bound
+pub least-within : (p : ℕ → Bool) (v : ℕ → ℕ) (n : ℕ) → leastUpTo p v n ≤ n
+least-within p v n =
+    ⊎-elim (λ w. let z : leastUpTo p v n ≡ 0 = w .0 in omega arith) (λ l. l .within) (least-view p v n)
