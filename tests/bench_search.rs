@@ -276,9 +276,32 @@ fn close_lengths() {
     }
 }
 
+// The most that the question looks at, by chance, to what the test does: many periods, deadlines, shares and reserves.
+fn most_lengths() {
+    let mut random = Random(7);
+    let slots = divisors(H, 2, 5_000);
+    let (mut tried, mut most) = (0, 0.0f64);
+    for _ in 0..4000 {
+        let low = random.one(&[10, 100, 1_000, 2_000, 5_000]);
+        let periods = divisors(H, low, random.one(&[2 * low, 10 * low, 100 * low]));
+        let (due, share, slot) = (random.one(&[20, 50, 90, 99]), random.within(50, 1000), random.one(&slots));
+        let s = loaded(&mut random, "by chance", &periods, due, share, slot, 0).tight("by chance");
+        for gap in [s.gap, s.gap * 9 / 10, s.gap / 2] {
+            let s = Server { gap, ..s.clone() };
+            let (short, tested) = s.descent();
+            if short == 0 {
+                tried += 1;
+                most = most.max(1.0 + s.close_descent(s.first_step()).1 as f64 / tested as f64);
+            }
+        }
+    }
+    println!("by chance, {} servers: lengths that the question looks at to those of the test, at most {:.1}", tried, most);
+}
+
 fn main() {
     short_lengths();
     println!("\nThe least to spare. from H: the lengths looked at, had the search begun with what the horizon has to spare.");
     println!("ratio: the question, which tests and then looks for the least to spare, to the test alone.");
     close_lengths();
+    most_lengths();
 }
