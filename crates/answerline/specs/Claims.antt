@@ -22,7 +22,7 @@ passes length demand supply = record { outcome = Done; verdict = Yes (record { l
 abbrev pub fails : (length demand supply : ℕ) → PassAnswer
 fails length demand supply = record { outcome = Done; verdict = No (record { length = length; demand = demand; supply = supply }) }
 
--- the lines of README's examples and of the outside tests, and one with the largest tick
+-- the lines of README's examples and of the outside tests, one with ticks to spare, and one with the largest tick
 abbrev pub ReadsSo : Type 0
 ReadsSo =
     (whoLine (stands 2 2) 2 0 ≡ bytesOf "server 2 runs on processor 2 at tick 0, 2 ticks left\n")
