@@ -73,8 +73,9 @@ uint64_t rack_who(const uint8_t *tasks, size_t tasks_len, uint64_t processor, ui
  * reserve             L + 1 to S - 1, or S
  * answer, answer_len  where the answer is stored, four numbers; answer_len counts numbers
  *
- * Answers 0 and stores answer[0], 1 for yes or 0 for no, and answer[1] to answer[3]: three zeros for yes; for no
- * the smallest length at which demand exceeds supply, the demand and the supply there.
+ * Answers 0 and stores answer[0], 1 for yes or 0 for no, answer[1], a length, answer[2], the demand there, and
+ * answer[3], the supply there. For yes: of the lengths where demand steps, that is, is more than at the length before,
+ * the smallest with the smallest supply - demand. For no: the smallest length at which demand exceeds supply.
  * Otherwise answers the refusal as number * 256 + place, and stores nothing: the file's or the planner's own
  * (1 to 10), 11 where the server is not there or the reserve not allowed, then 12 where answer_len is less than 4. */
 uint64_t rack_pass(const uint8_t *tasks, size_t tasks_len, uint64_t server, uint64_t reserve,

@@ -13,4 +13,4 @@ use Rattle.answerline.specs.Claims as claims
 
 pub ReadsSo : claims.ReadsSo
 unfolding standLine verdictLine said piece left decimalText digitsIn refusalText lineOf fields hex digitOf kindOf widthsOf
-ReadsSo = (refl, refl, refl, refl, refl, refl)
+ReadsSo = (refl, refl, refl, refl, refl, refl, refl)

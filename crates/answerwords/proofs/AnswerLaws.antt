@@ -8,7 +8,7 @@ use Rattle.verdict.specs.declared.answer.Reading.{Reading}
 use Rattle.verdict.specs.declared.answer.Verdict.{Verdict}
 use Rattle.verdict.specs.declared.answer.Verdict.the-variants.{Yes, No}
 use Rattle.wordline.specs.Words.{said}
-use Rattle.answerwords.specs.Answers.{idleWords, runsWords, yesWords, noWords, standLine, verdictLine}
+use Rattle.answerwords.specs.Answers.{idleWords, runsWords, yesWords, noWords, standLine, ticksToSpare, verdictLine}
 
 module _ (server left p x : ℕ) where
   pub idle-line : server ≡ 0 → said idleWords (p ∷ x ∷ left ∷ []) ≡ standLine server left p x
@@ -20,9 +20,11 @@ module _ (server left p x : ℕ) where
   runs-line e = rw (ne-eqb server 0 e)
 
 module _ {verdict : Verdict} {reading : Reading} (q R : ℕ) where
-  pub yes-line : verdict ≡ Yes reading → said yesWords (q ∷ R ∷ []) ≡ verdictLine verdict q R
+  pub yes-line : {spare : ℕ} → verdict ≡ Yes reading → spare ≡ ticksToSpare reading →
+      said yesWords (q ∷ R ∷ reading .length ∷ reading .demand ∷ reading .supply ∷ spare ∷ [])
+      ≡ verdictLine verdict q R
   unfolding verdictLine
-  yes-line e = rw e
+  yes-line e s = rw (e, s)
 
   pub no-line : verdict ≡ No reading →
       said noWords (q ∷ R ∷ reading .length ∷ reading .demand ∷ reading .supply ∷ [])

@@ -1,6 +1,6 @@
 -- An answer in one line of plain words, closed by an LF.
 -- README, "The two questions": these are the words that the program prints.
-use Prim.Native.Nat.{ℕ}
+use Prim.Native.Nat.{ℕ, _-_}
 use mathlib.Core.List.{List, [], _∷_}
 use mathlib.Core.Bool.{cond}
 use lib.Dec.{eqb}
@@ -18,7 +18,7 @@ abbrev pub runsWords : List ℕ
 runsWords = bytesOf "server # runs on processor # at tick #, # ticks left\n"
 
 abbrev pub yesWords : List ℕ
-yesWords = bytesOf "server # passes with reserve #\n"
+yesWords = bytesOf "server # passes with reserve #: closest at length #, demand #, supply #, ticks to spare #\n"
 
 abbrev pub noWords : List ℕ
 noWords = bytesOf "server # does not pass with reserve #: at length # demand # exceeds supply #\n"
@@ -31,8 +31,14 @@ standLine server left p x =
     (said idleWords (p ∷ x ∷ left ∷ []))
     (said runsWords (server ∷ p ∷ x ∷ left ∷ []))
 
--- whether server q passes with reserve R; where it does not, the smallest failing length, the demand and the supply there
+-- the supply less the demand, 0 where the demand is above it
+abbrev pub ticksToSpare : Reading → ℕ
+ticksToSpare reading = reading .supply - reading .demand
+
+-- whether server q passes with reserve R; then the length that the verdict carries, the demand and the supply there, and
+-- where it passes the ticks to spare
 unfoldable pub verdictLine : Verdict → (q R : ℕ) → List ℕ
-verdictLine (Yes reading) q R = said yesWords (q ∷ R ∷ [])
+verdictLine (Yes reading) q R =
+    said yesWords (q ∷ R ∷ reading .length ∷ reading .demand ∷ reading .supply ∷ ticksToSpare reading ∷ [])
 verdictLine (No reading) q R =
     said noWords (q ∷ R ∷ reading .length ∷ reading .demand ∷ reading .supply ∷ [])

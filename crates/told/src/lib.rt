@@ -43,12 +43,12 @@ pub fn tell(answer: &mut [u64], numbers: &[u64], outcome: Outcome) -> u64
     }
 }
 
-// 1 and three zeros for yes; 0, the smallest failing length, the demand and the supply there for no.
+// 1 for yes and 0 for no, then the length that the verdict carries, the demand and the supply there.
 pub fn numbers_of(verdict: Verdict) -> [u64; 4]
     ensures { λ r. ⌜ r ≡ verdictNumbers verdict ⌝ }
 {
     match verdict {
-        Verdict::Yes(_) => [1, 0, 0, 0],
+        Verdict::Yes(reading) => [1, reading.length, reading.demand, reading.supply],
         Verdict::No(reading) => [0, reading.length, reading.demand, reading.supply],
     }
 }

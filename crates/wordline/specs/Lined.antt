@@ -5,9 +5,9 @@ use lib.ListN.{length}
 use Rattle.refusals.specs.declared.Written.{Written}
 use Rattle.planfit.specs.Fit.{Fits}
 
--- the bytes of the longest line: 77 of words, with five numbers of 20 digits for their signs
+-- the bytes of the longest line: 90 of words, with six numbers of at most 20 digits for their signs
 abbrev pub longestLine : ℕ
-longestLine = 172
+longestLine = 204
 
 abbrev pub Lined : (buffer line : List ℕ) → Written → (after : List ℕ) → Type 0
 Lined buffer line answer after = Fits buffer line answer after × (length line ≤ longestLine)

@@ -12,7 +12,7 @@ ghost use Rattle.wordline.specs.Words.{signs, said};
 ghost use Rattle.wordline.specs.Lined.{longestLine, Lined};
 
 // No line is longer.
-pub const LONGEST: usize = 172;
+pub const LONGEST: usize = 204;
 
 // Each `#` of the words is the next of the numbers, in decimal. Answers how many bytes there are.
 pub fn put_words(out: &mut [u8], words: &[u8], numbers: &[u64]) -> usize

@@ -17,19 +17,22 @@ fit-words-requires-2 c κs = search needs
 
 returns : tie.Need-returns
 returns c =
-    let a = c .before .before .before .before .before .before .before .before .before .args in
-    lined-as (c .before .before .fit-words .ensures) (yes-line (a .server) (a .reserve) (c .before .before .before .before .before .before .enum-told .given .1))
+    let spared = c .before .before .before .before .before .before in
+    let yes = spared .before .before in
+    let a = yes .before .before .before .args in
+    lined-as (c .before .before .fit-words .ensures) (yes-line (a .server) (a .reserve) (yes .verdict .given .1) (spared .ticks-to-spare .ensures))
 
 returns-2 : tie.Need-returns-2
 returns-2 c =
     let a = c .before .before .before .before .before .before .before .before .before .before .args in
-    lined-as (c .before .before .fit-words2 .ensures) (no-line (a .server) (a .reserve) (c .before .before .before .before .before .before .before .verdict .given .1))
+    lined-as (c .before .before .fit-words2 .ensures) (no-line (a .server) (a .reserve) (c .before .before .before .before .before .before .before .verdict2 .given .1))
 
 pub fit-verdict-spec : {M : Type 1} → statement M
 fit-verdict-spec =
     tie.close
     (tie.spec
     (λ c. search needs)
+    (λ c κs. search needs)
     (λ c. search needs)
     (λ c. search needs)
     fit-words-requires
