@@ -11,14 +11,17 @@ pub fn first_step(loads: &[u64], n: usize, hi: u64) -> u64
     requires { ⌜ Loaded (now loads) n × (hi < 2 ^ 36) ⌝ }
     ensures { λ r. ⌜ r ≡ firstUpTo (steps (demand (loadsOf (now (loads .entry)) n))) hi ⌝ }
 {
-    let mut first: u64 = 0;
+    let mut first = hi + 1;
     let mut i: usize = 0;
     while i < n {
         let d = loads[3 * i + 1];
-        if d <= hi && (first == 0 || d < first) {
+        if d < first {
             first = d;
         }
         i += 1;
+    }
+    if hi < first {
+        return 0;
     }
     first
 }
@@ -31,9 +34,10 @@ pub fn last_step(loads: &[u64], n: usize, hi: u64) -> u64
     let mut last: u64 = 0;
     let mut i: usize = 0;
     while i < n {
-        let d = loads[3 * i + 1];
+        let at = 3 * i;
+        let d = loads[at + 1];
         if d <= hi {
-            let own = hi - (hi - d) % loads[3 * i + 2];
+            let own = hi - (hi - d) % loads[at + 2];
             if last < own {
                 last = own;
             }

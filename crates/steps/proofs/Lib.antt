@@ -1,0 +1,4 @@
+pub mod StepLaws
+pub mod Claims
+pub mod FirstFound
+pub mod LastFound

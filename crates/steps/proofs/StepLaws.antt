@@ -1,0 +1,119 @@
+-- Laws of the lengths where a demand steps: what the test says, and that the demand of sound loads steps exactly where a deadline falls.
+-- Assumes nothing.
+use Prim.Native.Nat.{ℕ, zero, suc, _+_, _*_, _-_, _/_, _≤_, _<_}
+use mathlib.Core.Path.{_≡_, ap, _∙_}
+use mathlib.Core.Bool.{true, false}
+use mathlib.Core.Logic.{_⊎_, inl, inr, ⊎-elim}
+use mathlib.Core.List.{List, [], _∷_, _++_}
+use native.Mathlib.Nat.{add-lt-add-of-lt-of-le, add-lt-add-of-le-of-lt, mul-le-mul-left, mul-lt-mul-of-pos-left}
+use native.Mathlib.Omega.{arith}
+use lib.Arith.{digits-div}
+use borrow.Author.Tests.{lt-ltb, ltb-true, ltb-false}
+use Rattle.laws.proofs.Tests.{never-true}
+use Rattle.demand.specs.Load.{Load, Sound, Every}
+use Rattle.demand.specs.Demand.{jobs, demand}
+use Rattle.demand.specs.Steps.{StepOf, Some, Step}
+use Rattle.demand.proofs.Demand.{jobs-code, jobs-mono, demand-cons, demand-mono}
+use Rattle.demand.proofs.Steps.{rises-at}
+use Rattle.steps.specs.Stepping.{StepsAt, steps}
+
+-- ---- the test, of any demand
+
+module _ (g : ℕ → ℕ) (x : ℕ) where
+  pub does-step : StepsAt g x → steps g x ≡ true
+  unfolding steps
+  does-step h = lt-ltb (g (x - 1)) (g x) h
+
+  pub has-stepped : steps g x ≡ true → StepsAt g x
+  unfolding steps
+  has-stepped e = ltb-true (g (x - 1)) (g x) e
+
+  pub no-step-stays : steps g x ≡ false → g x ≤ g (x - 1)
+  unfolding steps
+  no-step-stays e = ltb-false (g (x - 1)) (g x) e
+
+-- a demand steps from 1 on
+steps-from : (g : ℕ → ℕ) (x : ℕ) → StepsAt g x → 1 ≤ x
+steps-from g zero h = absurd (omega arith)
+steps-from g (suc x) h = omega arith
+
+-- ---- one load
+
+-- at a deadline there is one job more than before
+jobs-step : (d T j : ℕ) → 1 ≤ d → d ≤ T → jobs d T (d + j * T - 1) < jobs d T (d + j * T)
+jobs-step d T j h g =
+    let before : d + j * T - 1 + T - d ≡ j * T + (T - 1) = omega arith in
+    let there : d + j * T + T - d ≡ (j + 1) * T + 0 = omega arith in
+    let old : jobs d T (d + j * T - 1) ≡ j =
+    jobs-code d T (d + j * T - 1) (omega arith) g ∙ ap (λ (n : ℕ). n / T) before ∙ digits-div j (omega arith) in
+    let new : jobs d T (d + j * T) ≡ j + 1 =
+    jobs-code d T (d + j * T) (omega arith) g ∙ ap (λ (n : ℕ). n / T) there ∙ digits-div (j + 1) (omega arith) in
+    omega arith
+
+-- so the load asks for more
+term-step : (l : Load) {x : ℕ} → Sound l → StepOf l x → l .cost * jobs (l .deadline) (l .period) (x - 1) < l .cost * jobs (l .deadline) (l .period) x
+term-step l s st =
+    rw (st .1) (mul-lt-mul-of-pos-left (jobs-step (l .deadline) (l .period) (st .0) (s .due) (s .constrained)) (s .some))
+
+term-mono : (l : Load) {t u : ℕ} → Sound l → t ≤ u → l .cost * jobs (l .deadline) (l .period) t ≤ l .cost * jobs (l .deadline) (l .period) u
+term-mono l s h = mul-le-mul-left (l .cost) (jobs-mono (l .deadline) (l .period) (omega arith) (s .constrained) h)
+
+-- ---- loads
+
+-- where a deadline falls the demand steps
+pub some-steps : (ls : List Load) (x : ℕ) → Every Sound ls → Some (λ (l : Load). StepOf l x) ls → StepsAt (demand ls) x
+some-steps [] x sound st = absurd st
+some-steps (l ∷ ls) x sound st =
+    rw (demand-cons l ls (x - 1), demand-cons l ls x)
+    (⊎-elim
+    (λ (a : StepOf l x). add-lt-add-of-lt-of-le (term-step l (sound .0) a) (demand-mono ls (sound .1) (omega arith)))
+    (λ (b : Some (λ (l : Load). StepOf l x) ls). add-lt-add-of-le-of-lt (term-mono l (sound .0) (omega arith)) (some-steps ls x (sound .1) b))
+    st)
+
+-- and it steps there only
+pub steps-some : (ls : List Load) (x : ℕ) → Every Sound ls → StepsAt (demand ls) x → Step ls x
+steps-some ls x sound h =
+    let e : suc (x - 1) ≡ x = omega (arith, steps-from (demand ls) x h) in
+    ⊎-elim
+    (λ (st : Step ls (suc (x - 1))). rw e at st)
+    (λ (n : demand ls (suc (x - 1)) ≤ demand ls (x - 1)). absurd (omega (arith, ap (demand ls) e)))
+    (rises-at ls sound (x - 1))
+
+-- the test of sound loads, by their deadlines
+module _ (ls : List Load) (x : ℕ) (sound : Every Sound ls) where
+  pub step-tested : Step ls x → steps (demand ls) x ≡ true
+  step-tested st = does-step (demand ls) x (some-steps ls x sound (st .1))
+
+  pub none-tested : (Step ls x → ⊥) → steps (demand ls) x ≡ false
+  none-tested none =
+      never-true (steps (demand ls) x) (λ (e : steps (demand ls) x ≡ true). none (steps-some ls x sound (has-stepped (demand ls) x e)))
+
+-- ---- one load more
+
+module _ (P : Load → Type 0) (l : Load) where
+  some-snoc : (ls : List Load) → Some P (ls ++ (l ∷ [])) → Some P ls ⊎ P l
+  some-snoc [] st = ⊎-elim (λ (a : P l). inr a) (λ (b : ⊥). absurd b) st
+  some-snoc (k ∷ ls) st =
+      ⊎-elim
+      (λ (a : P k). inl (inl a))
+      (λ (b : Some P (ls ++ (l ∷ []))). ⊎-elim (λ (c : Some P ls). inl (inr c)) (λ (c : P l). inr c) (some-snoc ls b))
+      st
+
+  snoc-front : (ls : List Load) → Some P ls → Some P (ls ++ (l ∷ []))
+  snoc-front [] st = absurd st
+  snoc-front (k ∷ ls) st = ⊎-elim (λ (a : P k). inl a) (λ (b : Some P ls). inr (snoc-front ls b)) st
+
+  snoc-last : (ls : List Load) → P l → Some P (ls ++ (l ∷ []))
+  snoc-last [] a = inl a
+  snoc-last (k ∷ ls) a = inr (snoc-last ls a)
+
+-- a step of the loads with one more is one of theirs, or its own
+pub step-snoc : (ls : List Load) (l : Load) (x : ℕ) → Step (ls ++ (l ∷ [])) x → Step ls x ⊎ StepOf l x
+step-snoc ls l x st =
+    ⊎-elim (λ (a : Some (λ (k : Load). StepOf k x) ls). inl (st .0, a)) (λ (b : StepOf l x). inr b) (some-snoc (λ (k : Load). StepOf k x) l ls (st .1))
+
+pub step-front : (ls : List Load) (l : Load) (x : ℕ) → Step ls x → Step (ls ++ (l ∷ [])) x
+step-front ls l x st = (st .0, snoc-front (λ (k : Load). StepOf k x) l ls (st .1))
+
+pub step-last : (ls : List Load) (l : Load) (x : ℕ) → Sound l → StepOf l x → Step (ls ++ (l ∷ [])) x
+step-last ls l x s st = (omega (arith, st .1), snoc-last (λ (k : Load). StepOf k x) l ls st)
