@@ -1,2 +1,3 @@
 pub mod LeastLaws
+pub mod Closing
 pub mod Claims

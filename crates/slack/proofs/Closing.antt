@@ -1,0 +1,174 @@
+-- The descent of `closest`, over any demand that never falls: why it may jump, and what holds at each turn.
+-- Assumes nothing.
+use Prim.Native.Nat.{ℕ, zero, suc, _+_, _-_, _≤_, _<_}
+use native.Mathlib.Omega.{arith}
+use native.Mathlib.Nat.{le-suc-iff, le-antisymm, eq-or-lt-of-le, eq-zero-or-pos}
+use mathlib.Core.Path.{_≡_, sym, ap, subst, _∙_}
+use mathlib.Core.Logic.{⊎-elim}
+use mathlib.Core.Bool.{Bool, true, false}
+use borrow.Author.Tests.{ltb-true, ltb-false}
+use Rattle.laws.proofs.Orders.{le-or-lt}
+use Rattle.demand.specs.Lawful.{Rising}
+use Rattle.demand.specs.Supply.{supplyPast}
+use Rattle.demand.proofs.Supply.{supply-mono}
+use Rattle.search.specs.Search.{NoneIn, Last, short, firstUpTo, lastUpTo}
+use Rattle.search.proofs.Bounded.{none-less, none-has, first-zero, first-found, last-zero, last-found}
+use Rattle.search.proofs.Reach.{lastWith, past-last, supply-at-last}
+use Rattle.steps.specs.Stepping.{steps}
+use Rattle.slack.specs.Least.{leastUpTo}
+use Rattle.slack.specs.Slack.{slackPast}
+use Rattle.slack.proofs.LeastLaws.{least-none, least-is}
+
+-- no length up to hi falls short
+abbrev pub Covered : (g : ℕ → ℕ) → (S f hi : ℕ) → Type 0
+Covered g S f hi = (x : ℕ) → x ≤ hi → g x ≤ supplyPast S f x
+
+pub covered : (g : ℕ → ℕ) (S f : ℕ) {hi : ℕ} → g 0 ≡ 0 → NoneIn (short g S f 0) 0 hi → Covered g S f hi
+unfolding short
+covered g S f e none zero h = omega arith
+covered g S f e none (suc x) h =
+    omega (arith, ltb-false (supplyPast S f (suc x)) (g (suc x) + 0) (none (suc x) (omega arith) h))
+
+module _ (g : ℕ → ℕ) where
+  -- a step is more than the length before
+  step-rises : (x : ℕ) → steps g x ≡ true → g (x - 1) < g x
+  unfolding steps
+  step-rises x e = ltb-true (g (x - 1)) (g x) e
+
+  no-rise : (x : ℕ) → steps g x ≡ false → g x ≤ g (x - 1)
+  unfolding steps
+  no-rise x e = ltb-false (g (x - 1)) (g x) e
+
+  -- where none steps the demand does not rise
+  no-steps : (a b : ℕ) → a ≤ b → NoneIn (steps g) a b → g b ≤ g a
+  no-steps zero zero h none = omega arith
+  no-steps (suc a) zero h none = absurd (omega arith)
+  no-steps a (suc b) h none =
+      ⊎-elim
+      (λ (p : a ≤ b).
+      let before : suc b - 1 ≡ b = omega arith in
+      omega (arith, ap g before, no-rise (suc b) (none (suc b) (omega arith) (omega arith)), no-steps a b p (none-less none (omega arith))))
+      (λ (q : a ≡ suc b). subst (λ (y : ℕ). g (suc b) ≤ g y) (sym q) (omega arith))
+      (le-suc-iff .0 h)
+
+  -- where something is asked at t there is a last step up to t
+  last-there : {t last : ℕ} → g 0 ≡ 0 → 0 < g t → last ≡ lastUpTo (steps g) t → Last (steps g) t last
+  last-there {t} {last} none some e =
+      ⊎-elim
+      (λ (z : last ≡ 0). absurd (omega (arith, no-steps 0 t (omega arith) (last-zero (steps g) t (sym e ∙ z)))))
+      (λ (h : 1 ≤ last). last-found (steps g) t last (sym e) h)
+      (eq-zero-or-pos last)
+
+  -- and the demand there is that at t
+  last-asks : {t last : ℕ} → Rising g → Last (steps g) t last → g last ≡ g t
+  last-asks {t} {last} rising l = le-antisymm (rising last t (l .within)) (no-steps last t (l .within) (l .after))
+
+-- a length with less supply lies before
+supply-below : (S f : ℕ) {t u : ℕ} → 1 ≤ S → supplyPast S f t < supplyPast S f u → t < u
+supply-below S f {t} {u} h less =
+    ⊎-elim (λ (p : u ≤ t). absurd (omega (arith, supply-mono S f h p))) (λ (q : t < u). q) (le-or-lt u t)
+
+-- what holds at each turn: supply is the supply at t; best is a step and least its slack; no step above t is closer, nor as close
+-- where it stands before best
+pub record Closing (g : ℕ → ℕ) (S f hi t supply best least : ℕ) : Type 0 where
+  pub within : t ≤ hi
+  pub supplied : supply ≡ supplyPast S f t
+  pub there : 1 ≤ best
+  pub best-within : best ≤ hi
+  pub has : steps g best ≡ true
+  pub spare : supplyPast S f best ≡ g best + least
+  pub above : (x : ℕ) → t < x → x ≤ hi → steps g x ≡ true → g x + least ≤ supplyPast S f x
+  pub before : (x : ℕ) → t < x → x < best → steps g x ≡ true → g x + least < supplyPast S f x
+
+-- what a turn leaves: the search goes on at the last length with supply v, which is below t
+abbrev pub Closer : (g : ℕ → ℕ) → (S f hi t v best least : ℕ) → Type 0
+Closer g S f hi t v best least = Closing g S f hi (lastWith S f v) v best least × (lastWith S f v < t)
+
+module _ (g : ℕ → ℕ) (S f hi : ℕ) where
+  pub closing-none : {best : ℕ} → best ≡ firstUpTo (steps g) hi → best ≡ 0 → 0 ≡ leastUpTo (steps g) (slackPast g S f) hi
+  closing-none e z = sym (least-none (steps g) (slackPast g S f) hi (first-zero (steps g) hi (sym e ∙ z)))
+
+  pub closing-starts : {best least supply : ℕ} → Covered g S f hi → best ≡ firstUpTo (steps g) hi → (best ≡ 0 → ⊥) →
+      least ≡ supplyPast S f best - g best → supply ≡ supplyPast S f hi → Closing g S f hi hi supply best least
+  closing-starts {best} all e some l s =
+      let found = first-found (steps g) hi best (sym e) (omega arith) in
+      record {
+        within = omega arith;
+        supplied = s;
+        there = found .1 .there;
+        best-within = found .0;
+        has = found .1 .has;
+        spare = omega (arith, all best (found .0));
+        above = λ x a b. absurd (omega arith);
+        before = λ x a b. absurd (omega (arith, found .0));
+      }
+
+module _ {g : ℕ → ℕ} {S f hi t supply best least : ℕ} (rising : Rising g) (c : Closing g S f hi t supply best least) where
+  -- where the demand at t is 0, none up to t steps
+  steps-above : g t ≡ 0 → (x : ℕ) → steps g x ≡ true → t < x
+  steps-above e x has =
+      ⊎-elim (λ (p : x ≤ t). absurd (omega (arith, step-rises g x has, rising x t p))) (λ (q : t < x). q) (le-or-lt x t)
+
+  pub closing-ends : g t ≡ 0 → best ≡ leastUpTo (steps g) (slackPast g S f) hi
+  unfolding slackPast
+  closing-ends e =
+      sym
+      (least-is (steps g) (slackPast g S f) hi best
+      (record {
+        there = c .there;
+        within = c .best-within;
+        has = c .has;
+        least = λ x a b has. omega (arith, c .spare, c .above x (steps-above e x has) b has);
+        first = λ x a b has. omega (arith, c .spare, c .before x (steps-above e x has) b has);
+      }))
+
+  -- one turn, in the code's terms, where the supply at t exceeds w + least: past the last length with that supply nothing is closer
+  pub closing-passes : (w : ℕ) → f < S → w ≡ g t → w + least < supply → Closer g S f hi t (w + least) best least
+  closing-passes w f<S e more =
+      let at-last = supply-at-last S f (w + least) f<S in
+      let falls : lastWith S f (w + least) < t = supply-below S f (omega arith) (omega (arith, at-last, c .supplied)) in
+      let new : (x : ℕ) → lastWith S f (w + least) < x → x ≤ t → g x + least < supplyPast S f x =
+      λ x a b. omega (arith, past-last S f (w + least) x f<S a, rising x t b) in (
+        record {
+          within = omega (arith, c .within);
+          supplied = sym at-last;
+          there = c .there;
+          best-within = c .best-within;
+          has = c .has;
+          spare = c .spare;
+          above = λ x a b has. ⊎-elim (λ (p : x ≤ t). omega (arith, new x a p)) (λ (q : t < x). c .above x q b has) (le-or-lt x t);
+          before = λ x a b has. ⊎-elim (λ (p : x ≤ t). new x a p) (λ (q : t < x). c .before x q b has) (le-or-lt x t);
+        },
+        falls,
+      )
+
+  -- and where it does not, the last step up to t is the closest so far: between the length that the search goes on at and that step,
+  -- the supply is no less, and the demand is
+  pub closing-moves : (w last : ℕ) → f < S → Covered g S f hi → g 0 ≡ 0 → w ≡ g t → 0 < w → supply ≤ w + least → last ≡ lastUpTo (steps g) t →
+      Closer g S f hi t (supplyPast S f last - 1) last (supplyPast S f last - w)
+  closing-moves w last f<S all none e some less el =
+      let l = last-there g {t = t} {last = last} none (omega arith) el in
+      let reached = supplyPast S f last in
+      let same : g last ≡ w = last-asks g rising l ∙ sym e in
+      let enough : w ≤ reached = omega (arith, all last (omega (arith, l .within, c .within))) in
+      let no-more : reached ≤ supply = omega (arith, c .supplied, supply-mono S f {t = last} {u = t} (omega arith) (l .within)) in
+      let at-last = supply-at-last S f (reached - 1) f<S in
+      let falls : lastWith S f (reached - 1) < last = supply-below S f (omega arith) (omega (arith, at-last)) in
+      let new : (x : ℕ) → lastWith S f (reached - 1) < x → x < last → g x + (reached - w) < supplyPast S f x =
+      λ x a b. omega (arith, past-last S f (reached - 1) x f<S a, rising x (last - 1) (omega arith), step-rises g last (l .has)) in
+      let its-own : (x : ℕ) → x ≡ last → g x + (reached - w) ≤ supplyPast S f x =
+      λ x q. omega (arith, ap g q, ap (supplyPast S f) q) in
+      let old : (x : ℕ) → last < x → x ≤ hi → steps g x ≡ true → g x + (reached - w) ≤ supplyPast S f x =
+      λ x a b has. ⊎-elim (λ (p : x ≤ t). none-has (l .after) a p has) (λ (q : t < x). omega (arith, c .above x q b has)) (le-or-lt x t) in (
+        record {
+          within = omega (arith, l .within, c .within);
+          supplied = sym at-last;
+          there = l .there;
+          best-within = omega (arith, l .within, c .within);
+          has = l .has;
+          spare = omega arith;
+          above = λ x a b has. ⊎-elim (λ (p : x ≤ last). ⊎-elim (its-own x) (λ (q : x < last). omega (arith, new x a q)) (eq-or-lt-of-le p)) (λ (q : last < x). old x q b has) (le-or-lt x last);
+          before = λ x a b has. new x a b;
+        },
+        omega (arith, l .within),
+      )
