@@ -2,11 +2,11 @@
 -- Assumes nothing.
 use Prim.Native.Nat.{ℕ, zero, suc, _+_, _-_, _≤_, _<_}
 use native.Mathlib.Omega.{arith}
-use native.Mathlib.Nat.{le-suc-iff, le-antisymm, eq-or-lt-of-le, eq-zero-or-pos}
-use mathlib.Core.Path.{_≡_, sym, ap, subst, _∙_}
+use native.Mathlib.Nat.{le-suc-iff, le-antisymm, le-of-eq, le-of-lt, eq-or-lt-of-le, eq-zero-or-pos}
+use mathlib.Core.Path.{_≡_, refl, sym, ap, subst, _∙_}
 use mathlib.Core.Logic.{⊎-elim}
 use mathlib.Core.Bool.{Bool, true, false}
-use borrow.Author.Tests.{ltb-true, ltb-false}
+use borrow.Author.Tests.{ltb-false}
 use Rattle.laws.proofs.Orders.{le-or-lt}
 use Rattle.demand.specs.Lawful.{Rising}
 use Rattle.demand.specs.Supply.{supplyPast}
@@ -15,6 +15,7 @@ use Rattle.search.specs.Search.{NoneIn, Last, short, firstUpTo, lastUpTo}
 use Rattle.search.proofs.Bounded.{none-less, none-has, first-zero, first-found, last-zero, last-found}
 use Rattle.search.proofs.Reach.{lastWith, past-last, supply-at-last}
 use Rattle.steps.specs.Stepping.{steps}
+use Rattle.steps.proofs.StepLaws.{has-stepped, no-step-stays}
 use Rattle.slack.specs.Least.{leastUpTo}
 use Rattle.slack.specs.Slack.{slackPast}
 use Rattle.slack.proofs.LeastLaws.{least-none, least-is}
@@ -30,15 +31,6 @@ covered g S f e none (suc x) h =
     omega (arith, ltb-false (supplyPast S f (suc x)) (g (suc x) + 0) (none (suc x) (omega arith) h))
 
 module _ (g : ℕ → ℕ) where
-  -- a step is more than the length before
-  step-rises : (x : ℕ) → steps g x ≡ true → g (x - 1) < g x
-  unfolding steps
-  step-rises x e = ltb-true (g (x - 1)) (g x) e
-
-  no-rise : (x : ℕ) → steps g x ≡ false → g x ≤ g (x - 1)
-  unfolding steps
-  no-rise x e = ltb-false (g (x - 1)) (g x) e
-
   -- where none steps the demand does not rise
   no-steps : (a b : ℕ) → a ≤ b → NoneIn (steps g) a b → g b ≤ g a
   no-steps zero zero h none = omega arith
@@ -47,7 +39,7 @@ module _ (g : ℕ → ℕ) where
       ⊎-elim
       (λ (p : a ≤ b).
       let before : suc b - 1 ≡ b = omega arith in
-      omega (arith, ap g before, no-rise (suc b) (none (suc b) (omega arith) (omega arith)), no-steps a b p (none-less none (omega arith))))
+      omega (arith, ap g before, no-step-stays g (suc b) (none (suc b) (omega arith) (omega arith)), no-steps a b p (none-less none (omega arith))))
       (λ (q : a ≡ suc b). subst (λ (y : ℕ). g (suc b) ≤ g y) (sym q) (omega arith))
       (le-suc-iff .0 h)
 
@@ -107,7 +99,7 @@ module _ {g : ℕ → ℕ} {S f hi t supply best least : ℕ} (rising : Rising g
   -- where the demand at t is 0, none up to t steps
   steps-above : g t ≡ 0 → (x : ℕ) → steps g x ≡ true → t < x
   steps-above e x has =
-      ⊎-elim (λ (p : x ≤ t). absurd (omega (arith, step-rises g x has, rising x t p))) (λ (q : t < x). q) (le-or-lt x t)
+      ⊎-elim (λ (p : x ≤ t). absurd (omega (arith, has-stepped g x has, rising x t p))) (λ (q : t < x). q) (le-or-lt x t)
 
   pub closing-ends : g t ≡ 0 → best ≡ leastUpTo (steps g) (slackPast g S f) hi
   unfolding slackPast
@@ -142,33 +134,55 @@ module _ {g : ℕ → ℕ} {S f hi t supply best least : ℕ} (rising : Rising g
         falls,
       )
 
-  -- and where it does not, the last step up to t is the closest so far: between the length that the search goes on at and that step,
-  -- the supply is no less, and the demand is
-  pub closing-moves : (w last : ℕ) → f < S → Covered g S f hi → g 0 ≡ 0 → w ≡ g t → 0 < w → supply ≤ w + least → last ≡ lastUpTo (steps g) t →
-      Closer g S f hi t (supplyPast S f last - 1) last (supplyPast S f last - w)
-  closing-moves w last f<S all none e some less el =
-      let l = last-there g {t = t} {last = last} none (omega arith) el in
-      let reached = supplyPast S f last in
-      let same : g last ≡ w = last-asks g rising l ∙ sym e in
-      let enough : w ≤ reached = omega (arith, all last (omega (arith, l .within, c .within))) in
-      let no-more : reached ≤ supply = omega (arith, c .supplied, supply-mono S f {t = last} {u = t} (omega arith) (l .within)) in
-      let at-last = supply-at-last S f (reached - 1) f<S in
-      let falls : lastWith S f (reached - 1) < last = supply-below S f (omega arith) (omega (arith, at-last)) in
-      let new : (x : ℕ) → lastWith S f (reached - 1) < x → x < last → g x + (reached - w) < supplyPast S f x =
-      λ x a b. omega (arith, past-last S f (reached - 1) x f<S a, rising x (last - 1) (omega arith), step-rises g last (l .has)) in
-      let its-own : (x : ℕ) → x ≡ last → g x + (reached - w) ≤ supplyPast S f x =
-      λ x q. omega (arith, ap g q, ap (supplyPast S f) q) in
-      let old : (x : ℕ) → last < x → x ≤ hi → steps g x ≡ true → g x + (reached - w) ≤ supplyPast S f x =
-      λ x a b has. ⊎-elim (λ (p : x ≤ t). none-has (l .after) a p has) (λ (q : t < x). omega (arith, c .above x q b has)) (le-or-lt x t) in (
-        record {
-          within = omega (arith, l .within, c .within);
-          supplied = sym at-last;
-          there = l .there;
-          best-within = omega (arith, l .within, c .within);
-          has = l .has;
-          spare = omega arith;
-          above = λ x a b has. ⊎-elim (λ (p : x ≤ last). ⊎-elim (its-own x) (λ (q : x < last). omega (arith, new x a q)) (eq-or-lt-of-le p)) (λ (q : last < x). old x q b has) (le-or-lt x last);
-          before = λ x a b has. new x a b;
-        },
-        omega (arith, l .within),
-      )
+-- and one where it does not: the last step up to t is the closest so far, since between it and the length that the search goes on at
+-- the supply is no less than there, and the demand is less
+module _
+    {g : ℕ → ℕ} {S f hi t supply best least : ℕ} (rising : Rising g) (none : g 0 ≡ 0) (all : Covered g S f hi) (c : Closing g S f hi t supply best least)
+    {w last reached : ℕ} (ew : w ≡ g t) (some : 0 < w) (el : last ≡ lastUpTo (steps g) t) (er : reached ≡ supplyPast S f last)
+  where
+    its-last : Last (steps g) t last
+    its-last = last-there g {t = t} none (omega arith) el
+
+    same : g last ≡ w
+    same = last-asks g rising its-last ∙ sym ew
+
+    pub last-covers : w ≤ reached
+    last-covers = omega (arith, same, all last (omega (arith, its-last .within, c .within)))
+
+    -- no step past the last one is closer than that
+    old : supply ≤ w + least → 1 ≤ S → (x : ℕ) → last < x → x ≤ hi → steps g x ≡ true → g x + (reached - w) ≤ supplyPast S f x
+    old less h x a b has =
+        ⊎-elim
+        (λ (p : x ≤ t). none-has (its-last .after) a p has)
+        (λ (q : t < x). omega (arith, c .above x q b has, c .supplied, supply-mono S f {t = last} {u = t} h (its-last .within)))
+        (le-or-lt x t)
+
+    -- and those before it are further away
+    new : f < S → (x : ℕ) → lastWith S f (reached - 1) < x → x < last → g x + (reached - w) < supplyPast S f x
+    new f<S x a b =
+        omega (arith, last-covers, same, past-last S f (reached - 1) x f<S a, rising x (last - 1) (omega arith), has-stepped g last (its-last .has))
+
+    its-own : {x : ℕ} → x ≡ last → g x + (reached - w) ≡ supplyPast S f x
+    its-own q = omega (arith, last-covers, same, ap g q, ap (supplyPast S f) q)
+
+    pub closing-moves : f < S → supply ≤ w + least → Closer g S f hi t (reached - 1) last (reached - w)
+    closing-moves f<S less =
+        let at-last = supply-at-last S f (reached - 1) f<S in
+        let falls : lastWith S f (reached - 1) < last = supply-below S f (omega arith) (omega (arith, at-last, last-covers)) in
+        let inside : last ≤ hi = omega (arith, its-last .within, c .within) in (
+          record {
+            within = omega arith;
+            supplied = sym at-last;
+            there = its-last .there;
+            best-within = inside;
+            has = its-last .has;
+            spare = sym (its-own refl);
+            above = λ x a b has.
+                ⊎-elim
+                (λ (p : x ≤ last). ⊎-elim (λ q. le-of-eq (its-own q)) (λ q. le-of-lt (new f<S x a q)) (eq-or-lt-of-le p))
+                (λ (q : last < x). old less (omega arith) x q b has)
+                (le-or-lt x last);
+            before = λ x a b has. new f<S x a b;
+          },
+          omega (arith, its-last .within),
+        )
