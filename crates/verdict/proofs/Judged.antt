@@ -9,14 +9,14 @@ use lib.Dec.{eqb}
 use borrow.Author.Tests.{eq-eqb, ne-eqb}
 use Rattle.demand.specs.Supply.{Ring, Allowed, gap}
 use Rattle.demand.proofs.Supply.{supply-gap, gap-below}
-use Rattle.search.specs.Search.{short, lastUpTo, firstUpTo, firstAfter, Last, Searched}
+use Rattle.search.specs.Search.{short, lastUpTo, firstUpTo, firstAfter, NoneIn, Last, Searched}
 use Rattle.steps.specs.Stepping.{steps}
 use Rattle.slack.specs.Least.{leastUpTo}
 use Rattle.slack.specs.Slack.{slack, slackPast}
 use Rattle.verdict.specs.Verdict.{failing, firstFailing, closest, readingAt, readingPast, passing, verdictOf, Testable}
 use Rattle.verdict.specs.declared.answer.Reading.{Reading}
 use Rattle.verdict.specs.declared.answer.Verdict.the-variants.{Yes, No}
-use Rattle.search.proofs.Bounded.{last-zero, last-found, none-has, after-all}
+use Rattle.search.proofs.Bounded.{last-zero, last-found, none-has, after-zero, after-all}
 use Rattle.verdict.proofs.Verdict.{zero-none, none-zero, passing-yes, passing-no, verdict-yes, verdict-no}
 
 -- with no extra, a length is short past the reserve's gap exactly when it fails
@@ -41,6 +41,10 @@ module _ {H S L R : ℕ} (testable : Testable H S L) (allowed : Allowed S L R) w
   -- enough to search up to a length
   pub searched : {f extra hi : ℕ} → f ≡ gap S L R → extra < 2 ^ 36 → hi < 2 ^ 36 → Searched S f extra hi
   searched e x h = record { usable = gap-usable e; small-extra = x; small = h }
+
+-- where the smallest short length is 0 nothing is short
+pub none-short : (g : ℕ → ℕ) (S f H : ℕ) {t : ℕ} → t ≡ firstAfter (short g S f 0) 0 H → t ≡ 0 → NoneIn (short g S f 0) 0 H
+none-short g S f H e z = after-zero (short g S f 0) 0 H (sym e ∙ z)
 
 -- f is the gap of the reserve, as the code has it
 module _ (g : ℕ → ℕ) (H L R : ℕ) {S f : ℕ} (slot : 1 ≤ S) (gapped : f ≡ gap S L R) where

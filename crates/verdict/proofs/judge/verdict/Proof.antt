@@ -2,15 +2,14 @@
 use Prim.Native.Nat.{ℕ}
 use native.Mathlib.Omega.{arith}
 use native.Mathlib.Nat.{le-of-lt}
-use mathlib.Core.Path.{sym, _∙_}
 use Rattle.demand.specs.Load.{loadsOf}
 use Rattle.demand.specs.Demand.{demand}
 use Rattle.search.specs.Search.{short}
-use Rattle.search.proofs.Bounded.{after-within, after-zero}
+use Rattle.search.proofs.Bounded.{after-within}
 use Rattle.steps.specs.Stepping.{steps}
 use Rattle.slack.specs.Slack.{slackPast}
 use Rattle.slack.proofs.LeastLaws.{least-within}
-use Rattle.verdict.proofs.Judged.{gap-asked, gap-usable, searched, judged-yes, judged-no}
+use Rattle.verdict.proofs.Judged.{gap-asked, gap-usable, searched, none-short, judged-yes, judged-no}
 use Rattle.verdict.proofs.judge.verdict.Statement.{statement}
 use Rattle.verdict.proofs.judge.verdict.Tie as tie
 
@@ -30,7 +29,7 @@ closest-requires : tie.Need-closest-requires
 closest-requires c κs =
     let s = c .before .before .before .before in
     let f = c .before .before .gap-of in
-    let none = after-zero (short (asked s) (s .args .slot) (f .result) 0) 0 (s .args .horizon) (sym (c .before .first-short .ensures) ∙ c .if1 .taken) in
+    let none = none-short (asked s) (s .args .slot) (f .result) (s .args .horizon) (c .before .first-short .ensures) (c .if1 .taken) in
     (s .pre .0, (searched (s .pre .1 .0) (s .pre .1 .1) (f .ensures) (omega arith) (omega (arith, s .pre .1 .0)), none))
 
 reading-requires : tie.Need-reading-requires
