@@ -5,7 +5,7 @@ use native.Mathlib.Omega.{arith}
 use native.Mathlib.Nat.{le-suc-iff, le-antisymm, le-of-eq, le-of-lt, eq-or-lt-of-le, eq-zero-or-pos}
 use mathlib.Core.Path.{_≡_, refl, sym, ap, subst, _∙_}
 use mathlib.Core.Logic.{⊎-elim}
-use mathlib.Core.Bool.{Bool, true, false}
+use mathlib.Core.Bool.{true}
 use borrow.Author.Tests.{ltb-false}
 use Rattle.laws.proofs.Orders.{le-or-lt}
 use Rattle.demand.specs.Lawful.{Rising}

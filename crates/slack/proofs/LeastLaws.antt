@@ -53,20 +53,23 @@ module _ {p : ℕ → Bool} {v : ℕ → ℕ} {n : ℕ} where
 pub least-view : (p : ℕ → Bool) (v : ℕ → ℕ) (n : ℕ) → ((leastUpTo p v n ≡ 0) × NoneIn p 0 n) ⊎ Least p v n (leastUpTo p v n)
 unfolding leastUpTo lesser
 least-view p v zero = inl (refl, λ x a b. absurd (omega arith))
-least-view p v (suc n) = by (leastUpTo p v n) (p (suc n)) refl (least-view p v n)
+least-view p v (suc n) = next (leastUpTo p v n) (least-view p v n)
   where
-    chosen : (t : ℕ) (c : Bool) → p (suc n) ≡ true → ltb (v (suc n)) (v t) ≡ c → Least p v n t → Least p v (suc n) (cond c (suc n) t)
-    chosen t true e d l = least-moves l e (ltb-true (v (suc n)) (v t) d)
-    chosen t false e d l = least-stays l (λ q. ltb-false (v (suc n)) (v t) d)
+    begun : (b : Bool) → p (suc n) ≡ b → NoneIn p 0 n → ((cond b (suc n) 0 ≡ 0) × NoneIn p 0 (suc n)) ⊎ Least p v (suc n) (cond b (suc n) 0)
+    begun true e none = inr (least-begins none e)
+    begun false e none = inl (refl, none-more none e)
 
-    by : (t : ℕ) (b : Bool) → p (suc n) ≡ b → ((t ≡ 0) × NoneIn p 0 n) ⊎ Least p v n t
+    chosen : (t : ℕ) (b c : Bool) → p (suc n) ≡ b → ltb (v (suc n)) (v t) ≡ c → Least p v n t → Least p v (suc n) (cond (b && c) (suc n) t)
+    chosen t true true e d l = least-moves l e (ltb-true (v (suc n)) (v t) d)
+    chosen t true false e d l = least-stays l (λ q. ltb-false (v (suc n)) (v t) d)
+    chosen t false c e d l = least-stays l (λ q. true-false (sym q ∙ e))
+
+    next : (t : ℕ) → ((t ≡ 0) × NoneIn p 0 n) ⊎ Least p v n t
         → ((lesser p v t (suc n) ≡ 0) × NoneIn p 0 (suc n)) ⊎ Least p v (suc n) (lesser p v t (suc n))
-    by zero true e (inl w) = inr (rw e (least-begins (w .1) e))
-    by zero false e (inl w) = inl (rw e, none-more (w .1) e)
-    by zero b e (inr l) = let h : 1 ≤ 0 = l .there in absurd (omega arith)
-    by (suc t) b e (inl w) = let h : suc t ≡ 0 = w .0 in absurd (omega arith)
-    by (suc t) true e (inr l) = inr (rw e (chosen (suc t) (ltb (v (suc n)) (v (suc t))) e refl l))
-    by (suc t) false e (inr l) = inr (rw e (least-stays l (λ q. true-false (sym q ∙ e))))
+    next zero (inl w) = begun (p (suc n)) refl (w .1)
+    next zero (inr l) = let h : 1 ≤ 0 = l .there in absurd (omega arith)
+    next (suc t) (inl w) = let h : suc t ≡ 0 = w .0 in absurd (omega arith)
+    next (suc t) (inr l) = inr (chosen (suc t) (p (suc n)) (ltb (v (suc n)) (v (suc t))) refl refl l)
 
 pub least-none : (p : ℕ → Bool) (v : ℕ → ℕ) (n : ℕ) → NoneIn p 0 n → leastUpTo p v n ≡ 0
 least-none p v n none =

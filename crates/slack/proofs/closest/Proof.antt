@@ -4,7 +4,6 @@ use Prim.Native.Nat.{ℕ, _+_, _-_, _^_, _≤_, _<_}
 use mathlib.Core.Path.{_≡_, ap₂}
 use mathlib.Core.Logic.{⊎-elim}
 use native.Mathlib.Omega.{arith}
-use borrow.Author.Needs.{needs}
 use Rattle.demand.specs.Load.{loadsOf}
 use Rattle.demand.specs.Demand.{demand}
 use Rattle.demand.specs.Supply.{supplyPast}
@@ -52,6 +51,12 @@ first-within c =
     let s = c .before .before in
     omega (arith, c .first-step .ensures, after-all (steps (asked s)) (s .args .hi), after-within (steps (asked s)) 0 (s .args .hi))
 
+-- at t the supply meets the demand
+met : (c : tie.At-loop Inv-loop μ-loop) → c .loop .w ≤ c .loop .supply
+met c =
+    let i = c .loop .inv in
+    omega (arith, i .1, i .0 .supplied, all (start c) (c .loop .t) (i .0 .within))
+
 -- demand and least slack are at most the lengths that they belong to
 room : (c : tie.In-loop Inv-loop μ-loop) → c .before .loop .w + c .before .loop .least < 2 ^ 37
 room c =
@@ -59,21 +64,25 @@ room c =
     let s = start (c .before) in
     omega (
       arith,
-      l .inv .1,
+      met (c .before),
+      l .inv .0 .supplied,
       l .inv .0 .within,
       l .inv .0 .best-within,
       l .inv .0 .spare,
       s .pre .1 .0 .small,
-      all s (l .t) (l .inv .0 .within),
       supply-within (s .args .slot) (s .args .gap) (l .t),
       supply-within (s .args .slot) (s .args .gap) (l .best),
     )
+
+-- in a turn something is asked
+some : (c : tie.In-loop Inv-loop μ-loop) → 0 < c .before .loop .w
+some c = omega (arith, c .loop-test .taken)
 
 sub-usable : tie.Need-sub-usable Inv-loop μ-loop
 sub-usable c = omega (arith, c .before .pre .1 .0 .usable)
 
 first-step-requires : tie.Need-first-step-requires Inv-loop μ-loop
-first-step-requires c κs = (c .before .pre .0, c .before .pre .1 .0 .small)
+first-step-requires c κs = (c .before .pre .0, omega (arith, c .before .pre .1 .0 .small))
 
 returns : tie.Need-returns Inv-loop μ-loop
 returns c =
@@ -124,18 +133,18 @@ last-step-requires c κs =
 supply-at-requires-3 : tie.Need-supply-at-requires-3 Inv-loop μ-loop
 supply-at-requires-3 c κs = enough (start (c .before .before .before))
 
--- at the last step up to t the supply meets the demand
-met : (c : tie.After-supply-at3 Inv-loop μ-loop) → c .before .before .before .before .loop .w ≤ c .supply-at3 .result
-met c =
+-- at the last step up to t too the supply meets the demand
+met-last : (c : tie.After-supply-at3 Inv-loop μ-loop) → c .before .before .before .before .loop .w ≤ c .supply-at3 .result
+met-last c =
     let l = c .before .before .before .before in
     let s = start l in
-    last-covers (rising s) (nothing s) (all s) (l .loop .inv .0) (l .loop .inv .1) (c .before .before .before .loop-test .taken) (c .before .last-step .ensures) (c .supply-at3 .ensures)
+    last-covers (rising s) (nothing s) (all s) (l .loop .inv .0) (l .loop .inv .1) (some (c .before .before .before)) (c .before .last-step .ensures) (c .supply-at3 .ensures)
 
 sub-least-2 : tie.Need-sub-least-2 Inv-loop μ-loop
-sub-least-2 c = met c
+sub-least-2 c = omega (arith, met-last c, met (c .before .before .before .before))
 
 sub-supply : tie.Need-sub-supply Inv-loop μ-loop
-sub-supply c = omega (arith, met c, c .before .before .before .loop-test .taken)
+sub-supply c = omega (arith, met-last c, some (c .before .before .before))
 
 -- the turn's jump, by either way
 turned : (c : tie.Joined2 Inv-loop μ-loop) →
@@ -147,10 +156,13 @@ turned c =
     let s = start l in
     let i = l .loop .inv in
     ⊎-elim
-    (λ w. rw (w .1, w .2, w .3) (closing-passes (rising s) (i .0) (l .loop .w) (s .pre .1 .0 .usable) (i .1) (w .0 .taken)))
     (λ w.
+    let more : l .loop .w + l .loop .least < l .loop .supply = omega (arith, w .0 .taken) in
+    rw (w .1, w .2, w .3) (closing-passes (rising s) (i .0) (l .loop .w) (s .pre .1 .0 .usable) (i .1) more))
+    (λ w.
+    let no-more : l .loop .supply ≤ l .loop .w + l .loop .least = omega (arith, w .0 .left) in
     rw (w .3, w .4, w .5)
-    (closing-moves (rising s) (nothing s) (all s) (i .0) (i .1) (c .before .loop-test .taken) (w .1 .ensures) (w .2 .ensures) (s .pre .1 .0 .usable) (w .0 .left)))
+    (closing-moves (rising s) (nothing s) (all s) (i .0) (i .1) (some (c .before)) (w .1 .ensures) (w .2 .ensures) (s .pre .1 .0 .usable) no-more))
     (c .if2 .came)
 
 -- so the sums and products on the way fit

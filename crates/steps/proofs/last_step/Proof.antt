@@ -4,7 +4,7 @@ use Prim.Native.Nat.{ℕ, _+_, _-_, _%_, _≤_, _<_}
 use mathlib.Core.Path.{_≡_}
 use mathlib.Core.Logic.{⊎-elim}
 use borrow.Author.Needs.{needs}
-use native.Mathlib.Nat.{mod-le}
+use native.Mathlib.Nat.{le-trans, mod-le}
 use native.Mathlib.Omega.{arith}
 use Rattle.demand.specs.Load.{Sound, loadAt, loadsOf}
 use Rattle.demand.proofs.Demand.{every-at, loads-next}
@@ -38,10 +38,7 @@ rem-own : tie.Need-rem-own Inv-loop μ-loop
 rem-own c = omega (arith, here (c .before .before .before))
 
 sub-own : tie.Need-sub-own Inv-loop μ-loop
-sub-own c =
-    let s = c .before .before .before .before in
-    let l = loadAt (s .before .args .loads .now) (s .loop .i) in
-    omega (arith, mod-le (s .before .args .hi - l .deadline) (l .period))
+sub-own c = le-trans (mod-le _ _) (omega arith)
 
 loop-again : tie.Need-loop-again Inv-loop μ-loop
 loop-again c =
