@@ -7,6 +7,7 @@ use native.Mathlib.Numerals.{unary-clauses}
 use mathlib.Core.Path.{_≡_, refl, subst}
 use mathlib.Core.Logic.{_⊎_, inl, inr, ⊎-elim}
 use mathlib.Core.Bool.{Bool, true, false}
+use Rattle.laws.proofs.Tests.{never-true}
 use Rattle.laws.proofs.Orders.{eq-by-cases, le-or-lt}
 use Rattle.demand.specs.Lawful.{Lawful}
 use Rattle.demand.specs.Supply.{supply}
@@ -52,7 +53,7 @@ none-asked g (suc n) e none =
 -- a demand that asks nothing never steps
 asked-none : (g : ℕ → ℕ) → ((x : ℕ) → g x ≡ 0) → (n : ℕ) → NoneIn (steps g) 0 n
 asked-none g never n x a b =
-    ⊎-elim (λ (e : steps g x ≡ true). absurd (omega (arith, has-stepped g x e, never x))) (λ e. e) (step-view g x)
+    never-true (steps g x) (λ (e : steps g x ≡ true). omega (arith, has-stepped g x e, never x))
 
 -- a lawful demand without a step up to its horizon asks nothing at any length
 pub never-asks : (g : ℕ → ℕ) (H : ℕ) → Lawful g H → NoneIn (steps g) 0 H → (t : ℕ) → g t ≡ 0

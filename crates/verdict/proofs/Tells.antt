@@ -124,6 +124,11 @@ pub closest-within : (g : ℕ → ℕ) (H S L R : ℕ) → closest g H S L R ≤
 unfolding closest
 closest-within g H S L R = least-within (steps g) (slack g S L R) H
 
+-- so is one that is closest of all
+pub told-within : (g : ℕ → ℕ) (H S L R t : ℕ) {w s : ℕ} → Lawful g H → 1 ≤ S → Passes g S L R → Closest g S L R t w s → t ≤ H
+told-within g H S L R t {w} {s} lawful slot passes c =
+    omega (arith, closest-is g H S L R t w s lawful slot passes c, closest-within g H S L R)
+
 first-within : (g : ℕ → ℕ) (H S L R : ℕ) → 1 ≤ firstFailing g H S L R → firstFailing g H S L R ≤ H
 unfolding firstFailing
 first-within g H S L R p =
