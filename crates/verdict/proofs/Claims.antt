@@ -9,9 +9,11 @@ use mathlib.Core.Bool.{false≢true}
 use Rattle.demand.specs.Supply.{Ring}
 use Rattle.search.specs.Search.{firstUpTo}
 use Rattle.verdict.specs.Reserve.{enough}
-use Rattle.verdict.specs.Claims.{AnyHorizon, OwnHorizon, PassingMeans, VerdictMeans, PassingStays, ReserveMeans, ReserveOne, OneLess}
+use Rattle.verdict.specs.Claims.{PassingMeans, VerdictMeans, ReadWithin, NothingAsked, ClosestOfAll, AnyHorizon, OwnHorizon, PassingStays, ReserveMeans, ReserveOne, OneLess}
 use Rattle.search.proofs.Bounded.{first-view}
-use Rattle.verdict.proofs.Verdict.{same-first, passes-zero, passing-passes, passes-passing, passing-rises, verdict-yes, no-fails, fails-no, is-yes}
+use Rattle.verdict.proofs.Verdict.{passing-passes, passes-passing, passing-rises}
+use Rattle.verdict.proofs.ClosestLaws.{none-closer}
+use Rattle.verdict.proofs.Tells.{yes-closest, closest-yes, no-fails, fails-no, same-verdict, verdict-within, never-yes}
 use Rattle.verdict.proofs.Horizons.{own-lawful}
 use Rattle.verdict.proofs.ReserveLaws.{reserve-whole, reserve-part, whole-smallest, part-smallest}
 
@@ -20,13 +22,24 @@ passing-means g H S L R lawful slot =
     (passing-passes g H S L R lawful slot, λ e passes. false≢true (sym e ∙ passes-passing g H S L R passes))
 
 pub verdict-means : VerdictMeans
-verdict-means g H S L R lawful slot = (
-  ((λ e. passing-passes g H S L R lawful slot (is-yes g H S L R e)), (λ passes. verdict-yes g H S L R (passes-zero g H S L R passes))),
-  λ t w s. (no-fails g H S L R t w s, fails-no g H S L R lawful slot t w s),
-)
+verdict-means g H S L R a lawful slot some =
+    record {
+      yes-means = λ t w s.
+          (yes-closest g H S L R a lawful slot some t w s, λ h. closest-yes g H S L R lawful slot t w s (h .0) (h .1));
+      no-means = λ t w s. (no-fails g H S L R t w s, fails-no g H S L R lawful slot t w s);
+    }
+
+pub read-within : ReadWithin
+read-within = verdict-within
+
+pub nothing-asked : NothingAsked
+nothing-asked = never-yes
+
+pub closest-of-all : ClosestOfAll
+closest-of-all = none-closer
 
 pub any-horizon : AnyHorizon
-any-horizon = same-first
+any-horizon = same-verdict
 
 pub own-horizon : OwnHorizon
 own-horizon = own-lawful

@@ -7,12 +7,16 @@ use mathlib.Core.Logic.{⊎-elim}
 use mathlib.Core.Bool.{Bool}
 use lib.Dec.{eqb}
 use borrow.Author.Tests.{eq-eqb, ne-eqb}
-use Rattle.demand.specs.Supply.{Ring, Allowed, gap, supplyPast, supply}
+use Rattle.demand.specs.Supply.{Ring, Allowed, gap}
 use Rattle.demand.proofs.Supply.{supply-gap, gap-below}
-use Rattle.search.specs.Search.{short, lastUpTo, firstUpTo, firstAfter, Last, Searched}
-use Rattle.verdict.specs.Verdict.{failing, firstFailing, passing, verdictOf, Testable}
+use Rattle.search.specs.Search.{short, lastUpTo, firstUpTo, firstAfter, NoneIn, Last, Searched}
+use Rattle.steps.specs.Stepping.{steps}
+use Rattle.slack.specs.Least.{leastUpTo}
+use Rattle.slack.specs.Slack.{slack, slackPast}
+use Rattle.verdict.specs.Verdict.{failing, firstFailing, closest, readingAt, readingPast, passing, verdictOf, Testable}
+use Rattle.verdict.specs.declared.answer.Reading.{Reading}
 use Rattle.verdict.specs.declared.answer.Verdict.the-variants.{Yes, No}
-use Rattle.search.proofs.Bounded.{last-zero, last-found, none-has, after-all}
+use Rattle.search.proofs.Bounded.{last-zero, last-found, none-has, after-zero, after-all}
 use Rattle.verdict.proofs.Verdict.{zero-none, none-zero, passing-yes, passing-no, verdict-yes, verdict-no}
 
 -- with no extra, a length is short past the reserve's gap exactly when it fails
@@ -37,6 +41,10 @@ module _ {H S L R : ℕ} (testable : Testable H S L) (allowed : Allowed S L R) w
   -- enough to search up to a length
   pub searched : {f extra hi : ℕ} → f ≡ gap S L R → extra < 2 ^ 36 → hi < 2 ^ 36 → Searched S f extra hi
   searched e x h = record { usable = gap-usable e; small-extra = x; small = h }
+
+-- where the smallest short length is 0 nothing is short
+pub none-short : (g : ℕ → ℕ) (S f H : ℕ) {t : ℕ} → t ≡ firstAfter (short g S f 0) 0 H → t ≡ 0 → NoneIn (short g S f 0) 0 H
+none-short g S f H e z = after-zero (short g S f 0) 0 H (sym e ∙ z)
 
 -- f is the gap of the reserve, as the code has it
 module _ (g : ℕ → ℕ) (H L R : ℕ) {S f : ℕ} (slot : 1 ≤ S) (gapped : f ≡ gap S L R) where
@@ -68,11 +76,22 @@ module _ (g : ℕ → ℕ) (H L R : ℕ) {S f : ℕ} (slot : 1 ≤ S) (gapped : 
       some : 1 ≤ r → eqb r 0 ≡ passing g H S L R
       some h = ne-eqb r 0 (λ z. absurd (omega arith)) ∙ sym (passing-no g H S L R (found h))
 
-  -- the answer where nothing is short, and at the smallest short length
-  pub judged-yes : {t : ℕ} → t ≡ firstAfter (short g S f 0) 0 H → t ≡ 0 → Yes (record { length = 0; demand = 0; supply = 0 }) ≡ verdictOf g H S L R
-  judged-yes e z = sym (verdict-yes g H S L R (first-failing e ∙ z))
+  -- past the gap the slack and the reading are those of the reserve
+  closest-past : leastUpTo (steps g) (slackPast g S f) H ≡ closest g H S L R
+  unfolding closest slack slackPast
+  closest-past =
+      let same : slackPast g S f ≡ slack g S L R = fun-ext (λ (t : ℕ). rw (supply-gap S L R t slot, gapped)) in
+      ap (λ (v : ℕ → ℕ). leastUpTo (steps g) v H) same
 
-  pub judged-no : {t w s : ℕ} → t ≡ firstAfter (short g S f 0) 0 H → (t ≡ 0 → ⊥) → w ≡ g t → s ≡ supplyPast S f t
-      → No (record { length = t; demand = w; supply = s }) ≡ verdictOf g H S L R
-  judged-no {t} e some w≡ s≡ =
-      rw (w≡, s≡, gapped, ← (supply-gap S L R t slot)) (sym (verdict-no g H S L R t (first-failing e) (omega arith)))
+  reading-past : (t : ℕ) → readingPast g S f t ≡ readingAt g S L R t
+  unfolding readingPast readingAt
+  reading-past t = rw (supply-gap S L R t slot, gapped)
+
+  -- the answer where nothing is short, and at the smallest short length
+  pub judged-yes : {t b : ℕ} {r : Reading} → t ≡ firstAfter (short g S f 0) 0 H → t ≡ 0 → b ≡ leastUpTo (steps g) (slackPast g S f) H
+      → r ≡ readingPast g S f b → Yes r ≡ verdictOf g H S L R
+  judged-yes {b = b} e z close read =
+      ap Yes (read ∙ reading-past b ∙ ap (readingAt g S L R) (close ∙ closest-past)) ∙ sym (verdict-yes g H S L R (first-failing e ∙ z))
+
+  pub judged-no : {t : ℕ} {r : Reading} → t ≡ firstAfter (short g S f 0) 0 H → (t ≡ 0 → ⊥) → r ≡ readingPast g S f t → No r ≡ verdictOf g H S L R
+  judged-no {t} e some read = ap No (read ∙ reading-past t) ∙ sym (verdict-no g H S L R t (first-failing e) (omega arith))

@@ -1,4 +1,6 @@
 pub mod Verdict
+pub mod ClosestLaws
+pub mod Tells
 pub mod ReserveLaws
 pub mod Horizons
 pub mod Claims

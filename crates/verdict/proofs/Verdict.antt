@@ -12,10 +12,7 @@ use Rattle.demand.specs.Passes.{Passes}
 use Rattle.demand.proofs.Claims.{demand-decides}
 use Rattle.demand.proofs.Reserve.{supply-rises}
 use Rattle.search.specs.Search.{NoneIn, First}
-use Rattle.verdict.specs.Verdict.{failing, firstFailing, verdictAt, verdictOf, isYes, passing}
-use Rattle.verdict.specs.Claims.{FailsFirst}
-use Rattle.verdict.specs.declared.answer.Reading.{Reading}
-use Rattle.verdict.specs.declared.answer.Verdict.{Verdict}
+use Rattle.verdict.specs.Verdict.{failing, firstFailing, closest, readingAt, verdictAt, verdictOf, isYes, passing}
 use Rattle.verdict.specs.declared.answer.Verdict.the-variants.{Yes, No}
 use Rattle.search.proofs.Bounded.{first-none, first-zero, first-found, first-view, first-same}
 
@@ -56,7 +53,7 @@ module _ (g : ℕ → ℕ) (H S L R : ℕ) where
   pub passes-zero : Passes g S L R → firstFailing g H S L R ≡ 0
   passes-zero passes = none-zero (passes-none g S L R passes H)
 
-  fails-first : (t : ℕ) → 1 ≤ t → firstFailing g H S L R ≡ t → First (failing g S L R) t
+  pub fails-first : (t : ℕ) → 1 ≤ t → firstFailing g H S L R ≡ t → First (failing g S L R) t
   unfolding firstFailing
   fails-first t h e = first-found (failing g S L R) H t e h .1
 
@@ -65,10 +62,10 @@ module _ (g : ℕ → ℕ) (H S L R : ℕ) (lawful : Lawful g H) (slot : 1 ≤ S
   none-passes : NoneIn (failing g S L R) 0 H → Passes g S L R
   none-passes none = demand-decides g S L R H slot lawful (λ t a b. has-held g S L R t (none t a b))
 
-  zero-passes : firstFailing g H S L R ≡ 0 → Passes g S L R
+  pub zero-passes : firstFailing g H S L R ≡ 0 → Passes g S L R
   zero-passes e = none-passes (zero-none g H S L R e)
 
-  first-fails : (t : ℕ) → First (failing g S L R) t → firstFailing g H S L R ≡ t
+  pub first-fails : (t : ℕ) → First (failing g S L R) t → firstFailing g H S L R ≡ t
   unfolding firstFailing
   first-fails t f =
       ⊎-elim (λ v. passes-first g S L R (none-passes (v .1)) f) (λ v. first-same (v .1) f) (first-view (failing g S L R) H)
@@ -81,22 +78,13 @@ same-first g H K S L R h k slot =
     (λ p. sym (first-fails g K S L R k slot (firstFailing g H S L R) (fails-first g H S L R (firstFailing g H S L R) p refl)))
     (eq-zero-or-pos (firstFailing g H S L R))
 
--- the reading that a verdict carries
-abbrev readingOf : Verdict → Reading
-readingOf (Yes r) = r
-readingOf (No r) = r
-
-abbrev zeros : Reading
-zeros = record { length = 0; demand = 0; supply = 0 }
-
 -- the verdict where no length fails
-pub verdict-yes : (g : ℕ → ℕ) (H S L R : ℕ) → firstFailing g H S L R ≡ 0 → verdictOf g H S L R ≡ Yes zeros
+pub verdict-yes : (g : ℕ → ℕ) (H S L R : ℕ) → firstFailing g H S L R ≡ 0 → verdictOf g H S L R ≡ Yes (readingAt g S L R (closest g H S L R))
 unfolding verdictOf verdictAt
 verdict-yes g H S L R e = rw e refl
 
 -- the verdict where t is the smallest failing length
-pub verdict-no : (g : ℕ → ℕ) (H S L R t : ℕ) → firstFailing g H S L R ≡ t → 1 ≤ t
-    → verdictOf g H S L R ≡ No (record { length = t; demand = g t; supply = supply S L R t })
+pub verdict-no : (g : ℕ → ℕ) (H S L R t : ℕ) → firstFailing g H S L R ≡ t → 1 ≤ t → verdictOf g H S L R ≡ No (readingAt g S L R t)
 unfolding verdictOf verdictAt
 verdict-no g H S L R zero e h = absurd (omega arith)
 verdict-no g H S L R (suc t) e h = rw e refl
@@ -110,7 +98,7 @@ unfolding passing
 passing-no g H S L R h = ap isYes (verdict-no g H S L R (firstFailing g H S L R) refl h)
 
 -- a verdict of yes comes from no failing length
-yes-zero : (g : ℕ → ℕ) (H S L R : ℕ) → passing g H S L R ≡ true → firstFailing g H S L R ≡ 0
+pub yes-zero : (g : ℕ → ℕ) (H S L R : ℕ) → passing g H S L R ≡ true → firstFailing g H S L R ≡ 0
 yes-zero g H S L R e =
     ⊎-elim (λ z. z) (λ h. absurd (false≢true (sym (passing-no g H S L R h) ∙ e))) (eq-zero-or-pos (firstFailing g H S L R))
 
@@ -128,37 +116,3 @@ passing-rises g H S L R R′ a a′ le e =
     passing-yes g H S L R′
     (none-zero g H S L R′
     (λ t h k. holds g S L R′ t (le-trans (has-held g S L R t (zero-none g H S L R (yes-zero g H S L R e) t h k)) (supply-rises S L R R′ t a a′ le))))
-
--- the verdict no, and the length that it tells
-pub no-fails : (g : ℕ → ℕ) (H S L R t w s : ℕ) → verdictOf g H S L R ≡ No (record { length = t; demand = w; supply = s }) → FailsFirst g S L R t w s
-no-fails g H S L R t w s e =
-    ⊎-elim
-    (λ z. absurd (false≢true (sym (ap isYes e) ∙ ap isYes (verdict-yes g H S L R z))))
-    found
-    (eq-zero-or-pos (firstFailing g H S L R))
-  where
-    found : 1 ≤ firstFailing g H S L R → FailsFirst g S L R t w s
-    found h =
-        let r = sym (verdict-no g H S L R (firstFailing g H S L R) refl h) ∙ e in
-        let t≡ : firstFailing g H S L R ≡ t = ap (λ (v : Verdict). readingOf v .length) r in
-        let w≡ : g (firstFailing g H S L R) ≡ w = ap (λ (v : Verdict). readingOf v .demand) r in
-        let s≡ : supply S L R (firstFailing g H S L R) ≡ s = ap (λ (v : Verdict). readingOf v .supply) r in
-        let f : First (failing g S L R) t = fails-first g H S L R t (omega arith) t≡ in
-        record {
-          there = f .there;
-          exceeds = omega (arith, has-failed g S L R t (f .has), ap g t≡, ap (supply S L R) t≡);
-          demanded = sym w≡ ∙ ap g t≡;
-          supplied = sym s≡ ∙ ap (supply S L R) t≡;
-          before = λ x a b. has-held g S L R x (f .before x a b);
-        }
-
-pub fails-no : (g : ℕ → ℕ) (H S L R : ℕ) → Lawful g H → 1 ≤ S → (t w s : ℕ)
-    → FailsFirst g S L R t w s → verdictOf g H S L R ≡ No (record { length = t; demand = w; supply = s })
-fails-no g H S L R lawful slot t w s f =
-    let first : First (failing g S L R) t =
-    record { there = f .there; has = fails g S L R t (omega (arith, f .exceeds, f .demanded, f .supplied)); before = λ x a b. holds g S L R x (f .before x a b) } in
-    rw (f .demanded, f .supplied) (verdict-no g H S L R t (first-fails g H S L R lawful slot t first) (f .there))
-
-pub is-yes : (g : ℕ → ℕ) (H S L R : ℕ) → verdictOf g H S L R ≡ Yes zeros → passing g H S L R ≡ true
-unfolding passing
-is-yes g H S L R e = ap isYes e
