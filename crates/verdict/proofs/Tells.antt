@@ -108,7 +108,7 @@ same-verdict g H K S L R h k slot =
     (eq-zero-or-pos (firstFailing g H S L R))
 
 -- what is looked at lies within it
-pub closest-within : (g : ℕ → ℕ) (H S L R : ℕ) → closest g H S L R ≤ H
+closest-within : (g : ℕ → ℕ) (H S L R : ℕ) → closest g H S L R ≤ H
 unfolding closest
 closest-within g H S L R = least-within (steps g) (slack g S L R) H
 
