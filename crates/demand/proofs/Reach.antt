@@ -9,7 +9,7 @@ use mathlib.Core.Path.{_≡_, ap}
 use mathlib.Core.Logic.{⊎-elim}
 use Rattle.laws.proofs.Orders.{le-or-lt}
 use Rattle.demand.specs.Supply.{supplyPast, lastWith}
-use Rattle.demand.proofs.Supply.{supply-mono}
+use Rattle.demand.proofs.Supply.{supply-mono, supply-within}
 
 -- at that length the supply is v
 pub supply-at-last : (S f v : ℕ) → f < S → supplyPast S f (lastWith S f v) ≡ v
@@ -18,6 +18,10 @@ supply-at-last S f v f<S =
     let j<u : v % (S - f) < S - f = mod-lt v (omega arith) in
     let x<S : f + v % (S - f) < S = omega arith in
     rw (digits-div (v / (S - f)) x<S, digits-mod (v / (S - f)) x<S) (omega (arith, div-add-mod' v (S - f)))
+
+-- which is no more than the length
+pub last-reaches : (S f v : ℕ) → f < S → v ≤ lastWith S f v
+last-reaches S f v f<S = omega (arith, supply-at-last S f v f<S, supply-within S f (lastWith S f v))
 
 -- past it the supply exceeds v: the same over plain digits
 past-digits : (S f u k j q x : ℕ) → f + u ≡ S → j < u → x < S → k * S + (f + j) < q * S + x → k * u + j < q * u + (x - f)

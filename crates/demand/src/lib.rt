@@ -43,7 +43,7 @@ pub fn last_with(slot: u64, gap: u64, supply: u64) -> u64
     ensures { λ r. ⌜ r ≡ lastWith slot gap supply ⌝ }
 {
     let usable = slot - gap;
-    supply / usable * slot + (gap + supply % usable)
+    supply / usable * slot + gap + supply % usable
 }
 
 // The longest stretch of a slot with nothing usable: none for a whole processor.
