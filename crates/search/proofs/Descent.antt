@@ -12,13 +12,13 @@ use Rattle.search.specs.Search.{short, lastUpTo, NoneIn}
 use Rattle.search.proofs.Bounded.{none-join, last-none, last-is}
 
 -- over any demand g that on 1..t is at most g t: past the last length with supply v, up to t, nothing falls short of v + 1 = g t
-pub descend : (g : ℕ → ℕ) (S f t v : ℕ) → f < S → ((x : ℕ) → x ≤ t → g x ≤ g t) → g t ≡ suc v
+descend : (g : ℕ → ℕ) (S f t v : ℕ) → f < S → ((x : ℕ) → x ≤ t → g x ≤ g t) → g t ≡ suc v
     → NoneIn (λ x. ltb (supplyPast S f x) (g x)) (lastWith S f v) t
 descend g S f t v f<S top e x past x≤t =
     le-ltb (supplyPast S f x) (g x) (omega (arith, past-last S f v x f<S past, top x x≤t))
 
 -- where the demand at t is 0, nothing up to t falls short
-pub descend-zero : (g : ℕ → ℕ) (S f t : ℕ) → ((x : ℕ) → x ≤ t → g x ≤ g t) → g t ≡ 0
+descend-zero : (g : ℕ → ℕ) (S f t : ℕ) → ((x : ℕ) → x ≤ t → g x ≤ g t) → g t ≡ 0
     → NoneIn (λ x. ltb (supplyPast S f x) (g x)) 0 t
 descend-zero g S f t top e x past x≤t = le-ltb (supplyPast S f x) (g x) (omega (arith, top x x≤t))
 

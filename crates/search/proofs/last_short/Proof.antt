@@ -1,6 +1,6 @@
 -- `last_short` meets its contract. The loop's invariant: `supply` is the supply at t, and no length above t is short.
 -- The measure is t. Assumes nothing.
-use Prim.Native.Nat.{ℕ, _+_, _-_, _^_, _<_}
+use Prim.Native.Nat.{ℕ, _+_, _-_, _<_}
 use native.Mathlib.Omega.{arith}
 use borrow.Author.Needs.{needs}
 use Rattle.demand.specs.Load.{loadsOf}

@@ -11,7 +11,7 @@ use Rattle.demand.specs.Lawful.{Rising}
 use Rattle.demand.proofs.Demand.{demand-zero}
 use Rattle.demand.proofs.Supply.{supply-within}
 use Rattle.demand.proofs.Claims.{loads-lawful}
-use Rattle.search.proofs.Bounded.{after-all, after-within}
+use Rattle.search.proofs.Bounded.{first-within}
 use Rattle.steps.specs.Stepping.{steps}
 use Rattle.slack.proofs.Closing.{Covered, covered, Closing, Closer, closing-none, closing-starts, closing-ends, closing-passes, last-covers, closing-moves}
 use Rattle.slack.proofs.closest.Statement.{statement}
@@ -45,10 +45,10 @@ enough : (s : tie.Start Inv-loop μ-loop) → (1 ≤ s .args .slot) × (s .args 
 enough s = (omega (arith, s .pre .1 .0 .usable), omega (arith, s .pre .1 .0 .usable))
 
 -- the first step lies within hi
-first-within : (c : tie.After-first-step Inv-loop μ-loop) → c .first-step .result ≤ c .before .before .args .hi
-first-within c =
+first-inside : (c : tie.After-first-step Inv-loop μ-loop) → c .first-step .result ≤ c .before .before .args .hi
+first-inside c =
     let s = c .before .before in
-    omega (arith, c .first-step .ensures, after-all (steps (asked s)) (s .args .hi), after-within (steps (asked s)) 0 (s .args .hi))
+    omega (arith, c .first-step .ensures, first-within (steps (asked s)) (s .args .hi))
 
 -- at t the supply meets the demand
 met : (c : tie.At-loop Inv-loop μ-loop) → c .loop .w ≤ c .loop .supply
@@ -91,12 +91,12 @@ supply-at-requires c κs = enough (c .before .before .before)
 demand-at-requires : tie.Need-demand-at-requires Inv-loop μ-loop
 demand-at-requires c κs =
     let s = c .before .before .before .before in
-    (s .pre .0, omega (arith, first-within (c .before .before), s .pre .1 .0 .small))
+    (s .pre .0, omega (arith, first-inside (c .before .before), s .pre .1 .0 .small))
 
 sub-least : tie.Need-sub-least Inv-loop μ-loop
 sub-least c =
     let f = c .before .before .before in
-    omega (arith, c .demand-at .ensures, c .before .supply-at .ensures, all (f .before .before) (f .first-step .result) (first-within f))
+    omega (arith, c .demand-at .ensures, c .before .supply-at .ensures, all (f .before .before) (f .first-step .result) (first-inside f))
 
 supply-at-requires-2 : tie.Need-supply-at-requires-2 Inv-loop μ-loop
 supply-at-requires-2 c κs = enough (c .before .before .before .before .before)
@@ -161,6 +161,7 @@ turned c =
     (closing-moves (rising s) (nothing s) (all s) (i .0) (i .1) (some (c .before)) (w .1 .ensures) (w .2 .ensures) (s .pre .1 .0 .usable) no-more))
     (c .if2 .came)
 
+-- so the length that the search goes on at is small
 small : (c : tie.Joined2 Inv-loop μ-loop) → lastWith (start (c .before .before) .args .slot) (start (c .before .before) .args .gap) (c .if2 .supply) < 2 ^ 36
 small c =
     omega (arith, turned c .1, c .before .before .loop .inv .0 .within, start (c .before .before) .pre .1 .0 .small)
