@@ -31,4 +31,4 @@ K-prints = refused-prints (bytesOf fileK) K-refused ∙ nine
 -- one proof for each row, in the list's order: all by computing, but for what K prints
 pub a-to-l : AtoL
 unfolding computing
-a-to-l = (refl, (refl, (refl, (refl, (refl, (refl, (refl, (refl, (refl, (refl, (refl, (refl, (refl, (refl, (refl, (refl, (refl, (refl, (ap text K-prints, (refl, (refl, tt)))))))))))))))))))))
+a-to-l = (refl, (refl, (refl, (refl, (refl, (refl, (refl, (refl, (refl, (refl, (refl, (refl, (refl, (refl, (refl, (refl, (refl, (refl, (refl, (refl, (ap text K-prints, (refl, (refl, tt)))))))))))))))))))))))

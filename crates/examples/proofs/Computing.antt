@@ -24,7 +24,10 @@ use Rattle.demand.specs.Passes.{fake}
 use Rattle.demand.specs.Supply.{gap, supplyPast, supply}
 use Rattle.verdict.specs.Reserve.{enough, smallestReserve}
 use Rattle.search.specs.Search.{lastUpTo, firstUpTo, firstAfter, short}
-use Rattle.verdict.specs.Verdict.{failing, ownHorizon, firstFailing, verdictAt, verdictOf, passing}
+use Rattle.steps.specs.Stepping.{steps}
+use Rattle.slack.specs.Least.{lesser, leastUpTo}
+use Rattle.slack.specs.Slack.{slack}
+use Rattle.verdict.specs.Verdict.{failing, ownHorizon, firstFailing, closest, readingAt, verdictAt, verdictOf, passing}
 use Rattle.places.specs.Places.{placesFrom, chosen}
 use Rattle.loads.specs.Charge.{cacheOf, chargedIn, serverLoads, serverLoss}
 use Rattle.members.specs.Server.{passesWith, fits, reserveFor, verdictFor}
@@ -58,5 +61,5 @@ use Rattle.planfile.specs.Tool.{answered}
 use Rattle.askfile.specs.OfFile.{whoIn, passIn}
 
 unfoldable pub computing : Unit {0}
-unfolding legal valueOf digitOf allLegal numberFrom hex kindOf widthsOf sum line after closed same formed fieldOf fields lineOf setOf some firstFrom countRow twiceRow boardRow rangeRow figuresOutcome headerOverflows taskOverflows lineOverflows someTooLarge askRow past tasksAmong lineRow orderRow countLineRow twiceLineRow lineOutcome till headerAt taskAt fileSet readOutcome readOf ceilingOf measureIn commonMeasure leastMultiple leastMultipleOf effectiveDeadline effectiveCost entryLoss jobs demand fake gap supplyPast supply enough smallestReserve lastUpTo firstUpTo firstAfter short failing ownHorizon firstFailing verdictAt verdictOf passing placesFrom chosen cacheOf chargedIn serverLoads serverLoss passesWith fits reserveFor verdictFor serversIn takes join fit placeBy placementOf reservesOf covers covererUpTo standAt phase ringTicks wholes wholeFrom whoOf firstReserve setFigures slotRow tightRow horizonOf horizonRow chargedOutcome upTo laidOut reservesWith planWith setPlacement setReserves planMade alike sameFigures sameServer sameServers sameProcessors agrees needed fullRow planOutcome planOf makes allowed isProcessor isServer whoRuns doesPass joined serverFigures placedFigures processorFigures planLine serverLine placedLine processorLine planText refusalText plannedSet filedOf answered whoIn passIn
+unfolding legal valueOf digitOf allLegal numberFrom hex kindOf widthsOf sum line after closed same formed fieldOf fields lineOf setOf some firstFrom countRow twiceRow boardRow rangeRow figuresOutcome headerOverflows taskOverflows lineOverflows someTooLarge askRow past tasksAmong lineRow orderRow countLineRow twiceLineRow lineOutcome till headerAt taskAt fileSet readOutcome readOf ceilingOf measureIn commonMeasure leastMultiple leastMultipleOf effectiveDeadline effectiveCost entryLoss jobs demand fake gap supplyPast supply enough smallestReserve lastUpTo firstUpTo firstAfter short steps lesser leastUpTo slack failing ownHorizon firstFailing closest readingAt verdictAt verdictOf passing placesFrom chosen cacheOf chargedIn serverLoads serverLoss passesWith fits reserveFor verdictFor serversIn takes join fit placeBy placementOf reservesOf covers covererUpTo standAt phase ringTicks wholes wholeFrom whoOf firstReserve setFigures slotRow tightRow horizonOf horizonRow chargedOutcome upTo laidOut reservesWith planWith setPlacement setReserves planMade alike sameFigures sameServer sameServers sameProcessors agrees needed fullRow planOutcome planOf makes allowed isProcessor isServer whoRuns doesPass joined serverFigures placedFigures processorFigures planLine serverLine placedLine processorLine planText refusalText plannedSet filedOf answered whoIn passIn
 computing = tt

@@ -7,7 +7,7 @@ use mathlib.Core.Path.{_≡_}
 use Rattle.refusals.specs.declared.Refusal.the-variants.{Horizon}
 use Rattle.refusals.specs.declared.Outcome.the-variants.{Done, Refused}
 use Rattle.verdict.specs.declared.answer.Reading.{Reading}
-use Rattle.verdict.specs.declared.answer.Verdict.the-variants.{No}
+use Rattle.verdict.specs.declared.answer.Verdict.the-variants.{Yes, No}
 use Rattle.ring.specs.declared.clock.Tick.{Tick}
 use Rattle.whoruns.specs.declared.WhoAnswer.{WhoAnswer}
 use Rattle.doespass.specs.declared.PassAnswer.{PassAnswer}
@@ -25,7 +25,7 @@ abbrev pub row : Question → Answer → Example
 row question answer = record { asked = question; given = answer }
 
 -- the answers in the documents' words: the lines printed; the server on the processor and the ticks left; the first failing
--- length, the demand and the supply there
+-- length, or the closest, the demand and the supply there
 abbrev pub lines : String → Answer
 lines quoted = text (bytesOf quoted)
 
@@ -34,6 +34,9 @@ server number left = running (record { outcome = Done; server = number; left = l
 
 abbrev pub failsAt : (length demand supply : ℕ) → Answer
 failsAt length demand supply = passed (record { outcome = Done; verdict = No (record { length = length; demand = demand; supply = supply }) })
+
+abbrev pub passesAt : (length demand supply : ℕ) → Answer
+passesAt length demand supply = passed (record { outcome = Done; verdict = Yes (record { length = length; demand = demand; supply = supply }) })
 
 abbrev pub at : ℕ → Tick
 at tick = record { 0 = tick }
@@ -96,15 +99,17 @@ examples =
     ∷ row (prints fileC) (lines "1101000100000A00000000\n120100000AFFFFFFFF02\n130101\n130201\n14010100000A\n")
     -- D: a second server, R = 1
     ∷ row (prints fileD) (lines "1101010200000A00000009\n120100000AFFFFFFFF02\n12020000010000000001\n130101\n130201\n130302\n140102000001\n14020100000A\n")
-    -- E: R = 1 fails first at length 7, demand 2, supply 1; the smallest R is 2
+    -- E: R = 1 fails first at length 7, demand 2, supply 1; the smallest R is 2, with a tick to spare there
     ∷ row (passes fileE 1 1) (failsAt 7 2 1)
+    ∷ row (passes fileE 1 2) (passesAt 7 2 3)
     ∷ row (prints fileE) (lines "1100010100000400000002\n12010000020000000001\n130101\n140101000002\n")
     -- F: R = 1 fails first at 5, demand 2, supply 1; the fake-task sum is 5 there and passes; it fails at 7 with 8
     ∷ row (passes fileF 1 1) (failsAt 5 2 1)
     ∷ row (sums fileF 1 1 5) (ticks 5)
     ∷ row (sums fileF 1 1 7) (ticks 8)
     ∷ row (prints fileF) (lines "1100010100000400000002\n12010000020000000001\n130101\n140101000002\n")
-    -- G: R = 4
+    -- G: R = 4, with nothing to spare at length 10
+    ∷ row (passes fileG 1 4) (passesAt 10 3 3)
     ∷ row (prints fileG) (lines "1100010100000A00000006\n12010000040000000001\n130101\n140101000004\n")
     -- H: refusal 8; accepted
     ∷ row (prints fileH10) (lines "1F0801\n")

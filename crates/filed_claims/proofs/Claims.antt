@@ -1,14 +1,19 @@
 -- Each claim of specs/Claims.antt, proved.
 -- Assumes nothing.
 use Prim.Native.Nat.{ℕ, _-_, _≤_, _∣_}
-use mathlib.Core.Path.{_≡_, sym, _∙_}
+use mathlib.Core.Path.{_≡_, ap₂, sym, _∙_}
 use mathlib.Core.Bool.{true}
 use native.Mathlib.Omega.{arith}
 use lib.ListN.{length, take}
+use Rattle.refusals.specs.declared.Outcome.{Outcome}
 use Rattle.wholes.proofs.Claims.{multiple-of-means}
 use Rattle.demand.specs.Load.{Load, Sound, Every}
+use Rattle.demand.specs.Passes.{Passes}
 use Rattle.demand.proofs.Claims.{loads-lawful}
+use Rattle.steps.proofs.Claims.{steps-at-deadlines}
+use Rattle.verdict.specs.declared.answer.Verdict.{Verdict}
 use Rattle.verdict.proofs.Horizons.{own-some, own-periods}
+use Rattle.verdict.proofs.Tells.{passes-told, told-within}
 use Rattle.tasks.specs.declared.set.TaskSet.{TaskSet}
 use Rattle.tasks.specs.Set.{mostTasks, zeroTask}
 use Rattle.loads.specs.Charge.{figuresOf, serverLoads, Member}
@@ -25,11 +30,13 @@ use Rattle.layout.specs.Made.{setPlacement}
 use Rattle.planner.proofs.Made.{rows-clear, fits, may-charge, members, slot-some}
 use Rattle.plancheck.specs.Makes.{makes}
 use Rattle.plancheck.proofs.Checked.{OfSet, of-set}
-use Rattle.plan_claims.specs.Claims.{membersIn}
+use Rattle.planserver.specs.Named.{isServer}
+use Rattle.doespass.specs.DoesPass.{doesPass}
+use Rattle.plan_claims.specs.Claims.{membersIn, allowedIn}
 use Rattle.plan_claims.proofs.Claims.{plan-checked, who-answers, pass-answers}
 use Rattle.planfile_claims.proofs.Claims.{text-tells-plan, nothing-cut-off}
 use Rattle.promises.proofs.Claims.{accepted-stands, plan-is-rota, printed-rota}
-use Rattle.filed_claims.specs.Claims.{setIn, planIn, demandIn, lossIn, PlacedFirst, ReportSmallest, HorizonEnough, FileFull, FileFirstFit, FileSmallest, FileHorizon, FileChecked, FileStands, FileIsRota, FilePrintedRota, FileQuestions, FileCutsNothing, FileTellsPlan, RoomNeverShows}
+use Rattle.filed_claims.specs.Claims.{setIn, planIn, demandIn, lossIn, PlacedFirst, ReportSmallest, HorizonEnough, ClosestAt, yesAt, FileFull, FileFirstFit, FileSmallest, FileHorizon, FileChecked, FileStands, FileIsRota, FilePrintedRota, FileQuestions, FileClosest, FileCutsNothing, FileTellsPlan, RoomNeverShows}
 use Rattle.filed_claims.proofs.FiledLaws.{filed-full, filed-made, filed-printed, filed-who, filed-pass}
 use Rattle.filed_claims.proofs.FirstLaws.{row-goes}
 use Rattle.filed_claims.proofs.ReportLaws.{by-report}
@@ -89,6 +96,26 @@ module _ (set : TaskSet) (plan : Plan) (full : length (set .tasks) ≡ mostTasks
         (λ passes t p h step. d .0 passes t p (omega (arith, h)) step, λ at-steps. d .1 (λ t p h step. at-steps t p (omega (arith, h)) step));
   }
 
+  -- where a server passes, the question names the closest length
+  close : (q R : ℕ) → isServer plan q ≡ true → allowedIn set plan q R ≡ true → Passes (demandIn set plan q) (set .header .slot) (lossIn set plan q) R →
+      (t : ℕ) × ClosestAt set plan q R t × (doesPass set plan q R ≡ yesAt set plan q R t)
+  close q R server allowed passes =
+      let ls = serverLoads (set .header) (membersIn set plan q) in
+      let answers = pass-answers set plan q R full made server allowed in
+      let told = passes-told (demandIn set plan q) (set .header .slot) (lossIn set plan q) R (doesPass set plan q R .verdict) (answers .tells) passes in
+      let t = told .0 in
+      let c = told .1 in (
+        t,
+        record {
+          step = steps-at-deadlines ls t (sound q) .0 (c .steps);
+          within = told-within (demandIn set plan q) (horizonOf set) (set .header .slot) (lossIn set plan q) R t
+              (loads-lawful .lawful ls (horizonOf set) (sound q) horizon-some (divides q)) slot passes c;
+          least = λ x st. c .least x (steps-at-deadlines ls x (sound q) .1 st);
+          first = λ x st. c .first x (steps-at-deadlines ls x (sound q) .1 st);
+        },
+        ap₂ (λ (o : Outcome) (v : Verdict). record { outcome = o; verdict = v }) (answers .done) (told .2),
+      )
+
 pub file-full : FileFull
 file-full = filed-full
 
@@ -120,6 +147,11 @@ file-questions text ok = record {
   pass-asked = filed-pass text ok;
   pass = λ q R. pass-answers (setIn text) (planIn text) q R (filed-full text) (filed-made text ok);
 }
+
+pub file-closest : FileClosest
+file-closest text q R ok server allowed passes =
+    let c = close (setIn text) (planIn text) (filed-full text) (filed-made text ok) q R server allowed passes in
+    (c .0, c .1, filed-pass text ok q R ∙ c .2)
 
 pub file-cuts-nothing : FileCutsNothing
 file-cuts-nothing text ok = nothing-cut-off (setIn text) (planIn text) (filed-full text) (filed-made text ok)

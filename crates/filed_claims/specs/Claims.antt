@@ -13,6 +13,7 @@ use Rattle.demand.specs.Load.{Load}
 use Rattle.demand.specs.Supply.{Allowed, supply}
 use Rattle.demand.specs.Passes.{Passes, FakePasses}
 use Rattle.demand.specs.Steps.{Step}
+use Rattle.verdict.specs.declared.answer.Verdict.the-variants.{Yes}
 use Rattle.tasks.specs.declared.set.Task.{Task}
 use Rattle.tasks.specs.declared.set.TaskSet.{TaskSet}
 use Rattle.tasks.specs.Set.{mostTasks, longestHorizon, members, zeroTask}
@@ -31,6 +32,7 @@ use Rattle.planagree.specs.Agrees.{SamePlan}
 use Rattle.planprocessor.specs.Standing.{isProcessor}
 use Rattle.whoruns.specs.WhoRuns.{whoRuns}
 use Rattle.planserver.specs.Named.{isServer}
+use Rattle.doespass.specs.declared.PassAnswer.{PassAnswer}
 use Rattle.doespass.specs.DoesPass.{doesPass}
 use Rattle.plan_claims.specs.Claims.{SameSet, CheckedPlan, WhoTells, PassTells, serverOfTask, membersIn, allowedIn}
 use Rattle.plantext.specs.Text.{planText}
@@ -155,6 +157,40 @@ pub record QuestionsTell (text : List ℕ) : Type 0 where
 -- So answer the two questions of an accepted file.
 abbrev pub FileQuestions : Type 0
 FileQuestions = (text : List ℕ) → FileAccepted text → QuestionsTell text
+
+-- ---- how close a server that passes comes
+
+-- x is a length where the demand of server q steps: d + j·T of one of its charged loads
+abbrev pub StepIn : TaskSet → Plan → (q x : ℕ) → Type 0
+StepIn set plan q x = Step (serverLoads (set .header) (membersIn set plan q)) x
+
+-- the supply of server q with the reserve R, and its ticks to spare: supply less demand. Beside Passes that is not cut off at 0.
+abbrev pub supplyIn : TaskSet → Plan → (q R : ℕ) → ℕ → ℕ
+supplyIn set plan q R x = supply (set .header .slot) (lossIn set plan q) R x
+
+abbrev pub spareIn : TaskSet → Plan → (q R : ℕ) → ℕ → ℕ
+spareIn set plan q R x = supplyIn set plan q R x - demandIn set plan q x
+
+-- t is such a length, within H; no other has fewer ticks to spare, and each before it has more
+pub record ClosestAt (set : TaskSet) (plan : Plan) (q R t : ℕ) : Type 0 where
+  pub step : StepIn set plan q t
+  pub within : t ≤ horizonOf set
+  pub least : (x : ℕ) → StepIn set plan q x → spareIn set plan q R t ≤ spareIn set plan q R x
+  pub first : (x : ℕ) → StepIn set plan q x → x < t → spareIn set plan q R t < spareIn set plan q R x
+
+-- yes with the length t, the demand and the supply there
+abbrev pub yesAt : TaskSet → Plan → (q R t : ℕ) → PassAnswer
+yesAt set plan q R t =
+    record { outcome = Done; verdict = Yes (record { length = t; demand = demandIn set plan q t; supply = supplyIn set plan q R t }) }
+
+-- Asked of a server that passes with an allowed reserve, a file's question names the closest length.
+abbrev pub FileClosest : Type 0
+FileClosest =
+    (text : List ℕ) (q R : ℕ) → FileAccepted text → isServer (planIn text) q ≡ true → allowedIn (setIn text) (planIn text) q R ≡ true →
+    Passes (demandIn (setIn text) (planIn text) q) (setIn text .header .slot) (lossIn (setIn text) (planIn text) q) R →
+    (t : ℕ) × ClosestAt (setIn text) (planIn text) q R t × (passIn text q R ≡ yesAt (setIn text) (planIn text) q R t)
+
+-- ---- what is printed
 
 -- No digit of what is printed is cut off.
 abbrev pub FileCutsNothing : Type 0

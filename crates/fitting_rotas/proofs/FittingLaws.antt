@@ -2,24 +2,21 @@
 -- Assumes nothing.
 use Prim.Native.Nat.{ℕ, _-_, _≤_}
 use mathlib.Core.Path.{subst}
-use mathlib.Core.List.{List, [], _∷_}
+use mathlib.Core.List.{List}
 use native.Mathlib.Numerals.{sub-one}
 use native.Mathlib.Omega.{arith}
-use lib.ListN.{length, getD}
-use Rattle.demand.specs.Load.{Load, Sound, Every}
-use Rattle.demand.specs.Demand.{demand}
-use Rattle.demand.proofs.Claims.{loads-lawful}
+use lib.ListN.{getD}
+use Rattle.demand.specs.Load.{Load, Every}
 use Rattle.verdict.specs.Reserve.{Smallest}
 use Rattle.tasks.specs.declared.set.TaskSet.{TaskSet}
 use Rattle.places.specs.Places.{chosen}
-use Rattle.places.proofs.PlacesLaws.{in-some}
-use Rattle.loads.specs.Charge.{Member, serverLoads, serverLoss}
+use Rattle.loads.specs.Charge.{Member, serverLoss}
 use Rattle.members.specs.Server.{serverDemand, serverHorizon}
-use Rattle.loads.proofs.ChargeLaws.{loads-sound, loads-many}
 use Rattle.members.proofs.FiledLaws.{every-chosen}
 use Rattle.members.proofs.ServerLaws.{server-lawful}
 use Rattle.servers.specs.Placement.{serversIn}
 use Rattle.servers.specs.Fitting.{Fitting}
+use Rattle.servers.proofs.FittingLaws.{fitting-asks}
 use Rattle.sizing.specs.Reserve.{reservesOf}
 use Rattle.sizing.proofs.Claims.{smallest-reserves}
 use Rattle.setfigures.specs.Figures.{setFigures}
@@ -27,11 +24,6 @@ use Rattle.rows.specs.Rows.{Chargeable}
 use Rattle.rows.proofs.Clears.{board-slot, figures-members}
 use Rattle.rotas.specs.Rota.{IsServer, StandingServer, Standing}
 use Rattle.fitting_rotas.specs.Rota.{rotaOf}
-
--- sound loads, at least one, demand something at some length
-some-demand : (ls : List Load) → Every Sound ls → 1 ≤ length ls → (t : ℕ) × (1 ≤ demand ls t)
-some-demand [] e h = absurd (omega arith)
-some-demand (l ∷ ls) e h = (l .deadline, loads-lawful .some l ls (e .0))
 
 module _ (set : TaskSet) (placement : List ℕ) (clear : Chargeable set) (fitting : Fitting (set .header) (setFigures set) placement) where
   slot : 1 ≤ set .header .slot
@@ -53,18 +45,9 @@ module _ (set : TaskSet) (placement : List ℕ) (clear : Chargeable set) (fittin
     placed : q ≤ serversIn placement
     placed = omega (arith, s .there, smallest-reserves (set .header) (setFigures set) placement slot ok fitting .0)
 
-    -- some task is in it
-    some-member : 1 ≤ length (ms q)
-    some-member =
-        let f = fitting .parted .none-empty q (s .some) placed in
-        in-some (setFigures set) placement (f .0) q (fitting .parted .one-each) (f .1) (f .2)
-
     server-stands : StandingServer (rotaOf set placement) q
     server-stands =
-        let some =
-        some-demand (serverLoads (set .header) (ms q)) (loads-sound (set .header) (ms q) (members-ok q))
-        (omega (arith, some-member, loads-many (set .header) (ms q)))
-        in
+        let some = fitting-asks (set .header) (setFigures set) placement q ok fitting (s .some) placed in
         record {
           smallest = subst
               (λ (i : ℕ). Smallest (serverDemand (set .header) (ms q)) (set .header .slot) (serverLoss (set .header) (ms q)) (getD (reservesOf (set .header) (setFigures set) placement) i 0))

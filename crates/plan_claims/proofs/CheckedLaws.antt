@@ -18,6 +18,7 @@ use Rattle.members.specs.Server.{serverDemand, serverHorizon, verdictFor}
 use Rattle.members.proofs.ServerLaws.{server-lawful}
 use Rattle.servers.specs.Fitting.{Fitting}
 use Rattle.servers.proofs.Claims.{planner-fits}
+use Rattle.servers.proofs.FittingLaws.{fitting-asks}
 use Rattle.members.proofs.FiledLaws.{every-chosen}
 use Rattle.ring.specs.declared.clock.Tick.{Tick}
 use Rattle.ring.specs.Who.{whoOf}
@@ -117,16 +118,30 @@ module _ (set : TaskSet) (plan : Plan) (full : length (set .tasks) ≡ mostTasks
     unfolding doesPass
     pass-is = rw (e, s, allowed-own)
 
+    server-first : 1 ≤ q
+    unfolding isServer
+    server-first = leb-true 1 q (and-left (leb 1 q) (leb q (plan .servers)) s)
+
+    server-there : q ≤ plan .servers
+    unfolding isServer
+    server-there = leb-true q (plan .servers) (and-right (leb 1 q) (leb q (plan .servers)) s)
+
     lawful : Lawful (serverDemand (set .header) own) (serverHorizon (set .header) own)
     lawful = server-lawful (set .header) own (every-chosen (Member (set .header)) (setFigures set) (setPlacement set) q (members set full (known .clear))) slot
+
+    -- some length is asked for, since a member is in it
+    asks : (t : ℕ) × (1 ≤ serverDemand (set .header) own t)
+    asks =
+        fitting-asks (set .header) (setFigures set) (setPlacement set) q (members set full (known .clear)) planner-placed server-first
+        (omega (arith, server-there, checked-holds .servers))
 
     -- what it answers
     pub pass-tells : PassTells set plan q R
     unfolding verdictFor
     pass-tells =
-        let v = verdict-means (serverDemand (set .header) own) (serverHorizon (set .header) own) (set .header .slot) (serverLoss (set .header) own) R lawful slot in
+        let g = serverDemand (set .header) own in
+        let L = serverLoss (set .header) own in
         record {
           done = ap (λ (x : PassAnswer). x .outcome) pass-is;
-          yes-means = rw (named, pass-is) (v .0);
-          no-means = rw (named, pass-is) (v .1);
+          tells = rw (named, pass-is) (verdict-means g (serverHorizon (set .header) own) (set .header .slot) L R (asks .0) lawful slot (asks .1));
         }

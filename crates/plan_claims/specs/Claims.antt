@@ -11,10 +11,9 @@ use Rattle.refusals.specs.declared.Refusal.the-variants.{Board, Range, Slot, Ti
 use Rattle.refusals.specs.declared.Outcome.{Outcome}
 use Rattle.refusals.specs.declared.Outcome.the-variants.{Done, Refused}
 use Rattle.refusals.specs.Refused.{numberOf, placeOf}
-use Rattle.demand.specs.Passes.{Passes}
-use Rattle.verdict.specs.declared.answer.Verdict.the-variants.{Yes, No}
+use Rattle.verdict.specs.declared.answer.Verdict.the-variants.{Yes}
 use Rattle.verdict.specs.Reserve.{Smallest}
-use Rattle.verdict.specs.Claims.{FailsFirst}
+use Rattle.verdict.specs.Claims.{VerdictTells}
 use Rattle.demand.specs.Load.{Load}
 use Rattle.places.specs.Places.{placesIn, chosen}
 use Rattle.loads.specs.Charge.{cacheOf, serverLoss}
@@ -249,14 +248,13 @@ WhoAnswers =
 abbrev pub allowedIn : TaskSet → Plan → (q R : ℕ) → Bool
 allowedIn set plan q R = allowed (set .header .slot) (serverLoss (set .header) (membersIn set plan q)) R
 
--- does it pass: yes with three zeros exactly when demand never exceeds supply; no exactly with the smallest failing length,
--- the demand and the supply there
+-- does it pass: yes, with the closest length, exactly when demand never exceeds supply; no exactly with the smallest failing length;
+-- each with the demand and the supply there
 pub record PassTells (set : TaskSet) (plan : Plan) (q R : ℕ) : Type 0 where
   pub done : doesPass set plan q R .outcome ≡ Done
-  pub yes-means : (doesPass set plan q R .verdict ≡ Yes (record { length = 0; demand = 0; supply = 0 })) ↔
-      Passes (serverDemand (set .header) (membersIn set plan q)) (set .header .slot) (serverLoss (set .header) (membersIn set plan q)) R
-  pub no-means : (t w s : ℕ) → (doesPass set plan q R .verdict ≡ No (record { length = t; demand = w; supply = s })) ↔
-      FailsFirst (serverDemand (set .header) (membersIn set plan q)) (set .header .slot) (serverLoss (set .header) (membersIn set plan q)) R t w s
+  pub tells :
+      VerdictTells (serverDemand (set .header) (membersIn set plan q)) (set .header .slot) (serverLoss (set .header) (membersIn set plan q)) R
+      (doesPass set plan q R .verdict)
 
 abbrev pub PassAnswers : Type 0
 PassAnswers =

@@ -1,4 +1,4 @@
--- What every placement keeps as tasks come, for any step that takes the task or opens a server.
+-- What every placement keeps as tasks come, for any step that takes the task or opens a server; and that each server asks for something.
 use Prim.Native.Nat.{ℕ, suc, _+_, _≤_, _<_}
 use native.Mathlib.Omega.{arith}
 use native.Mathlib.Decide.{decLt, decLe, ℕ-discrete}
@@ -9,12 +9,16 @@ use mathlib.Core.List.{List, [], _∷_, _++_}
 use lib.ListN.{length, getD, length-append, List·getD-append}
 use lib.Seq.{getD-append-seam}
 use borrow.Author.Tests.{ne-eqb}
-use Rattle.demand.specs.Load.{Load, Every}
+use Rattle.demand.specs.Load.{Load, Sound, Every}
+use Rattle.demand.specs.Demand.{demand}
+use Rattle.demand.proofs.Claims.{loads-lawful}
 use Rattle.tasks.specs.declared.set.Header.{Header}
 use Rattle.places.specs.Places.{keep, chosen}
-use Rattle.places.proofs.PlacesLaws.{in-joined, in-apart}
-use Rattle.loads.specs.Charge.{Member}
-use Rattle.members.specs.Server.{fits}
+use Rattle.places.proofs.PlacesLaws.{in-joined, in-apart, in-some}
+use Rattle.loads.specs.Charge.{Member, serverLoads}
+use Rattle.loads.proofs.ChargeLaws.{loads-sound, loads-many}
+use Rattle.members.specs.Server.{serverDemand, fits}
+use Rattle.members.proofs.FiledLaws.{every-chosen}
 use Rattle.servers.specs.Placement.{serversIn}
 use Rattle.taking.specs.Takes.{takes}
 use Rattle.servers.specs.Fitting.{Parted, PassesWhole, Fitting}
@@ -134,3 +138,19 @@ module _ (h : Header) (done : List Load) (placement : List ℕ) (l : Load) (q : 
         parted = parted-more placement q done l (w .parted) (in-range h done placement l q o);
         passes = still-pass w o;
       }
+
+-- ---- every server asks for something
+
+-- sound loads, at least one, demand something at some length
+some-demand : (ls : List Load) → Every Sound ls → 1 ≤ length ls → (t : ℕ) × (1 ≤ demand ls t)
+some-demand [] e h = absurd (omega arith)
+some-demand (l ∷ ls) e h = (l .deadline, loads-lawful .some l ls (e .0))
+
+-- so does each server, since none is empty
+pub fitting-asks : (h : Header) (figures : List Load) (placement : List ℕ) (q : ℕ) → Every (Member h) figures → Fitting h figures placement →
+    1 ≤ q → q ≤ serversIn placement → (t : ℕ) × (1 ≤ serverDemand h (chosen figures placement q) t)
+fitting-asks h figures placement q members w first there =
+    let ms = chosen figures placement q in
+    let f = w .parted .none-empty q first there in
+    let some = in-some figures placement (f .0) q (w .parted .one-each) (f .1) (f .2) in
+    some-demand (serverLoads h ms) (loads-sound h ms (every-chosen (Member h) figures placement q members)) (omega (arith, some, loads-many h ms))

@@ -16,7 +16,7 @@ use Rattle.steps.specs.Stepping.{steps}
 use Rattle.slack.specs.Slack.{slack}
 use Rattle.slack.proofs.LeastLaws.{least-within}
 use Rattle.verdict.specs.Verdict.{failing, firstFailing, closest, readingAt, verdictOf, isYes, readingOf, passing}
-use Rattle.verdict.specs.Claims.{Closest, FailsFirst}
+use Rattle.verdict.specs.Claims.{Closest, FailsFirst, VerdictTells}
 use Rattle.verdict.specs.declared.answer.Verdict.{Verdict}
 use Rattle.verdict.specs.declared.answer.Verdict.the-variants.{Yes, No}
 use Rattle.verdict.proofs.Verdict.{fails, holds, has-failed, has-held, passes-zero, fails-first, zero-passes, first-fails, same-first, verdict-yes, verdict-no, yes-zero}
@@ -84,6 +84,18 @@ fails-no g H S L R lawful slot t w s f =
     record { there = f .there; has = fails g S L R t (omega (arith, f .exceeds, f .demanded, f .supplied)); before = λ x a b. holds g S L R x (f .before x a b) } in
     rw (f .demanded, f .supplied) (verdict-no g H S L R t (first-fails g H S L R lawful slot t first) (f .there))
 
+-- ---- any verdict that tells
+
+-- where the demand passes it is yes, with the closest length, the demand and the supply there
+pub passes-told : (g : ℕ → ℕ) (S L R : ℕ) (v : Verdict) → VerdictTells g S L R v → Passes g S L R
+    → (t : ℕ) × Closest g S L R t (g t) (supply S L R t) × (v ≡ Yes (record { length = t; demand = g t; supply = supply S L R t }))
+passes-told g S L R (Yes r) tells passes =
+    let c = tells .yes-means (r .length) (r .demand) (r .supply) .0 refl .1 in
+    (r .length, rw (c .demanded, c .supplied) at c, rw (c .demanded, c .supplied))
+passes-told g S L R (No r) tells passes =
+    let f = tells .no-means (r .length) (r .demand) (r .supply) .0 refl in
+    absurd (omega (arith, passes (r .length) (f .there), f .exceeds, f .demanded, f .supplied))
+
 -- ---- the horizon
 
 -- two horizons name the same closest length
@@ -111,6 +123,11 @@ same-verdict g H K S L R h k slot =
 closest-within : (g : ℕ → ℕ) (H S L R : ℕ) → closest g H S L R ≤ H
 unfolding closest
 closest-within g H S L R = least-within (steps g) (slack g S L R) H
+
+-- so is one that is closest of all
+pub told-within : (g : ℕ → ℕ) (H S L R t : ℕ) {w s : ℕ} → Lawful g H → 1 ≤ S → Passes g S L R → Closest g S L R t w s → t ≤ H
+told-within g H S L R t {w} {s} lawful slot passes c =
+    omega (arith, closest-is g H S L R t w s lawful slot passes c, closest-within g H S L R)
 
 failing-within : (g : ℕ → ℕ) (H S L R : ℕ) → firstFailing g H S L R ≤ H
 unfolding firstFailing
