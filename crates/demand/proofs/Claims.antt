@@ -8,9 +8,10 @@ use native.Mathlib.Omega.{arith}
 use Rattle.demand.specs.Demand.{jobs, demand}
 use Rattle.demand.specs.Supply.{supplyPast, supply}
 use Rattle.demand.specs.Passes.{Passes, fake, FakePasses}
-use Rattle.demand.specs.Claims.{LiteralForms, HorizonDecides, DemandDecides, StepsDecide, LoadsLawful, FakeAgrees, FakeDiffers, FakeRises, NeverTurns, AlonePasses, LossNeverPasses}
+use Rattle.demand.specs.Claims.{LiteralForms, LastWith, HorizonDecides, DemandDecides, StepsDecide, LoadsLawful, FakeAgrees, FakeDiffers, FakeRises, NeverTurns, AlonePasses, LossNeverPasses}
 use Rattle.demand.proofs.Demand.{jobs-code, term-within, demand-cons, demand-nil, demand-first, demand-mono, demand-zero, demand-turn}
 use Rattle.demand.proofs.Supply.{supply-gap, supply-all, supply-part}
+use Rattle.demand.proofs.Reach.{supply-at-last, past-last}
 use Rattle.demand.proofs.Horizon.{beyond, supply-gains}
 use Rattle.demand.proofs.Steps.{up-to, rises-at}
 use Rattle.demand.proofs.Fake.{supply-room, covered}
@@ -18,6 +19,9 @@ use Rattle.demand.proofs.Reserve.{supply-rises, loss-supplies}
 
 pub literal-forms : LiteralForms
 literal-forms = record { jobs-form = jobs-code; supply-form = supply-gap }
+
+pub last-with : LastWith
+last-with = record { at = supply-at-last; past = past-last }
 
 pub horizon-decides : HorizonDecides
 horizon-decides g s H some turns gains within t p = beyond g s H some turns gains within t t (le-refl t) p

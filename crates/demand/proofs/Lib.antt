@@ -1,4 +1,5 @@
 pub mod Supply
+pub mod Reach
 pub mod Demand
 pub mod Slices
 pub mod Horizon

@@ -6,7 +6,7 @@ use mathlib.Core.Logic.{_↔_}
 use mathlib.Core.List.{List, [], _∷_}
 use Rattle.demand.specs.Load.{Load, Sound, Meets, Every}
 use Rattle.demand.specs.Demand.{jobs, demand}
-use Rattle.demand.specs.Supply.{Ring, Allowed, gap, supplyPast, supply}
+use Rattle.demand.specs.Supply.{Ring, Allowed, gap, supplyPast, lastWith, supply}
 use Rattle.demand.specs.Passes.{Passes, fake, FakePasses}
 use Rattle.demand.specs.Lawful.{Rising, RisesAt, Lawful}
 use Rattle.demand.specs.Steps.{Step}
@@ -15,6 +15,11 @@ use Rattle.demand.specs.Steps.{Step}
 pub record LiteralForms : Type 0 where
   pub jobs-form : (d T t : ℕ) → 1 ≤ T → d ≤ T → jobs d T t ≡ (t + T - d) / T
   pub supply-form : (S L R t : ℕ) → 1 ≤ S → supply S L R t ≡ supplyPast S (gap S L R) t
+
+-- The last length with supply v: at it the supply is v, and past it more.
+pub record LastWith : Type 0 where
+  pub at : (S f v : ℕ) → f < S → supplyPast S f (lastWith S f v) ≡ v
+  pub past : (S f v t : ℕ) → f < S → lastWith S f v < t → v < supplyPast S f t
 
 -- Lengths 1 to H decide for all, for any demand g and supply s: if H ticks more never add more than g H to the demand,
 -- nor less than s H to the supply.

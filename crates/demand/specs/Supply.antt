@@ -23,6 +23,10 @@ gap S L R = cond (eqb R S) 0 (S - R + L)
 unfoldable pub supplyPast : (S f t : ℕ) → ℕ
 supplyPast S f t = t / S * (S - f) + (t % S - f)
 
+-- with v = k(S − f) + x and 0 ≤ x < S − f: kS + f + x, the last length whose supply past the gap is v
+unfoldable pub lastWith : (S f v : ℕ) → ℕ
+lastWith S f v = v / (S - f) * S + (f + v % (S - f))
+
 -- supply at t of a ring reserve; t itself for R = S
 unfoldable pub supply : (S L R t : ℕ) → ℕ
 supply S L R t = cond (eqb R S) t (supplyPast S (S - R + L) t)

@@ -4,7 +4,7 @@ ghost use mathlib.Core.Path.{_≡_};
 ghost use Prim.Native.Nat.{_<_, _≤_, _^_};
 ghost use Rattle.demand.specs.Load.{Loaded, loadsOf};
 ghost use Rattle.demand.specs.Demand.{demand};
-ghost use Rattle.demand.specs.Supply.{Allowed, gap, supplyPast};
+ghost use Rattle.demand.specs.Supply.{Allowed, gap, lastWith, supplyPast};
 
 // The ticks that the first n loads must have had in a window of length t.
 pub fn demand_at(loads: &[u64], n: usize, t: u64) -> u64
@@ -35,6 +35,15 @@ pub fn supply_at(slot: u64, gap: u64, t: u64) -> u64
         return whole;
     }
     whole + (rest - gap)
+}
+
+// The last length whose supply is the given one.
+pub fn last_with(slot: u64, gap: u64, supply: u64) -> u64
+    requires { ⌜ (gap < slot) × (lastWith slot gap supply < 2 ^ 36) ⌝ }
+    ensures { λ r. ⌜ r ≡ lastWith slot gap supply ⌝ }
+{
+    let usable = slot - gap;
+    supply / usable * slot + gap + supply % usable
 }
 
 // The longest stretch of a slot with nothing usable: none for a whole processor.

@@ -4,7 +4,7 @@ use native.Mathlib.Omega.{arith}
 use mathlib.Core.Path.{_≡_, refl, sym, ap, _∙_}
 use mathlib.Core.Logic.{_⊎_, inl, inr, ⊎-elim}
 use mathlib.Core.Bool.{Bool, true, false, false≢true, cond, _&&_}
-use native.Mathlib.Nat.{le-suc-iff, eq-zero-or-pos}
+use native.Mathlib.Nat.{le-suc-iff}
 use native.Mathlib.Decide.{decLt}
 use lib.Dec.{ltb}
 use borrow.Author.Tests.{lt-ltb, le-ltb, ltb-true}
@@ -101,6 +101,10 @@ pub first-found : (p : ℕ → Bool) (n t : ℕ) → firstUpTo p n ≡ t → 1 �
 first-found p n t e h =
     ⊎-elim (λ v. let z : firstUpTo p n ≡ 0 = v .0 in absurd (omega arith)) (λ v. rw e at v) (first-view p n)
 
+-- what the search finds lies within its bound
+pub first-within : (p : ℕ → Bool) (n : ℕ) → firstUpTo p n ≤ n
+first-within p n = ⊎-elim (λ v. let z : firstUpTo p n ≡ 0 = v .0 in omega arith) (λ v. v .0) (first-view p n)
+
 -- two firsts are one
 pub first-same : {p : ℕ → Bool} {t u : ℕ} → First p t → First p u → t ≡ u
 first-same {p} {t} {u} l k = by (decLt t u) (decLt u t)
@@ -177,7 +181,6 @@ after-all p n =
     (λ v. after-is p 0 n (firstUpTo p n) (v .0) (record { above = v .1 .there; has = v .1 .has; before = v .1 .before }))
     (first-view p n)
 
--- what the search finds lies within its bound
 pub after-within : (p : ℕ → Bool) (lo n : ℕ) → firstAfter p lo n ≤ n
-after-within p lo n =
-    ⊎-elim (λ (z : firstAfter p lo n ≡ 0). omega arith) (λ h. after-found p lo n (firstAfter p lo n) refl h .0) (eq-zero-or-pos (firstAfter p lo n))
+unfolding firstAfter
+after-within p lo n = first-within (past p lo) n

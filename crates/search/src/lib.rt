@@ -13,7 +13,6 @@ pub fn last_short(loads: &[u64], n: usize, slot: u64, gap: u64, extra: u64, hi: 
     requires { ⌜ Searched slot gap extra hi ⌝ }
     ensures { λ r. ⌜ r ≡ lastUpTo (short (demand (loadsOf (now (loads .entry)) n)) slot gap extra) hi ⌝ }
 {
-    let usable = slot - gap;
     let mut t = hi;
     let mut supply = demand::supply_at(slot, gap, hi);
     while 0 < t {
@@ -25,7 +24,7 @@ pub fn last_short(loads: &[u64], n: usize, slot: u64, gap: u64, extra: u64, hi: 
             return 0;
         }
         supply = w - 1;
-        t = supply / usable * slot + (gap + supply % usable);
+        t = demand::last_with(slot, gap, supply);
     }
     0
 }

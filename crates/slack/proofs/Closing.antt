@@ -2,20 +2,20 @@
 -- Assumes nothing.
 use Prim.Native.Nat.{ℕ, zero, suc, _+_, _-_, _≤_, _<_}
 use native.Mathlib.Omega.{arith}
-use native.Mathlib.Nat.{le-suc-iff, le-antisymm, le-of-eq, le-of-lt, eq-or-lt-of-le, eq-zero-or-pos}
-use mathlib.Core.Path.{_≡_, refl, sym, ap, subst, _∙_}
+use native.Mathlib.Nat.{le-antisymm, le-of-eq, le-of-lt, eq-or-lt-of-le, eq-zero-or-pos}
+use mathlib.Core.Path.{_≡_, refl, sym, ap, _∙_}
 use mathlib.Core.Logic.{⊎-elim}
 use mathlib.Core.Bool.{true}
 use borrow.Author.Tests.{ltb-false}
 use Rattle.laws.proofs.Orders.{le-or-lt}
 use Rattle.demand.specs.Lawful.{Rising}
-use Rattle.demand.specs.Supply.{supplyPast}
+use Rattle.demand.specs.Supply.{supplyPast, lastWith}
 use Rattle.demand.proofs.Supply.{supply-mono}
+use Rattle.demand.proofs.Reach.{supply-at-last, past-last, last-before}
 use Rattle.search.specs.Search.{NoneIn, Last, short, firstUpTo, lastUpTo}
-use Rattle.search.proofs.Bounded.{none-less, none-has, first-zero, first-found, last-zero, last-found}
-use Rattle.search.proofs.Reach.{lastWith, past-last, supply-at-last}
+use Rattle.search.proofs.Bounded.{none-has, first-zero, first-found, last-zero, last-found}
 use Rattle.steps.specs.Stepping.{steps}
-use Rattle.steps.proofs.StepLaws.{has-stepped, no-step-stays}
+use Rattle.steps.proofs.StepLaws.{has-stepped, no-steps}
 use Rattle.slack.specs.Least.{leastUpTo}
 use Rattle.slack.specs.Slack.{slackPast}
 use Rattle.slack.proofs.LeastLaws.{least-none, least-is}
@@ -31,34 +31,17 @@ covered g S f e none (suc x) h =
     omega (arith, ltb-false (supplyPast S f (suc x)) (g (suc x) + 0) (none (suc x) (omega arith) h))
 
 module _ (g : ℕ → ℕ) where
-  -- where none steps the demand does not rise
-  no-steps : (a b : ℕ) → a ≤ b → NoneIn (steps g) a b → g b ≤ g a
-  no-steps zero zero h none = omega arith
-  no-steps (suc a) zero h none = absurd (omega arith)
-  no-steps a (suc b) h none =
-      ⊎-elim
-      (λ (p : a ≤ b).
-      let before : suc b - 1 ≡ b = omega arith in
-      omega (arith, ap g before, no-step-stays g (suc b) (none (suc b) (omega arith) (omega arith)), no-steps a b p (none-less none (omega arith))))
-      (λ (q : a ≡ suc b). subst (λ (y : ℕ). g (suc b) ≤ g y) (sym q) (omega arith))
-      (le-suc-iff .0 h)
-
   -- where something is asked at t there is a last step up to t
   last-there : {t last : ℕ} → g 0 ≡ 0 → 0 < g t → last ≡ lastUpTo (steps g) t → Last (steps g) t last
   last-there {t} {last} none some e =
       ⊎-elim
-      (λ (z : last ≡ 0). absurd (omega (arith, no-steps 0 t (omega arith) (last-zero (steps g) t (sym e ∙ z)))))
+      (λ (z : last ≡ 0). absurd (omega (arith, no-steps g 0 t (omega arith) (last-zero (steps g) t (sym e ∙ z)))))
       (λ (h : 1 ≤ last). last-found (steps g) t last (sym e) h)
       (eq-zero-or-pos last)
 
   -- and the demand there is that at t
   last-asks : {t last : ℕ} → Rising g → Last (steps g) t last → g last ≡ g t
-  last-asks {t} {last} rising l = le-antisymm (rising last t (l .within)) (no-steps last t (l .within) (l .after))
-
--- a length with less supply lies before
-supply-below : (S f : ℕ) {t u : ℕ} → 1 ≤ S → supplyPast S f t < supplyPast S f u → t < u
-supply-below S f {t} {u} h less =
-    ⊎-elim (λ (p : u ≤ t). absurd (omega (arith, supply-mono S f h p))) (λ (q : t < u). q) (le-or-lt u t)
+  last-asks {t} {last} rising l = le-antisymm (rising last t (l .within)) (no-steps g last t (l .within) (l .after))
 
 -- what holds at each turn: supply is the supply at t; best is a step and least its slack; no step above t is closer, nor as close
 -- where it stands before best
@@ -117,13 +100,12 @@ module _ {g : ℕ → ℕ} {S f hi t supply best least : ℕ} (rising : Rising g
   -- one turn, in the code's terms, where the supply at t exceeds w + least: past the last length with that supply nothing is closer
   pub closing-passes : (w : ℕ) → f < S → w ≡ g t → w + least < supply → Closer g S f hi t (w + least) best least
   closing-passes w f<S e more =
-      let at-last = supply-at-last S f (w + least) f<S in
-      let falls : lastWith S f (w + least) < t = supply-below S f (omega arith) (omega (arith, at-last, c .supplied)) in
+      let falls : lastWith S f (w + least) < t = last-before S f (w + least) t f<S (omega (arith, c .supplied)) in
       let new : (x : ℕ) → lastWith S f (w + least) < x → x ≤ t → g x + least < supplyPast S f x =
       λ x a b. omega (arith, past-last S f (w + least) x f<S a, rising x t b) in (
         record {
           within = omega (arith, c .within);
-          supplied = sym at-last;
+          supplied = sym (supply-at-last S f (w + least) f<S);
           there = c .there;
           best-within = c .best-within;
           has = c .has;
@@ -167,12 +149,11 @@ module _
 
     pub closing-moves : f < S → supply ≤ w + least → Closer g S f hi t (reached - 1) last (reached - w)
     closing-moves f<S less =
-        let at-last = supply-at-last S f (reached - 1) f<S in
-        let falls : lastWith S f (reached - 1) < last = supply-below S f (omega arith) (omega (arith, at-last, last-covers)) in
+        let falls : lastWith S f (reached - 1) < last = last-before S f (reached - 1) last f<S (omega (arith, last-covers)) in
         let inside : last ≤ hi = omega (arith, its-last .within, c .within) in (
           record {
             within = omega arith;
-            supplied = sym at-last;
+            supplied = sym (supply-at-last S f (reached - 1) f<S);
             there = its-last .there;
             best-within = inside;
             has = its-last .has;

@@ -21,7 +21,6 @@ pub fn closest(loads: &[u64], n: usize, slot: u64, gap: u64, hi: u64) -> u64
     requires { ⌜ NoneIn (short (demand (loadsOf (now loads) n)) slot gap 0) 0 hi ⌝ }
     ensures { λ r. ⌜ r ≡ leastUpTo (steps (demand (loadsOf (now (loads .entry)) n))) (slackPast (demand (loadsOf (now (loads .entry)) n)) slot gap) hi ⌝ }
 {
-    let usable = slot - gap;
     let mut best = first_step(loads, n, hi);
     if best == 0 {
         return 0;
@@ -40,7 +39,7 @@ pub fn closest(loads: &[u64], n: usize, slot: u64, gap: u64, hi: u64) -> u64
             least = reached - w;
             supply = reached - 1;
         }
-        t = supply / usable * slot + (gap + supply % usable);
+        t = demand::last_with(slot, gap, supply);
         w = demand::demand_at(loads, n, t);
     }
     best

@@ -1,11 +1,12 @@
 -- Laws of the lengths where a demand steps: what the test says, and that the demand of sound loads steps exactly where a deadline falls.
 -- Assumes nothing.
 use Prim.Native.Nat.{ℕ, zero, suc, _+_, _*_, _-_, _/_, _≤_, _<_}
-use mathlib.Core.Path.{_≡_, ap, _∙_}
+use mathlib.Core.Path.{_≡_, ap, sym, _∙_}
 use mathlib.Core.Bool.{true, false}
 use mathlib.Core.Logic.{_⊎_, inl, inr, ⊎-elim}
 use mathlib.Core.List.{List, [], _∷_, _++_}
-use native.Mathlib.Nat.{add-lt-add-of-lt-of-le, add-lt-add-of-le-of-lt, mul-le-mul-left, mul-lt-mul-of-pos-left}
+use native.Mathlib.Nat.{le-suc-iff, le-trans, le-of-eq, add-lt-add-of-lt-of-le, add-lt-add-of-le-of-lt, mul-le-mul-left, mul-lt-mul-of-pos-left}
+use native.Mathlib.Numerals.{unary-clauses}
 use native.Mathlib.Omega.{arith}
 use lib.Arith.{digits-div}
 use borrow.Author.Tests.{lt-ltb, ltb-true, ltb-false}
@@ -15,6 +16,8 @@ use Rattle.demand.specs.Demand.{jobs, demand}
 use Rattle.demand.specs.Steps.{StepOf, Some, Step}
 use Rattle.demand.proofs.Demand.{jobs-code, jobs-mono, demand-cons, demand-mono}
 use Rattle.demand.proofs.Steps.{rises-at}
+use Rattle.search.specs.Search.{NoneIn}
+use Rattle.search.proofs.Bounded.{none-less}
 use Rattle.steps.specs.Stepping.{StepsAt, steps}
 
 -- ---- the test, of any demand
@@ -28,12 +31,22 @@ module _ (g : ℕ → ℕ) (x : ℕ) where
   unfolding steps
   has-stepped e = ltb-true (g (x - 1)) (g x) e
 
-  pub no-step-stays : steps g x ≡ false → g x ≤ g (x - 1)
+  pub no-step-stays : steps g (suc x) ≡ false → g (suc x) ≤ g x
   unfolding steps
-  no-step-stays e = ltb-false (g (x - 1)) (g x) e
+  no-step-stays e = simp unary-clauses at (ltb-false (g (suc x - 1)) (g (suc x)) e)
+
+-- where none steps the demand does not rise
+pub no-steps : (g : ℕ → ℕ) (a b : ℕ) → a ≤ b → NoneIn (steps g) a b → g b ≤ g a
+no-steps g zero zero h none = omega arith
+no-steps g (suc a) zero h none = absurd (omega arith)
+no-steps g a (suc b) h none =
+    ⊎-elim
+    (λ (p : a ≤ b). le-trans (no-step-stays g b (none (suc b) (omega arith) (omega arith))) (no-steps g a b p (none-less none (omega arith))))
+    (λ (q : a ≡ suc b). le-of-eq (sym (ap g q)))
+    (le-suc-iff .0 h)
 
 -- a demand steps from 1 on
-steps-from : (g : ℕ → ℕ) (x : ℕ) → StepsAt g x → 1 ≤ x
+pub steps-from : (g : ℕ → ℕ) (x : ℕ) → StepsAt g x → 1 ≤ x
 steps-from g zero h = absurd (omega arith)
 steps-from g (suc x) h = omega arith
 

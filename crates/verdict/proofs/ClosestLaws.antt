@@ -3,7 +3,6 @@
 use Prim.Native.Nat.{ℕ, zero, suc, _+_, _-_, _≤_, _<_}
 use native.Mathlib.Omega.{arith}
 use native.Mathlib.Nat.{le-refl}
-use native.Mathlib.Numerals.{unary-clauses}
 use mathlib.Core.Path.{_≡_, refl, subst}
 use mathlib.Core.Logic.{_⊎_, inl, inr, ⊎-elim}
 use mathlib.Core.Bool.{Bool, true, false}
@@ -18,7 +17,7 @@ use Rattle.demand.proofs.Steps.{supply-grows}
 use Rattle.search.specs.Search.{NoneIn}
 use Rattle.search.proofs.Bounded.{none-more, none-less, none-has}
 use Rattle.steps.specs.Stepping.{StepsAt, steps}
-use Rattle.steps.proofs.StepLaws.{does-step, has-stepped, no-step-stays}
+use Rattle.steps.proofs.StepLaws.{does-step, has-stepped, no-step-stays, no-steps, steps-from}
 use Rattle.slack.specs.Least.{Least}
 use Rattle.slack.specs.Slack.{slack}
 use Rattle.slack.proofs.LeastLaws.{least-view, least-none}
@@ -35,20 +34,9 @@ step-view g x = by (steps g x) refl
     by true e = inl e
     by false e = inr e
 
--- at length 0 there is no step
-step-some : (g : ℕ → ℕ) (x : ℕ) → StepsAt g x → 1 ≤ x
-step-some g zero st = absurd (omega arith)
-step-some g (suc x) st = omega arith
-
--- past a length that is no step the demand has not risen
-no-rise : (g : ℕ → ℕ) (x : ℕ) → steps g (suc x) ≡ false → g (suc x) ≤ g x
-no-rise g x e = simp unary-clauses at (no-step-stays g (suc x) e)
-
 -- up to where no length steps nothing is asked
 none-asked : (g : ℕ → ℕ) (n : ℕ) → g 0 ≡ 0 → NoneIn (steps g) 0 n → g n ≡ 0
-none-asked g zero e none = e
-none-asked g (suc n) e none =
-    omega (arith, no-rise g n (none (suc n) (omega arith) (le-refl (suc n))), none-asked g n e (none-less none (omega arith)))
+none-asked g n e none = omega (arith, no-steps g 0 n (omega arith) none)
 
 -- a demand that asks nothing never steps
 asked-none : (g : ℕ → ℕ) → ((x : ℕ) → g x ≡ 0) → (n : ℕ) → NoneIn (steps g) 0 n
@@ -56,7 +44,7 @@ asked-none g never n x a b =
     never-true (steps g x) (λ (e : steps g x ≡ true). omega (arith, has-stepped g x e, never x))
 
 -- a lawful demand without a step up to its horizon asks nothing at any length
-pub never-asks : (g : ℕ → ℕ) (H : ℕ) → Lawful g H → NoneIn (steps g) 0 H → (t : ℕ) → g t ≡ 0
+never-asks : (g : ℕ → ℕ) (H : ℕ) → Lawful g H → NoneIn (steps g) 0 H → (t : ℕ) → g t ≡ 0
 never-asks g H lawful none zero = lawful .none
 never-asks g H lawful none (suc t) =
     let within : (x : ℕ) → 1 ≤ x → x ≤ H → g x ≤ 0 = λ x a b. omega (arith, none-asked g x (lawful .none) (none-less none b)) in
@@ -67,7 +55,7 @@ never-asks g H lawful none (suc t) =
 -- where the demand does not step the slack does not fall
 slack-stays : (g : ℕ → ℕ) (S L R x : ℕ) → 1 ≤ S → steps g (suc x) ≡ false → slack g S L R x ≤ slack g S L R (suc x)
 unfolding slack
-slack-stays g S L R x slot e = omega (arith, no-rise g x e, supply-grows S L R {t = x} {u = suc x} slot (omega arith))
+slack-stays g S L R x slot e = omega (arith, no-step-stays g x e, supply-grows S L R {t = x} {u = suc x} slot (omega arith))
 
 -- H ticks more leave no less slack, where the demand at H is covered
 slack-gains : (g : ℕ → ℕ) (H S L R t : ℕ) → Lawful g H → 1 ≤ S → g H ≤ supply S L R H → slack g S L R t ≤ slack g S L R (t + H)
@@ -82,7 +70,7 @@ slack-again g H S L R t lawful slot e = omega (arith, lawful .turns t, supply-ga
 -- from its first step on no length at all is closer
 pub none-closer : (g : ℕ → ℕ) (S L R t w s m x : ℕ) → 1 ≤ S → Closest g S L R t w s → StepsAt g m → m ≤ x → s - w ≤ supply S L R x - g x
 unfolding slack
-none-closer g S L R t w s m zero slot c st h = absurd (omega (arith, step-some g m st))
+none-closer g S L R t w s m zero slot c st h = absurd (omega (arith, steps-from g m st))
 none-closer g S L R t w s m (suc x) slot c st h =
     ⊎-elim
     (λ (e : steps g (suc x) ≡ true). c .least (suc x) (has-stepped g (suc x) e))
@@ -128,7 +116,7 @@ module _ (g : ℕ → ℕ) (H S L R : ℕ) (lawful : Lawful g H) (slot : 1 ≤ S
 
   step-kept : (x : ℕ) → StepsAt g x → slack g S L R b ≤ slack g S L R x
   step-kept x st =
-      ⊎-elim (λ none. none-has none (step-some g x st) (le-refl x) (does-step g x st)) (λ le. le) (kept-all x x (le-refl x))
+      ⊎-elim (λ none. none-has none (steps-from g x st) (le-refl x) (does-step g x st)) (λ le. le) (kept-all x x (le-refl x))
 
   least-closest : Closest g S L R b (g b) (supply S L R b)
   unfolding slack
@@ -138,11 +126,11 @@ module _ (g : ℕ → ℕ) (H S L R : ℕ) (lawful : Lawful g H) (slot : 1 ≤ S
         demanded = refl;
         supplied = refl;
         least = step-kept;
-        first = λ x st h. l .first x (step-some g x st) h (does-step g x st);
+        first = λ x st h. l .first x (steps-from g x st) h (does-step g x st);
       }
 
 -- two closest lengths are one
-pub closest-one : {g : ℕ → ℕ} {S L R t u v w r s : ℕ} → Closest g S L R t v r → Closest g S L R u w s → t ≡ u
+closest-one : {g : ℕ → ℕ} {S L R t u v w r s : ℕ} → Closest g S L R t v r → Closest g S L R u w s → t ≡ u
 closest-one {t = t} {u = u} c d =
     eq-by-cases t u
     (λ (h : t < u). omega (arith, d .first t (c .steps) h, c .least u (d .steps), c .demanded, c .supplied, d .demanded, d .supplied))

@@ -11,7 +11,7 @@ use Rattle.demand.specs.Supply.{gap, supply}
 use Rattle.demand.specs.Passes.{Passes}
 use Rattle.demand.proofs.Supply.{supply-within, supply-gap}
 use Rattle.search.specs.Search.{First}
-use Rattle.search.proofs.Bounded.{first-view}
+use Rattle.search.proofs.Bounded.{first-within}
 use Rattle.steps.specs.Stepping.{steps}
 use Rattle.slack.specs.Slack.{slack}
 use Rattle.slack.proofs.LeastLaws.{least-within}
@@ -120,7 +120,7 @@ same-verdict g H K S L R h k slot =
     (eq-zero-or-pos (firstFailing g H S L R))
 
 -- what is looked at lies within it
-pub closest-within : (g : ℕ → ℕ) (H S L R : ℕ) → closest g H S L R ≤ H
+closest-within : (g : ℕ → ℕ) (H S L R : ℕ) → closest g H S L R ≤ H
 unfolding closest
 closest-within g H S L R = least-within (steps g) (slack g S L R) H
 
@@ -129,17 +129,16 @@ pub told-within : (g : ℕ → ℕ) (H S L R t : ℕ) {w s : ℕ} → Lawful g H
 told-within g H S L R t {w} {s} lawful slot passes c =
     omega (arith, closest-is g H S L R t w s lawful slot passes c, closest-within g H S L R)
 
-first-within : (g : ℕ → ℕ) (H S L R : ℕ) → 1 ≤ firstFailing g H S L R → firstFailing g H S L R ≤ H
+failing-within : (g : ℕ → ℕ) (H S L R : ℕ) → firstFailing g H S L R ≤ H
 unfolding firstFailing
-first-within g H S L R p =
-    ⊎-elim (λ v. absurd (omega (arith, p, v .0))) (λ v. v .0) (first-view (failing g S L R) H)
+failing-within g H S L R = first-within (failing g S L R) H
 
 pub verdict-within : (g : ℕ → ℕ) (H S L R : ℕ) → readingOf (verdictOf g H S L R) .length ≤ H
 unfolding readingAt
 verdict-within g H S L R =
     ⊎-elim
     (λ z. rw (verdict-yes g H S L R z) (closest-within g H S L R))
-    (λ p. rw (verdict-no g H S L R (firstFailing g H S L R) refl p) (first-within g H S L R p))
+    (λ p. rw (verdict-no g H S L R (firstFailing g H S L R) refl p) (failing-within g H S L R))
     (eq-zero-or-pos (firstFailing g H S L R))
 
 -- ---- nothing asked

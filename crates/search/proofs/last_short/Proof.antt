@@ -1,23 +1,23 @@
 -- `last_short` meets its contract. The loop's invariant: `supply` is the supply at t, and no length above t is short.
 -- The measure is t. Assumes nothing.
-use Prim.Native.Nat.{ℕ, _+_, _-_, _^_, _<_}
+use Prim.Native.Nat.{ℕ, _+_, _-_, _<_}
 use native.Mathlib.Omega.{arith}
 use borrow.Author.Needs.{needs}
 use Rattle.demand.specs.Load.{loadsOf}
 use Rattle.demand.specs.Demand.{demand}
+use Rattle.demand.specs.Supply.{lastWith}
 use Rattle.demand.specs.Lawful.{Rising}
 use Rattle.demand.proofs.Demand.{demand-room}
 use Rattle.demand.proofs.Claims.{loads-lawful}
-use Rattle.search.proofs.Reach.{lastWith}
 use Rattle.search.proofs.Descent.{Descended, descent-starts, descent-finds, descent-ends, descent-clears, descent-next}
 use Rattle.search.proofs.last_short.Statement.{statement}
 use Rattle.search.proofs.last_short.Tie as tie
 
 abbrev Inv-loop : tie.InvT-loop
-Inv-loop loads n slot gap extra hi usable t₀ supply₀ t supply = Descended (demand (loadsOf loads n)) slot gap extra hi t supply
+Inv-loop loads n slot gap extra hi t₀ supply₀ t supply = Descended (demand (loadsOf loads n)) slot gap extra hi t supply
 
 abbrev μ-loop : tie.MeasureT-loop
-μ-loop loads n slot gap extra hi usable t₀ supply₀ t supply = t
+μ-loop loads n slot gap extra hi t₀ supply₀ t supply = t
 
 -- the demand of the loads, and why it never falls
 abbrev asked : tie.Start Inv-loop μ-loop → ℕ → ℕ
@@ -25,9 +25,6 @@ asked s = demand (loadsOf (s .args .loads .now) (s .args .n))
 
 rising : (s : tie.Start Inv-loop μ-loop) → Rising (asked s)
 rising s = loads-lawful .rising (loadsOf (s .args .loads .now) (s .args .n)) (s .pre .0 .sound)
-
-sub-usable : tie.Need-sub-usable Inv-loop μ-loop
-sub-usable c = omega arith
 
 supply-at-requires : tie.Need-supply-at-requires Inv-loop μ-loop
 supply-at-requires c κs = omega arith
@@ -66,37 +63,16 @@ next c =
     let w = c .before .before .demand-at in
     descent-next (rising s) (c .before .before .before .before .loop .inv) (w .result + s .args .extra) (s .pre .1 .usable) (omega (arith, w .ensures)) (c .if2 .left) (c .before .if1 .left)
 
--- so the sums and products on the way fit
-room : (c : tie.Else2 Inv-loop μ-loop) →
+last-with-requires : tie.Need-last-with-requires Inv-loop μ-loop
+last-with-requires c κs =
     let s = c .before .before .before .before .before .before .before in
-    lastWith (s .args .slot) (s .args .gap) (c .before .before .demand-at .result + s .args .extra - 1) < 2 ^ 36
-room c = omega (arith, next c .1, c .before .before .before .before .loop .inv .within, c .before .before .before .before .before .before .before .pre .1 .small)
-
-div-t : tie.Need-div-t Inv-loop μ-loop
-div-t c = omega arith
-
-mul-t : tie.Need-mul-t Inv-loop μ-loop
-unfolding lastWith
-mul-t c = omega (arith, room c)
-
-rem-t : tie.Need-rem-t Inv-loop μ-loop
-rem-t c = omega arith
-
-add-t : tie.Need-add-t Inv-loop μ-loop
-unfolding lastWith
-add-t c = omega (arith, room c)
-
-add-t-2 : tie.Need-add-t-2 Inv-loop μ-loop
-unfolding lastWith
-add-t-2 c = omega (arith, room c)
+    (s .pre .1 .usable, omega (arith, next c .1, c .before .before .before .before .loop .inv .within, s .pre .1 .small))
 
 loop-less : tie.Need-loop-less Inv-loop μ-loop
-unfolding lastWith
-loop-less c = next c .1
+loop-less c = rw (c .last-with .ensures) (next (c .before) .1)
 
 loop-again : tie.Need-loop-again Inv-loop μ-loop
-unfolding lastWith
-loop-again c = next c .0
+loop-again c = rw (c .last-with .ensures) (next (c .before) .0)
 
 returns-3 : tie.Need-returns-3 Inv-loop μ-loop
 returns-3 c = descent-ends (c .before .loop .inv) (omega arith)
@@ -107,7 +83,6 @@ last-short-spec =
     (tie.spec
     Inv-loop
     μ-loop
-    sub-usable
     supply-at-requires
     loop-holds
     (λ c κs. search needs)
@@ -115,11 +90,7 @@ last-short-spec =
     returns
     returns-2
     sub-supply
-    div-t
-    mul-t
-    rem-t
-    add-t
-    add-t-2
+    last-with-requires
     loop-less
     loop-again
     returns-3)

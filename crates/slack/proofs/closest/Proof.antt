@@ -6,24 +6,23 @@ use mathlib.Core.Logic.{⊎-elim}
 use native.Mathlib.Omega.{arith}
 use Rattle.demand.specs.Load.{loadsOf}
 use Rattle.demand.specs.Demand.{demand}
-use Rattle.demand.specs.Supply.{supplyPast}
+use Rattle.demand.specs.Supply.{supplyPast, lastWith}
 use Rattle.demand.specs.Lawful.{Rising}
 use Rattle.demand.proofs.Demand.{demand-zero}
 use Rattle.demand.proofs.Supply.{supply-within}
 use Rattle.demand.proofs.Claims.{loads-lawful}
-use Rattle.search.proofs.Bounded.{after-all, after-within}
-use Rattle.search.proofs.Reach.{lastWith}
+use Rattle.search.proofs.Bounded.{first-within}
 use Rattle.steps.specs.Stepping.{steps}
 use Rattle.slack.proofs.Closing.{Covered, covered, Closing, Closer, closing-none, closing-starts, closing-ends, closing-passes, last-covers, closing-moves}
 use Rattle.slack.proofs.closest.Statement.{statement}
 use Rattle.slack.proofs.closest.Tie as tie
 
 abbrev Inv-loop : tie.InvT-loop
-Inv-loop loads n slot gap hi usable best₀ spare least₀ t₀ supply₀ w₀ best least t supply w =
+Inv-loop loads n slot gap hi best₀ spare least₀ t₀ supply₀ w₀ best least t supply w =
     Closing (demand (loadsOf loads n)) slot gap hi t supply best least × (w ≡ demand (loadsOf loads n) t)
 
 abbrev μ-loop : tie.MeasureT-loop
-μ-loop loads n slot gap hi usable best₀ spare least₀ t₀ supply₀ w₀ best least t supply w = t
+μ-loop loads n slot gap hi best₀ spare least₀ t₀ supply₀ w₀ best least t supply w = t
 
 -- the demand of the loads: nothing at 0, it never falls, and up to hi it is covered
 abbrev asked : tie.Start Inv-loop μ-loop → ℕ → ℕ
@@ -46,10 +45,10 @@ enough : (s : tie.Start Inv-loop μ-loop) → (1 ≤ s .args .slot) × (s .args 
 enough s = (omega (arith, s .pre .1 .0 .usable), omega (arith, s .pre .1 .0 .usable))
 
 -- the first step lies within hi
-first-within : (c : tie.After-first-step Inv-loop μ-loop) → c .first-step .result ≤ c .before .before .args .hi
-first-within c =
+first-inside : (c : tie.After-first-step Inv-loop μ-loop) → c .first-step .result ≤ c .before .before .args .hi
+first-inside c =
     let s = c .before .before in
-    omega (arith, c .first-step .ensures, after-all (steps (asked s)) (s .args .hi), after-within (steps (asked s)) 0 (s .args .hi))
+    omega (arith, c .first-step .ensures, first-within (steps (asked s)) (s .args .hi))
 
 -- at t the supply meets the demand
 met : (c : tie.At-loop Inv-loop μ-loop) → c .loop .w ≤ c .loop .supply
@@ -78,9 +77,6 @@ room c =
 some : (c : tie.In-loop Inv-loop μ-loop) → 0 < c .before .loop .w
 some c = omega (arith, c .loop-test .taken)
 
-sub-usable : tie.Need-sub-usable Inv-loop μ-loop
-sub-usable c = omega (arith, c .before .pre .1 .0 .usable)
-
 first-step-requires : tie.Need-first-step-requires Inv-loop μ-loop
 first-step-requires c κs = (c .before .pre .0, omega (arith, c .before .pre .1 .0 .small))
 
@@ -95,12 +91,12 @@ supply-at-requires c κs = enough (c .before .before .before)
 demand-at-requires : tie.Need-demand-at-requires Inv-loop μ-loop
 demand-at-requires c κs =
     let s = c .before .before .before .before in
-    (s .pre .0, omega (arith, first-within (c .before .before), s .pre .1 .0 .small))
+    (s .pre .0, omega (arith, first-inside (c .before .before), s .pre .1 .0 .small))
 
 sub-least : tie.Need-sub-least Inv-loop μ-loop
 sub-least c =
     let f = c .before .before .before in
-    omega (arith, c .demand-at .ensures, c .before .supply-at .ensures, all (f .before .before) (f .first-step .result) (first-within f))
+    omega (arith, c .demand-at .ensures, c .before .supply-at .ensures, all (f .before .before) (f .first-step .result) (first-inside f))
 
 supply-at-requires-2 : tie.Need-supply-at-requires-2 Inv-loop μ-loop
 supply-at-requires-2 c κs = enough (c .before .before .before .before .before)
@@ -165,40 +161,22 @@ turned c =
     (closing-moves (rising s) (nothing s) (all s) (i .0) (i .1) (some (c .before)) (w .1 .ensures) (w .2 .ensures) (s .pre .1 .0 .usable) no-more))
     (c .if2 .came)
 
--- so the sums and products on the way fit
+-- so the length that the search goes on at is small
 small : (c : tie.Joined2 Inv-loop μ-loop) → lastWith (start (c .before .before) .args .slot) (start (c .before .before) .args .gap) (c .if2 .supply) < 2 ^ 36
 small c =
     omega (arith, turned c .1, c .before .before .loop .inv .0 .within, start (c .before .before) .pre .1 .0 .small)
 
-div-t : tie.Need-div-t Inv-loop μ-loop
-div-t c = omega (arith, start (c .before .before .before) .pre .1 .0 .usable)
-
-mul-t : tie.Need-mul-t Inv-loop μ-loop
-unfolding lastWith
-mul-t c = omega (arith, small (c .before))
-
-rem-t : tie.Need-rem-t Inv-loop μ-loop
-rem-t c = omega (arith, start (c .before .before .before) .pre .1 .0 .usable)
-
-add-t : tie.Need-add-t Inv-loop μ-loop
-unfolding lastWith
-add-t c = omega (arith, small (c .before))
-
-add-t-2 : tie.Need-add-t-2 Inv-loop μ-loop
-unfolding lastWith
-add-t-2 c = omega (arith, small (c .before))
+last-with-requires : tie.Need-last-with-requires Inv-loop μ-loop
+last-with-requires c κs = (start (c .before .before) .pre .1 .0 .usable, small c)
 
 demand-at-requires-3 : tie.Need-demand-at-requires-3 Inv-loop μ-loop
-unfolding lastWith
-demand-at-requires-3 c κs = (start (c .before .before .before) .pre .0, small (c .before))
+demand-at-requires-3 c κs = (start (c .before .before .before) .pre .0, rw (c .last-with .ensures) (small (c .before)))
 
 loop-less : tie.Need-loop-less Inv-loop μ-loop
-unfolding lastWith
-loop-less c = turned (c .before .before) .1
+loop-less c = rw (c .before .last-with .ensures) (turned (c .before .before) .1)
 
 loop-again : tie.Need-loop-again Inv-loop μ-loop
-unfolding lastWith
-loop-again c = (turned (c .before .before) .0, c .demand-at3 .ensures)
+loop-again c = (rw (c .before .last-with .ensures) (turned (c .before .before) .0), c .demand-at3 .ensures)
 
 returns-2 : tie.Need-returns-2 Inv-loop μ-loop
 returns-2 c =
@@ -211,7 +189,6 @@ closest-spec =
     (tie.spec
     Inv-loop
     μ-loop
-    sub-usable
     first-step-requires
     returns
     supply-at-requires
@@ -226,11 +203,7 @@ closest-spec =
     supply-at-requires-3
     sub-least-2
     sub-supply
-    div-t
-    mul-t
-    rem-t
-    add-t
-    add-t-2
+    last-with-requires
     demand-at-requires-3
     loop-less
     loop-again

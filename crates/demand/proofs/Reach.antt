@@ -1,15 +1,15 @@
--- The largest length whose supply is at most v, and why it is the one.
-use Prim.Native.Nat.{ℕ, _+_, _*_, _-_, _/_, _%_, _<_}
+-- Laws of the last length with a supply: at it the supply is v, past it more, and a length with more lies past it.
+-- Assumes nothing.
+use Prim.Native.Nat.{ℕ, _+_, _*_, _-_, _/_, _%_, _≤_, _<_}
 use native.Mathlib.Omega.{arith}
 use native.Mathlib.Nat.{div-add-mod', mod-lt, mul-le-mul-right}
 use native.Mathlib.Decide.{decLt}
 use lib.Arith.{digits-div, digits-mod}
 use mathlib.Core.Path.{_≡_, ap}
-use Rattle.demand.specs.Supply.{supplyPast}
-
--- the last length before the supply past a gap of f exceeds v
-unfoldable pub lastWith : (S f v : ℕ) → ℕ
-lastWith S f v = v / (S - f) * S + (f + v % (S - f))
+use mathlib.Core.Logic.{⊎-elim}
+use Rattle.laws.proofs.Orders.{le-or-lt}
+use Rattle.demand.specs.Supply.{supplyPast, lastWith}
+use Rattle.demand.proofs.Supply.{supply-mono, supply-within}
 
 -- at that length the supply is v
 pub supply-at-last : (S f v : ℕ) → f < S → supplyPast S f (lastWith S f v) ≡ v
@@ -18,6 +18,10 @@ supply-at-last S f v f<S =
     let j<u : v % (S - f) < S - f = mod-lt v (omega arith) in
     let x<S : f + v % (S - f) < S = omega arith in
     rw (digits-div (v / (S - f)) x<S, digits-mod (v / (S - f)) x<S) (omega (arith, div-add-mod' v (S - f)))
+
+-- which is no more than the length
+pub last-reaches : (S f v : ℕ) → f < S → v ≤ lastWith S f v
+last-reaches S f v f<S = omega (arith, supply-at-last S f v f<S, supply-within S f (lastWith S f v))
 
 -- past it the supply exceeds v: the same over plain digits
 past-digits : (S f u k j q x : ℕ) → f + u ≡ S → j < u → x < S → k * S + (f + j) < q * S + x → k * u + j < q * u + (x - f)
@@ -37,3 +41,11 @@ past-last S f v t f<S h =
     let d : v / u * S + (f + v % u) < t / S * S + t % S = omega (arith, div-add-mod' t S) in
     let r : v / u * u + v % u < t / S * u + (t % S - f) = past-digits S f u (v / u) (v % u) (t / S) (t % S) (omega arith) (mod-lt v (omega arith)) (mod-lt t (omega arith)) d in
     omega (arith, div-add-mod' v u)
+
+-- a length with more supply lies past it
+pub last-before : (S f v t : ℕ) → f < S → v < supplyPast S f t → lastWith S f v < t
+last-before S f v t f<S h =
+    ⊎-elim
+    (λ (p : t ≤ lastWith S f v). absurd (omega (arith, supply-at-last S f v f<S, supply-mono S f (omega arith) p)))
+    (λ (q : lastWith S f v < t). q)
+    (le-or-lt t (lastWith S f v))

@@ -1,0 +1,43 @@
+-- `last_with` meets its contract: what it adds up is at most the length, and so is the supply, so nothing wraps.
+-- Assumes nothing.
+use Prim.Native.Nat.{ℕ, _+_, _%_, _^_, _<_}
+use native.Mathlib.Nat.{mod-le}
+use native.Mathlib.Omega.{arith}
+use Rattle.demand.specs.Supply.{lastWith}
+use Rattle.demand.proofs.Reach.{last-reaches}
+use Rattle.demand.proofs.last_with.Statement.{statement}
+use Rattle.demand.proofs.last_with.Tie as tie
+
+-- a remainder fits where the whole does
+rest-fits : (a v u : ℕ) → a + v < 2 ^ 64 → a + v % u < 2 ^ 64
+rest-fits a v u h = omega (arith, mod-le v u)
+
+sub-usable : tie.Need-sub-usable
+sub-usable c = omega arith
+
+div-result : tie.Need-div-result
+div-result c = omega arith
+
+mul-result : tie.Need-mul-result
+unfolding lastWith
+mul-result c = omega arith
+
+add-result : tie.Need-add-result
+unfolding lastWith
+add-result c = omega arith
+
+rem-result : tie.Need-rem-result
+rem-result c = omega arith
+
+add-result-2 : tie.Need-add-result-2
+unfolding lastWith
+add-result-2 c =
+    let reaches = last-reaches (c .args .slot) (c .args .gap) (c .args .supply) (c .pre .0) in
+    record { fits = rest-fits _ _ _ (omega (arith, reaches)) }
+
+returns : tie.Need-returns
+unfolding lastWith
+returns c = omega arith
+
+pub last-with-spec : {M : Type 1} → statement M
+last-with-spec = tie.close (tie.spec sub-usable div-result mul-result add-result rem-result add-result-2 returns)
