@@ -1,17 +1,19 @@
 -- Each claim of specs/Claims.antt, proved.
 -- Assumes nothing.
-use Prim.Native.Nat.{_-_}
+use Prim.Native.Nat.{_-_, _≤_}
 use native.Mathlib.Omega.{arith}
-use native.Mathlib.Nat.{le-antisymm}
+use native.Mathlib.Nat.{le-antisymm, eq-zero-or-pos}
 use mathlib.Core.Path.{_≡_, sym, _∙_}
 use mathlib.Core.Logic.{⊎-elim}
 use mathlib.Core.Bool.{false≢true}
+use borrow.Author.Tests.{eq-eqb, ne-eqb}
 use Rattle.demand.specs.Supply.{Ring}
 use Rattle.search.specs.Search.{firstUpTo}
+use Rattle.verdict.specs.Verdict.{firstFailing}
 use Rattle.verdict.specs.Reserve.{enough}
-use Rattle.verdict.specs.Claims.{PassingMeans, VerdictMeans, ReadWithin, NothingAsked, ClosestOfAll, AnyHorizon, OwnHorizon, PassingStays, ReserveMeans, ReserveOne, OneLess}
+use Rattle.verdict.specs.Claims.{PassingMeans, PassingByFailing, VerdictMeans, ReadWithin, NothingAsked, ClosestOfAll, AnyHorizon, OwnHorizon, PassingStays, ReserveMeans, ReserveOne, OneLess}
 use Rattle.search.proofs.Bounded.{first-view}
-use Rattle.verdict.proofs.Verdict.{passing-passes, passes-passing, passing-rises}
+use Rattle.verdict.proofs.Verdict.{passing-yes, passing-no, passing-passes, passes-passing, passing-rises}
 use Rattle.verdict.proofs.ClosestLaws.{none-closer}
 use Rattle.verdict.proofs.Tells.{yes-closest, closest-yes, no-fails, fails-no, same-verdict, verdict-within, never-yes}
 use Rattle.verdict.proofs.Horizons.{own-lawful}
@@ -20,6 +22,14 @@ use Rattle.verdict.proofs.ReserveLaws.{reserve-whole, reserve-part, who
 pub passing-means : PassingMeans
 passing-means g H S L R lawful slot =
     (passing-passes g H S L R lawful slot, λ e passes. false≢true (sym e ∙ passes-passing g H S L R passes))
+
+pub passing-by-failing : PassingByFailing
+passing-by-failing g H S L R =
+    let t = firstFailing g H S L R in
+    ⊎-elim
+    (λ (z : t ≡ 0). passing-yes g H S L R z ∙ sym (eq-eqb t 0 z))
+    (λ (h : 1 ≤ t). passing-no g H S L R h ∙ sym (ne-eqb t 0 (λ (z : t ≡ 0). omega arith)))
+    (eq-zero-or-pos t)
 
 pub verdict-means : VerdictMeans
 verdict-means g H S L R a lawful slot some =

@@ -4,13 +4,14 @@ use mathlib.Core.Path.{_≡_}
 use mathlib.Core.Logic.{_↔_}
 use mathlib.Core.Bool.{true, false}
 use mathlib.Core.List.{List}
+use lib.Dec.{eqb}
 use Rattle.demand.specs.Load.{Load, Sound, Every}
 use Rattle.demand.specs.Lawful.{Lawful}
 use Rattle.demand.specs.Demand.{demand}
 use Rattle.demand.specs.Supply.{Allowed, supply}
 use Rattle.demand.specs.Passes.{Passes}
 use Rattle.steps.specs.Stepping.{StepsAt}
-use Rattle.verdict.specs.Verdict.{verdictOf, readingOf, passing, ownHorizon}
+use Rattle.verdict.specs.Verdict.{firstFailing, verdictOf, readingOf, passing, ownHorizon}
 use Rattle.verdict.specs.Reserve.{smallestReserve, Smallest}
 use Rattle.verdict.specs.declared.answer.Verdict.{Verdict}
 use Rattle.verdict.specs.declared.answer.Verdict.the-variants.{Yes, No}
@@ -20,6 +21,10 @@ abbrev pub PassingMeans : Type 0
 PassingMeans =
     (g : ℕ → ℕ) (H S L R : ℕ) → Lawful g H → 1 ≤ S
     → (passing g H S L R ≡ true → Passes g S L R) × (passing g H S L R ≡ false → Passes g S L R → ⊥)
+
+-- it goes by the smallest failing length alone: what a yes carries touches neither placing nor sizing
+abbrev pub PassingByFailing : Type 0
+PassingByFailing = (g : ℕ → ℕ) (H S L R : ℕ) → passing g H S L R ≡ eqb (firstFailing g H S L R) 0
 
 -- t is the smallest of all lengths at which demand exceeds supply, w the demand and s the supply there
 pub record FailsFirst (g : ℕ → ℕ) (S L R t w s : ℕ) : Type 0 where
