@@ -16,7 +16,7 @@ use Rattle.plan.specs.declared.server.Server.{Server}
 use Rattle.plancheck.specs.Makes.{makes}
 use Rattle.plancheck.proofs.Checked.{of-set}
 use Rattle.doespass.specs.DoesPass.{refusedPass, ownPass, doesPass}
-use Rattle.planserver.specs.Named.{isServer, allowed}
+use Rattle.named.specs.Named.{isServer, allowed}
 use Rattle.planserver.specs.Recorded.{serverIn, ownMembers}
 use Rattle.planserver.proofs.Judging.{own-members}
 

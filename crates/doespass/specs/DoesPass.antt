@@ -13,7 +13,8 @@ use Rattle.plan.specs.declared.plan.Plan.{Plan}
 use Rattle.plancheck.specs.Makes.{makes}
 use Rattle.loads.specs.Charge.{serverLoss}
 use Rattle.plan.specs.declared.server.Server.{Server}
-use Rattle.planserver.specs.Named.{isServer, serverMembers, allowed, allowedTo}
+use Rattle.named.specs.Named.{isServer, allowed}
+use Rattle.planserver.specs.Members.{serverMembers, allowedTo}
 use Rattle.planserver.specs.Recorded.{ownMembers}
 use Rattle.doespass.specs.declared.PassAnswer.{PassAnswer}
 

@@ -1,10 +1,10 @@
 // The question does a server pass with a reserve, about a set and its plan.
 // What it means stands in specs/DoesPass.antt. Before it stands the function for a plan that is checked already.
+use named::is_allowed_to;
+use named::is_server;
 use plan::plan::Plan;
 use plan::server::Server;
 use plancheck::makes_plan;
-use planserver::is_allowed_to;
-use planserver::is_server;
 use planserver::pass_judged;
 use planserver::record_of;
 use refusals::Outcome;

@@ -51,7 +51,7 @@ use Rattle.plancheck.specs.Makes.{makes}
 use Rattle.planner.specs.Planner.{needed, fullRow, planOutcome, planOf}
 use Rattle.planprocessor.specs.Standing.{isProcessor}
 use Rattle.whoruns.specs.WhoRuns.{whoRuns}
-use Rattle.planserver.specs.Named.{allowed, isServer}
+use Rattle.named.specs.Named.{allowed, isServer}
 use Rattle.doespass.specs.DoesPass.{doesPass}
 use Rattle.planfigures.specs.Figures.{serverFigures, placedFigures, processorFigures}
 use Rattle.planlines.specs.Line.{planLine, serverLine, placedLine, processorLine, refusalText}

@@ -30,7 +30,7 @@ use Rattle.layout.specs.Made.{setPlacement}
 use Rattle.planner.proofs.Made.{rows-clear, fits, may-charge, members, slot-some}
 use Rattle.plancheck.specs.Makes.{makes}
 use Rattle.plancheck.proofs.Checked.{OfSet, of-set}
-use Rattle.planserver.specs.Named.{isServer}
+use Rattle.named.specs.Named.{isServer}
 use Rattle.doespass.specs.DoesPass.{doesPass}
 use Rattle.plan_claims.specs.Claims.{membersIn, allowedIn}
 use Rattle.plan_claims.proofs.Claims.{plan-checked, who-answers, pass-answers}

@@ -31,7 +31,7 @@ use Rattle.layout.specs.Made.{setPlacement}
 use Rattle.planagree.specs.Agrees.{SamePlan}
 use Rattle.planprocessor.specs.Standing.{isProcessor}
 use Rattle.whoruns.specs.WhoRuns.{whoRuns}
-use Rattle.planserver.specs.Named.{isServer}
+use Rattle.named.specs.Named.{isServer}
 use Rattle.doespass.specs.declared.PassAnswer.{PassAnswer}
 use Rattle.doespass.specs.DoesPass.{doesPass}
 use Rattle.plan_claims.specs.Claims.{SameSet, CheckedPlan, WhoTells, PassTells, serverOfTask, membersIn, allowedIn}

@@ -35,7 +35,8 @@ use Rattle.plancheck.proofs.Checked.{OfSet, of-set, same-made, makes-done}
 use Rattle.planprocessor.specs.Standing.{isProcessor}
 use Rattle.whoruns.specs.WhoRuns.{whoAnswer, whoRuns}
 use Rattle.doespass.specs.declared.PassAnswer.{PassAnswer}
-use Rattle.planserver.specs.Named.{allowed, isServer, serverMembers}
+use Rattle.named.specs.Named.{allowed, isServer}
+use Rattle.planserver.specs.Members.{serverMembers}
 use Rattle.doespass.specs.DoesPass.{passAnswer, doesPass}
 use Rattle.plan_claims.specs.Claims.{membersIn, FittingPlan, CheckedPlan, WhoTells, PassTells}
 use Rattle.plan_claims.proofs.MemberLaws.{members-made}

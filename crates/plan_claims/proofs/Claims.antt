@@ -25,7 +25,8 @@ use Rattle.planner.proofs.Made.{plan-outcome, plan-is}
 use Rattle.plancheck.specs.Makes.{makes}
 use Rattle.planprocessor.specs.Standing.{isProcessor}
 use Rattle.whoruns.specs.WhoRuns.{whoAnswer, refusedWho, whoRuns}
-use Rattle.planserver.specs.Named.{allowed, isServer, allowedTo}
+use Rattle.named.specs.Named.{allowed, isServer}
+use Rattle.planserver.specs.Members.{allowedTo}
 use Rattle.doespass.specs.DoesPass.{passAnswer, refusedPass, doesPass}
 use Rattle.planagree.proofs.AgreeLaws.{agree-same, agree-self}
 use Rattle.plancheck.proofs.Checked.{makes-done, makes-agrees}

@@ -21,7 +21,7 @@ use Rattle.layout.specs.Made.{planWith, setPlacement, planMade}
 use Rattle.plancheck.specs.Makes.{makes}
 use Rattle.planagree.proofs.AgreeLaws.{agree-same}
 use Rattle.plancheck.proofs.Checked.{makes-agrees}
-use Rattle.planserver.specs.Named.{serverMembers}
+use Rattle.planserver.specs.Members.{serverMembers}
 use Rattle.plan_claims.specs.Claims.{membersIn}
 
 -- what stands past the last element has no part in it

@@ -14,7 +14,7 @@ use Rattle.plancheck.specs.Makes.{isDone, makes}
 use Rattle.planagree.specs.Agrees.{SamePlan}
 use Rattle.planprocessor.specs.Standing.{isProcessor}
 use Rattle.whoruns.specs.WhoRuns.{whoRuns}
-use Rattle.planserver.specs.Named.{isServer}
+use Rattle.named.specs.Named.{isServer}
 use Rattle.doespass.specs.DoesPass.{doesPass}
 use Rattle.plan_claims.specs.Claims.{SameSet, SetRoomIgnored, PlanRoomIgnored}
 use Rattle.planagree.proofs.AgreeLaws.{agree-alike}

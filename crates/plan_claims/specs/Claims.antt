@@ -43,7 +43,7 @@ use Rattle.planagree.specs.Agrees.{SamePlan}
 use Rattle.plancheck.specs.Makes.{makes}
 use Rattle.planprocessor.specs.Standing.{isProcessor}
 use Rattle.whoruns.specs.WhoRuns.{whoRuns}
-use Rattle.planserver.specs.Named.{allowed, isServer}
+use Rattle.named.specs.Named.{allowed, isServer}
 use Rattle.doespass.specs.DoesPass.{doesPass}
 
 -- ---- each refusal exactly when its row says

@@ -1,19 +1,14 @@
 -- The record of one server of a checked plan, from the plan's rows: the members at its places are the server's, and it may be judged.
 -- Assumes nothing.
-use Prim.Native.Nat.{ℕ, _+_, _^_, _≤_, _<_}
+use Prim.Native.Nat.{ℕ, _^_, _≤_, _<_}
 use mathlib.Core.Path.{_≡_, refl, ap, _∙_}
-use mathlib.Core.Bool.{Bool, true, false, _&&_, _||_}
-use mathlib.Core.Logic.{inl, inr}
+use mathlib.Core.Bool.{true}
 use mathlib.Core.List.{List, map}
 use native.Mathlib.Omega.{arith}
-use borrow.Author.Tests.{leb-true, eqb-true}
-use lib.Dec.{leb, eqb}
 use lib.ListN.{length, take, length-take}
 use Rattle.tasks.specs.Set.{mostTasks}
-use Rattle.laws.proofs.Tests.{and-left, and-right}
 use Rattle.charging.specs.Charging.{entryLoss}
 use Rattle.demand.specs.Load.{Load}
-use Rattle.demand.specs.Supply.{Allowed}
 use Rattle.places.specs.Places.{placesIn, chosen}
 use Rattle.places.proofs.PaddedLaws.{padded-take}
 use Rattle.places.proofs.PlacesLaws.{places-most, places-below}
@@ -34,31 +29,10 @@ use Rattle.planner.specs.Planner.{Clear}
 use Rattle.planner.proofs.Made.{count-most, fits, filed}
 use Rattle.plancheck.specs.Makes.{makes}
 use Rattle.plancheck.proofs.Checked.{of-set, laid-in, placement-count}
-use Rattle.planserver.specs.Named.{isServer, allowed, serverMembers}
+use Rattle.named.specs.Named.{isServer}
+use Rattle.named.proofs.NamedLaws.{server-within}
+use Rattle.planserver.specs.Members.{serverMembers}
 use Rattle.planserver.specs.Recorded.{serverIn, ownMembers, Recorded}
-
--- the test of a reserve says that it is allowed
-module _ (S L R : ℕ) where
-  abbrev enters : Bool
-  enters = leb (L + 1) R
-
-  abbrev parts : Bool
-  parts = leb (R + 1) S
-
-  by-ring : (x : Bool) → (enters && parts) ≡ x → (x || eqb R S) ≡ true → Allowed S L R
-  by-ring true g e = inl (record { enters = leb-true (L + 1) R (and-left enters parts g); parts = leb-true (R + 1) S (and-right enters parts g) })
-  by-ring false g e = inr (eqb-true R S e)
-
-  -- both tests of a ring reserve hold, or it is the slot
-  pub allowed-is : allowed S L R ≡ true → Allowed S L R
-  unfolding allowed
-  allowed-is e = by-ring (enters && parts) refl e
-
--- a server that is there has a number from 1 to their number
-pub server-within : (plan : Plan) (q : ℕ) → isServer plan q ≡ true → (1 ≤ q) × (q ≤ plan .servers)
-unfolding isServer
-server-within plan q e =
-    (leb-true 1 q (and-left (leb 1 q) (leb q (plan .servers)) e), leb-true q (plan .servers) (and-right (leb 1 q) (leb q (plan .servers)) e))
 
 module _ (set : TaskSet) (full : length (set .tasks) ≡ mostTasks) (plan : Plan) (e : makes set plan ≡ true) (q : ℕ) (there : isServer plan q ≡ true) where
   clear : Clear set

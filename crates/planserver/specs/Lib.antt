@@ -1,2 +1,2 @@
-pub mod Named
+pub mod Members
 pub mod Recorded

@@ -6,7 +6,7 @@ use mathlib.Core.Path.{_≡_, sym, _∙_}
 use mathlib.Core.Bool.{true}
 use lib.ListN.{length, length-map}
 use Rattle.tasks.specs.Set.{mostTasks}
-use Rattle.planserver.specs.Named.{isServer}
+use Rattle.named.specs.Named.{isServer}
 use Rattle.plancheck.proofs.Checked.{of-set}
 use Rattle.planserver.proofs.Judging.{own-recorded}
 use Rattle.doespass.proofs.PassLaws.{pass-absent, pass-there}

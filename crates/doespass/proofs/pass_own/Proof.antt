@@ -5,9 +5,10 @@ use borrow.Author.Tests.{not-true, not-false}
 use Prim.Native.Nat.{ℕ}
 use mathlib.Core.Path.{_≡_, sym, ap, _∙_}
 use Rattle.loads.specs.Charge.{serverLoss}
-use Rattle.planserver.specs.Named.{allowed}
+use Rattle.named.specs.Named.{allowed}
 use Rattle.planserver.specs.Recorded.{ownMembers}
-use Rattle.planserver.proofs.Judging.{cache-small, own-loss, allowed-is}
+use Rattle.named.proofs.NamedLaws.{allowed-is}
+use Rattle.planserver.proofs.Judging.{cache-small, own-loss}
 use Rattle.doespass.proofs.PassLaws.{own-barred, own-there}
 use Rattle.doespass.proofs.pass_own.Statement.{statement}
 use Rattle.doespass.proofs.pass_own.Tie as tie

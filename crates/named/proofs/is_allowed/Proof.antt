@@ -3,9 +3,9 @@
 use Prim.Native.Nat.{_+_, _≤_, _<_}
 use native.Mathlib.Omega.{arith}
 use borrow.Author.Tests.{le-leb, lt-leb}
-use Rattle.planserver.specs.Named.{allowed}
-use Rattle.planserver.proofs.is_allowed.Statement.{statement}
-use Rattle.planserver.proofs.is_allowed.Tie as tie
+use Rattle.named.specs.Named.{allowed}
+use Rattle.named.proofs.is_allowed.Statement.{statement}
+use Rattle.named.proofs.is_allowed.Tie as tie
 
 returns : tie.Need-returns
 unfolding allowed

@@ -3,9 +3,9 @@
 use borrow.Author.Needs.{needs}
 use Prim.Native.Nat.{ℕ}
 use mathlib.Core.Path.{ap, _∙_}
-use Rattle.planserver.specs.Named.{allowed}
-use Rattle.planserver.proofs.is_allowed_to.Statement.{statement}
-use Rattle.planserver.proofs.is_allowed_to.Tie as tie
+use Rattle.named.specs.Named.{allowed}
+use Rattle.named.proofs.is_allowed_to.Statement.{statement}
+use Rattle.named.proofs.is_allowed_to.Tie as tie
 
 returns : tie.Need-returns
 returns c =

@@ -1,9 +1,9 @@
 -- `is_server` meets its contract: the tests are the definition's.
 -- Assumes nothing.
 use borrow.Author.Tests.{le-leb, lt-leb}
-use Rattle.planserver.specs.Named.{isServer}
-use Rattle.planserver.proofs.is_server.Statement.{statement}
-use Rattle.planserver.proofs.is_server.Tie as tie
+use Rattle.named.specs.Named.{isServer}
+use Rattle.named.proofs.is_server.Statement.{statement}
+use Rattle.named.proofs.is_server.Tie as tie
 
 returns : tie.Need-returns
 unfolding isServer
