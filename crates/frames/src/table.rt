@@ -7,6 +7,7 @@ ghost use Rattle.frames.specs.Table.{rowOf};
 pub enum Frame {
     Header,
     Task,
+    Masked,
     Plan,
     Server,
     Placed,
@@ -16,7 +17,7 @@ pub enum Frame {
 }
 
 // The number of kinds, and the most fields that one of them has.
-pub const KINDS: usize = 8;
+pub const KINDS: usize = 9;
 
 pub const MOST_FIELDS: usize = 7;
 
@@ -31,6 +32,7 @@ pub struct Row {
 pub const FRAMES: [Frame; KINDS] = [
     Frame::Header,
     Frame::Task,
+    Frame::Masked,
     Frame::Plan,
     Frame::Server,
     Frame::Placed,
@@ -51,6 +53,13 @@ const TASK: Row = Row {
     fields: 4,
     widths: [2, 6, 6, 6, 0, 0, 0],
     starts: [2, 4, 10, 16, 22, 22, 22, 22],
+};
+
+const MASKED: Row = Row {
+    kind: *b"05",
+    fields: 1,
+    widths: [4, 0, 0, 0, 0, 0, 0],
+    starts: [2, 6, 6, 6, 6, 6, 6, 6],
 };
 
 const PLAN: Row = Row {
@@ -98,6 +107,7 @@ const SWITCH: Row = Row {
 pub const TABLE: [Row; KINDS] = [
     HEADER,
     TASK,
+    MASKED,
     PLAN,
     SERVER,
     PLACED,
@@ -113,6 +123,7 @@ pub fn row_of(frame: Frame) -> Row
     match frame {
         Frame::Header => HEADER,
         Frame::Task => TASK,
+        Frame::Masked => MASKED,
         Frame::Plan => PLAN,
         Frame::Server => SERVER,
         Frame::Placed => PLACED,

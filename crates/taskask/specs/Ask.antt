@@ -6,6 +6,8 @@ use lib.Dec.{ltb, eqb}
 use Rattle.framesizes.specs.Overflow.{lineOverflows}
 use Rattle.frames.specs.declared.table.Frame.{Frame}
 use Rattle.tasks.specs.declared.set.Header.{Header}
+use Rattle.tasks.specs.declared.set.Optional.{Optional}
+use Rattle.tasks.specs.declared.set.Optional.the-variants.{Absent, Given}
 use Rattle.tasks.specs.declared.set.Task.{Task}
 use Rattle.tasks.specs.declared.set.TaskSet.{TaskSet}
 use Rattle.tasks.specs.Set.{mostTasks, members, hasId}
@@ -21,15 +23,19 @@ unfoldable pub twiceRow : List Task → Bool
 twiceRow [] = false
 twiceRow (t ∷ ts) = some (hasId (t .id)) ts || twiceRow ts
 
--- a figure of a header or of a task is too large for its field
+-- a figure of a header, of a task or of a 05 line is too large for its field
 unfoldable pub headerOverflows : Header → Bool
 headerOverflows h = lineOverflows Frame.Header (headerValues h)
 
 unfoldable pub taskOverflows : Task → Bool
 taskOverflows t = lineOverflows Frame.Task (taskValues t)
 
+unfoldable pub maskedOverflows : Optional → Bool
+maskedOverflows Absent = false
+maskedOverflows (Given masked) = lineOverflows Frame.Masked (masked ∷ [])
+
 -- 11 ASK of a set: it breaks row 3 or 4, or holds what no file's lines can carry
 unfoldable pub askRow : TaskSet → Bool
 askRow set =
     countRow set ||
-    (twiceRow (members set) || (headerOverflows (set .header) || some taskOverflows (members set)))
+    (twiceRow (members set) || (headerOverflows (set .header) || (some taskOverflows (members set) || maskedOverflows (set .header .masked))))

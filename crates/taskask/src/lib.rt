@@ -3,6 +3,7 @@
 use frames::table::Frame;
 use framesizes::overflows;
 use tasks::set::Header;
+use tasks::set::Optional;
 use tasks::set::Task;
 use tasks::set::TaskSet;
 use tasks::values::header_values;
@@ -11,7 +12,7 @@ ghost use mathlib.Core.Path.{_≡_};
 ghost use Prim.Native.Nat.{_≤_};
 ghost use Rattle.tasks.specs.Set.{members, mostTasks};
 ghost use Rattle.tasks.specs.Search.{some};
-ghost use Rattle.taskask.specs.Ask.{countRow, twiceRow, headerOverflows, taskOverflows, askRow};
+ghost use Rattle.taskask.specs.Ask.{countRow, twiceRow, headerOverflows, taskOverflows, maskedOverflows, askRow};
 
 // 3 COUNT.
 pub fn breaks_count(set: TaskSet) -> bool
@@ -76,6 +77,17 @@ fn tasks_overflow(set: TaskSet) -> bool
     false
 }
 
+// The figure of the 05 line is too large for its field.
+fn masked_overflows(masked: Optional) -> bool
+    ensures { λ r. ⌜ r ≡ maskedOverflows masked ⌝ }
+{
+    let Optional::Given(ticks) = masked else {
+        return false;
+    };
+    let values = [ticks as u64];
+    overflows(Frame::Masked, &values)
+}
+
 // 11 ASK of a set.
 pub fn asks(set: TaskSet) -> bool
     ensures { λ r. ⌜ r ≡ askRow set ⌝ }
@@ -90,5 +102,9 @@ pub fn asks(set: TaskSet) -> bool
     if header_overflows(header) {
         return true;
     }
-    tasks_overflow(set)
+    if tasks_overflow(set) {
+        return true;
+    }
+    let masked = header.masked;
+    masked_overflows(masked)
 }

@@ -1,10 +1,12 @@
 -- The task set as a value: its tasks in file order, the all-zero set, and the set with its unused room at zero.
--- Document 01, "The numbers of a task set" (RULES 1) and "Refusal numbers and their order" (RULES 6).
+-- Document 01, "The numbers of a task set" (RULES 1) and "Refusal numbers and their order" (RULES 6); document 02, Req 04 (RULES 1.5).
 use Prim.Native.Nat.{ℕ, _+_, _-_}
 use mathlib.Core.List.{List, _++_}
 use mathlib.Core.Bool.{Bool}
 use lib.ListN.{length, take, replicate, set as put}
 use lib.Dec.{eqb}
+use Rattle.tasks.specs.declared.set.Optional.{Optional}
+use Rattle.tasks.specs.declared.set.Optional.the-variants.{Absent, Given}
 use Rattle.tasks.specs.declared.set.Header.{Header}
 use Rattle.tasks.specs.declared.set.Task.{Task}
 use Rattle.tasks.specs.declared.set.TaskSet.{TaskSet}
@@ -23,7 +25,29 @@ abbrev pub longestHorizon : ℕ
 longestHorizon = 10000000
 
 abbrev pub zeroHeader : Header
-zeroHeader = record { processors = 0; slot = 0; relj = 0; relo = 0; ctswo = 0; resd = 0; cpmdo = 0 }
+zeroHeader = record { processors = 0; slot = 0; relj = 0; relo = 0; ctswo = 0; resd = 0; cpmdo = 0; masked = Absent }
+
+-- B: what the 05 line gives; without it B is 0
+abbrev pub given : Optional → ℕ
+given Absent = 0
+given (Given figure) = figure
+
+abbrev pub maskedTicks : Header → ℕ
+maskedTicks h = given (h .masked)
+
+-- a header with what its 05 line gives
+abbrev pub withMasked : Header → Optional → Header
+withMasked h masked =
+    record {
+      processors = h .processors;
+      slot = h .slot;
+      relj = h .relj;
+      relo = h .relo;
+      ctswo = h .ctswo;
+      resd = h .resd;
+      cpmdo = h .cpmdo;
+      masked = masked;
+    }
 
 abbrev pub zeroTask : Task
 zeroTask = record { id = 0; cost = 0; deadline = 0; period = 0 }

@@ -1,8 +1,15 @@
-// The task set: the header's figures and the tasks in file order, with the limits of document 01 as its constants.
+// The task set: the board's figures and the tasks in file order, with the limits of document 01 as its constants.
 // A set may also be built by a caller, so its types hold more than a file's fields do.
 ghost use mathlib.Core.Path.{_≡_};
-ghost use Rattle.tasks.specs.Set.{zeroSet};
+ghost use Rattle.tasks.specs.Set.{zeroSet, maskedTicks, withMasked};
 
+// The figure of an optional line, or that there is no such line.
+pub enum Optional {
+    Absent,
+    Given(u16),
+}
+
+// The board's figures: those of the 01 line, and that of the 05 line.
 pub struct Header {
     pub processors: u8,
     pub slot: u32,
@@ -11,6 +18,7 @@ pub struct Header {
     pub ctswo: u16,
     pub resd: u16,
     pub cpmdo: u16,
+    pub masked: Optional,
 }
 
 pub struct Task {
@@ -48,6 +56,7 @@ impl TaskSet {
                 ctswo: 0,
                 resd: 0,
                 cpmdo: 0,
+                masked: Optional::Absent,
             },
             count: 0,
             tasks: [Task {
@@ -56,6 +65,34 @@ impl TaskSet {
                 deadline: 0,
                 period: 0,
             }; TaskSet::MOST_TASKS],
+        }
+    }
+}
+
+impl Header {
+    // B: the ticks for which a job can hold interrupts off.
+    pub fn masked_ticks(self) -> u16
+        ensures { λ r. ⌜ r ≡ maskedTicks self ⌝ }
+    {
+        let masked = self.masked;
+        match masked {
+            Optional::Given(ticks) => ticks,
+            Optional::Absent => 0,
+        }
+    }
+
+    pub fn with_masked(self, masked: Optional) -> Header
+        ensures { λ r. ⌜ r ≡ withMasked self masked ⌝ }
+    {
+        Header {
+            processors: self.processors,
+            slot: self.slot,
+            relj: self.relj,
+            relo: self.relo,
+            ctswo: self.ctswo,
+            resd: self.resd,
+            cpmdo: self.cpmdo,
+            masked,
         }
     }
 }

@@ -38,10 +38,15 @@ returns-8 : tie.Need-returns-8
 unfolding kindOf widthsOf sum front rowOf
 returns-8 c = sym (ap rowOf (c .enum-told8 .given .1))
 
+returns-9 : tie.Need-returns-9
+unfolding kindOf widthsOf sum front rowOf
+returns-9 c = sym (ap rowOf (c .enum-told9 .given .1))
+
 pub row-of-spec : {M : Type 1} → statement M
 row-of-spec =
     tie.close
     (tie.spec
+    (λ c. search needs)
     (λ c. search needs)
     (λ c. search needs)
     (λ c. search needs)
@@ -57,4 +62,5 @@ row-of-spec =
     returns-5
     returns-6
     returns-7
-    returns-8)
+    returns-8
+    returns-9)
