@@ -7,6 +7,7 @@ use frames::table::Frame;
 use refusals::Outcome;
 use refusals::Refusal;
 use tasks::set::Header;
+use tasks::set::Optional;
 ghost use mathlib.Core.Path.{_≡_};
 ghost use mathlib.Core.Bool.{true};
 ghost use Rattle.frameread.specs.Line.{formed};
@@ -40,6 +41,7 @@ fn header_at(text: &[u8]) -> Header
         ctswo: field(text, 0, Frame::Header, 4) as u16,
         resd: field(text, 0, Frame::Header, 5) as u16,
         cpmdo: field(text, 0, Frame::Header, 6) as u16,
+        masked: Optional::Absent,
     }
 }
 
@@ -55,7 +57,7 @@ pub fn header_line(text: &[u8]) -> HeaderLine
     };
     match frame {
         Frame::Header => HeaderLine::Header(header_at(text)),
-        Frame::Task => HeaderLine::Refused(Refusal::Order(1)),
+        Frame::Task | Frame::Masked => HeaderLine::Refused(Refusal::Order(1)),
         _ => HeaderLine::Refused(Refusal::Line(1)),
     }
 }

@@ -1,4 +1,5 @@
 pub mod Past
 pub mod AmongLaws
 pub mod Lines
+pub mod OpeningLaws
 pub mod Standing

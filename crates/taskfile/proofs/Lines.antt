@@ -4,75 +4,118 @@ use Prim.Native.Nat.{ℕ, zero, suc, _+_, _≤_, _<_}
 use native.Mathlib.Omega.{arith}
 use native.Mathlib.Decide.{decLt}
 use mathlib.Core.List.{List, [], _∷_}
-use mathlib.Core.Bool.{Bool, true, false, not, _&&_, and-false}
-use mathlib.Core.Path.{_≡_, refl, sym, _∙_, ap}
+use mathlib.Core.Bool.{Bool, true, false, not, cond, and-false}
+use mathlib.Core.Path.{_≡_, refl, sym, _∙_}
 use lib.ListN.{length}
 use lib.Dec.{eqb}
 use borrow.Author.Tests.{eq-eqb, ne-eqb, not-false}
+use Rattle.laws.proofs.Tests.{true-false}
 use Rattle.frameread.specs.Line.{formed, closed}
 use Rattle.frames.specs.declared.table.Frame.{Frame}
 use Rattle.refusals.specs.declared.Refusal.{Refusal}
 use Rattle.refusals.specs.declared.Refusal.the-variants.{Line, Order, Count, Twice}
-use Rattle.refusals.specs.declared.Outcome.{Outcome}
 use Rattle.refusals.specs.declared.Outcome.the-variants.{Done, Refused}
 use Rattle.refusals.specs.First.{firstOf, when, till}
 use Rattle.tasks.specs.Set.{mostTasks, hasId}
 use Rattle.tasks.specs.Search.{some}
-use Rattle.taskfile.specs.File.{past, empty, fileKinds, admitted, lineRow, orderRow, countLineRow, twiceLineRow, lineOutcome, taskAt, tasksAmong, fileTasks}
+use Rattle.taskfile.specs.File.{past, empty, fileKinds, admitted, lineRow, orderRow, countLineRow, twiceLineRow, lineOutcome, openingLines, taskAt, tasksAmong, fileTasks}
 use Rattle.frameread.proofs.KindLaws.{not-formed}
 use Rattle.tasks.proofs.SearchLaws.{some-nowhere}
-use Rattle.refusals.proofs.FirstLaws.{done-refused, till-done, done-till}
+use Rattle.refusals.proofs.FirstLaws.{done-refused, first-done, when-done, till-done, done-till}
 use Rattle.taskfile.proofs.Past.{absent-later, absent-past}
 use Rattle.taskfile.proofs.AmongLaws.{task-counts}
 
--- an 01 line is no 02 line, and the other way
+-- a line of one kind that a task file admits is of no other
 pub header-no-task : (text : List ℕ) → formed Frame.Header text ≡ true → formed Frame.Task text ≡ false
 header-no-task text f = not-formed Frame.Header Frame.Task refl text f
 
 pub task-no-header : (text : List ℕ) → formed Frame.Task text ≡ true → formed Frame.Header text ≡ false
 task-no-header text f = not-formed Frame.Task Frame.Header refl text f
 
--- a text that starts with no kind of line, and with neither of the two that a task file admits
+pub task-no-masked : (text : List ℕ) → formed Frame.Task text ≡ true → formed Frame.Masked text ≡ false
+task-no-masked text f = not-formed Frame.Task Frame.Masked refl text f
+
+pub masked-no-header : (text : List ℕ) → formed Frame.Masked text ≡ true → formed Frame.Header text ≡ false
+masked-no-header text f = not-formed Frame.Masked Frame.Header refl text f
+
+pub masked-no-task : (text : List ℕ) → formed Frame.Masked text ≡ true → formed Frame.Task text ≡ false
+masked-no-task text f = not-formed Frame.Masked Frame.Task refl text f
+
+-- a text that starts with no kind of line, and with none of the three that a task file admits
 pub admits-none : (rest : List ℕ) → ((kind : Frame) → formed kind rest ≡ false) → admitted rest ≡ false
 admits-none rest none = some-nowhere (λ (kind : Frame). formed kind rest) Frame.Header fileKinds (λ j lt. none _)
 
-pub neither : (rest : List ℕ) → formed Frame.Header rest ≡ false → formed Frame.Task rest ≡ false → admitted rest ≡ false
+pub neither : (rest : List ℕ) → formed Frame.Header rest ≡ false → formed Frame.Task rest ≡ false → formed Frame.Masked rest ≡ false → admitted rest ≡ false
 unfolding some
-neither rest header task = rw (header, task)
+neither rest header task masked = rw (header, task, masked)
+
+-- a text that starts with a line is not empty
+pub formed-there : (frame : Frame) (rest : List ℕ) → formed frame rest ≡ true → empty rest ≡ false
+unfolding formed closed
+formed-there frame [] f = true-false (sym f)
+formed-there frame (b ∷ bs) f = refl
 
 -- ---- lines that are not there
 
--- from line 3 on they are clear
-pub absent-done : (text : List ℕ) (n : ℕ) → past (suc (suc n)) text ≡ [] → lineOutcome text (suc (suc (suc n))) ≡ Done
+-- behind one that is not there they are clear
+pub absent-done : (text : List ℕ) (n : ℕ) → past n text ≡ [] → lineOutcome text (suc (suc n)) ≡ Done
 unfolding lineOutcome lineRow orderRow countLineRow twiceLineRow formed closed
-absent-done text n e = rw (e, ne-eqb (suc (suc (suc n))) 1 (λ h. omega arith), ne-eqb (suc (suc (suc n))) 2 (λ h. omega arith))
+absent-done text n e = rw (absent-later n (suc n) text (omega arith) e, e, ne-eqb (suc (suc n)) 1 (λ h. omega arith))
 
--- so a text of two clear lines or more that ends there is clear for ever
-pub clear-past : (text : List ℕ) (n m : ℕ) → past (suc (suc n)) text ≡ [] → till (lineOutcome text) (suc (suc n)) ≡ Done → till (lineOutcome text) m ≡ Done
-clear-past text n m e clear = done-till (lineOutcome text) m (λ j h. line j)
+-- and in a file with a task also right behind the last
+pub last-done : (text : List ℕ) (n : ℕ) → past (suc n) text ≡ [] → 1 ≤ length (fileTasks text) → lineOutcome text (suc (suc n)) ≡ Done
+unfolding lineOutcome lineRow orderRow countLineRow twiceLineRow formed closed
+last-done text n e any =
+    let there : eqb (length (fileTasks text)) 0 ≡ false = ne-eqb (length (fileTasks text)) 0 (λ h. omega arith) in
+    rw (e, there, ne-eqb (suc (suc n)) 1 (λ h. omega arith)) (simp and-false)
+
+-- with no task that is COUNT
+pub no-task : (text : List ℕ) (n : ℕ) → empty (past n text) ≡ false → past (suc n) text ≡ [] → length (fileTasks text) ≡ 0 → lineOutcome text (suc (suc n)) ≡ Refused (Count (suc (suc n)))
+unfolding lineOutcome lineRow orderRow countLineRow twiceLineRow formed closed
+no-task text n there e none = rw (e, there, none, ne-eqb (suc (suc n)) 1 (λ h. omega arith))
+
+-- so a text with a task that ends behind clear lines is clear for ever
+pub clear-past : (text : List ℕ) (n m : ℕ) → past (suc n) text ≡ [] → 1 ≤ length (fileTasks text) → till (lineOutcome text) (suc n) ≡ Done → till (lineOutcome text) m ≡ Done
+clear-past text n m e any clear = done-till (lineOutcome text) m (λ j h. line j)
   where
-    beyond : (j : ℕ) → suc (suc n) ≤ j → lineOutcome text (suc j) ≡ Done
+    beyond : (j : ℕ) → suc n ≤ j → lineOutcome text (suc j) ≡ Done
     beyond zero le = absurd (omega arith)
-    beyond (suc zero) le = absurd (omega arith)
-    beyond (suc (suc i)) le = absent-done text i (absent-later (suc (suc n)) (suc (suc i)) text le e)
+    beyond (suc i) le = last-done text i (absent-later (suc n) (suc i) text le e) any
 
     line : (j : ℕ) → lineOutcome text (suc j) ≡ Done
     line j =
-        elim (decLt j (suc (suc n))) [
-          | yes lt ↦ till-done (lineOutcome text) (suc (suc n)) clear j lt
+        elim (decLt j (suc n)) [
+          | yes lt ↦ till-done (lineOutcome text) (suc n) clear j lt
           | no over ↦ beyond j (omega (arith, over))
         ]
 
--- a line that is refused is one of the file or one of the first two
+-- a line that is refused is one of the file or the one behind the last
 pub refused-within : (text : List ℕ) (n : ℕ) (r : Refusal) → lineOutcome text (suc n) ≡ Refused r → n < length text + 2
 refused-within text zero r e = omega arith
-refused-within text (suc zero) r e = omega arith
-refused-within text (suc (suc m)) r e =
+refused-within text (suc m) r e =
     elim (decLt m (length text)) [
       | yes lt ↦ omega arith
-      | no past-end ↦
-          done-refused (sym (absent-done text m (absent-past (suc (suc m)) text (omega (arith, past-end)))) ∙ e)
+      | no past-end ↦ done-refused (sym (absent-done text m (absent-past m text (omega (arith, past-end)))) ∙ e)
     ]
+
+-- ---- the lines before the tasks
+
+-- one at least, two with a 05 line at line 2, else one
+pub some-opening : (text : List ℕ) → 1 ≤ openingLines text
+unfolding openingLines
+some-opening text = by-kind (formed Frame.Masked (past 1 text))
+  where
+    by-kind : (b : Bool) → 1 ≤ cond b 2 1
+    by-kind true = omega arith
+    by-kind false = omega arith
+
+pub opening-two : (text : List ℕ) → formed Frame.Masked (past 1 text) ≡ true → openingLines text ≡ 2
+unfolding openingLines
+opening-two text masked = rw masked
+
+pub opening-one : (text : List ℕ) → formed Frame.Masked (past 1 text) ≡ false → openingLines text ≡ 1
+unfolding openingLines
+opening-one text other = rw other
 
 -- ---- line 1
 
@@ -84,17 +127,30 @@ first-missing = refl
 -- that is an 01 line
 pub first-header : (text : List ℕ) → formed Frame.Header text ≡ true → lineOutcome text 1 ≡ Done
 unfolding lineOutcome lineRow orderRow countLineRow twiceLineRow past some
-first-header text header = rw (header, header-no-task text header, and-false (not (empty text)))
+first-header text header = rw (header, header-no-task text header, formed-there Frame.Header text header)
 
--- that is an 02 line
+-- that is an 02 or a 05 line
 pub first-task : (text : List ℕ) → formed Frame.Task text ≡ true → lineOutcome text 1 ≡ Refused (Order 1)
 unfolding lineOutcome lineRow orderRow past some
 first-task text task = rw (task-no-header text task, task, and-false (not (empty text)))
 
--- that is neither
+pub first-masked : (text : List ℕ) → formed Frame.Masked text ≡ true → lineOutcome text 1 ≡ Refused (Order 1)
+unfolding lineOutcome lineRow orderRow past some
+first-masked text masked = rw (masked-no-header text masked, masked-no-task text masked, masked, and-false (not (empty text)))
+
+-- that is none of them
 pub first-other : (text : List ℕ) → empty text ≡ false → admitted text ≡ false → lineOutcome text 1 ≡ Refused (Line 1)
 unfolding lineOutcome lineRow past
 first-other text there other = rw (there, other)
+
+-- ---- line 2
+
+-- that is a 05 line
+pub second-masked : (text : List ℕ) → formed Frame.Masked (past 1 text) ≡ true → lineOutcome text 2 ≡ Done
+unfolding lineOutcome lineRow orderRow countLineRow twiceLineRow some
+second-masked text masked =
+    rw (masked-no-header (past 1 text) masked, masked-no-task (past 1 text) masked, masked, formed-there Frame.Masked (past 1 text) masked)
+    (simp and-false)
 
 -- ---- any line
 
@@ -111,41 +167,66 @@ unfolding lineOutcome lineRow orderRow some
 later-header text n some header =
     rw (header, ne-eqb (suc n) 1 (λ h. omega arith), and-false (not (empty (past n text))))
 
+-- that is a 05 line, elsewhere than line 2
+third-masked : (text : List ℕ) (n : ℕ) → 2 ≤ n → formed Frame.Masked (past n text) ≡ true → lineOutcome text (suc n) ≡ Refused (Order (suc n))
+unfolding lineOutcome lineRow orderRow some
+third-masked text n over masked =
+    rw (masked-no-header (past n text) masked, masked-no-task (past n text) masked, masked, ne-eqb (suc n) 1 (λ h. omega arith), ne-eqb (suc n) 2 (λ h. omega arith), and-false (not (empty (past n text))))
+
+-- behind the lines before the tasks no 05 line is at line 2
+pub later-masked : (text : List ℕ) (n : ℕ) → openingLines text ≤ n → formed Frame.Masked (past n text) ≡ true → lineOutcome text (suc n) ≡ Refused (Order (suc n))
+later-masked text zero opened masked = absurd (omega (arith, some-opening text))
+later-masked text (suc zero) opened masked = absurd (omega (arith, opening-two text masked))
+later-masked text (suc (suc n)) opened masked = third-masked text (suc (suc n)) (omega arith) masked
+
 -- that is an 02 line: refused as a 65th, or as one whose id repeats, or clear
 pub later-task : (text : List ℕ) (n : ℕ) → 1 ≤ n → formed Frame.Task (past n text) ≡ true → lineOutcome text (suc n) ≡ firstOf (when (eqb (length (tasksAmong text n)) mostTasks) (Count (suc n))) (when (some (hasId (taskAt (past n text) .id)) (tasksAmong text n)) (Twice (suc n)))
 unfolding lineOutcome lineRow orderRow countLineRow twiceLineRow some
 later-task text n after-first task =
     let there : eqb (length (fileTasks text)) 0 ≡ false = ne-eqb (length (fileTasks text)) 0 (λ h. omega (arith, task-counts text n task)) in
-    rw (task-no-header (past n text) task, task, ne-eqb (suc n) 1 (λ h. omega arith), there)
+    rw (task-no-header (past n text) task, task-no-masked (past n text) task, task, ne-eqb (suc n) 1 (λ h. omega arith), there)
     (simp and-false)
 
 -- ---- a line that is clear
 
--- it is there, and so an 01 or an 02 line
-kind-of : (text : List ℕ) (n : ℕ) → empty (past n text) ≡ false → formed Frame.Header (past n text) ≡ false → lineOutcome text (suc n) ≡ Done → formed Frame.Task (past n text) ≡ true
-kind-of text n there header clear = go (formed Frame.Task (past n text)) refl
+-- behind the lines before the tasks it is an 02 line, if it is there
+pub clear-task : (text : List ℕ) (n : ℕ) → openingLines text ≤ n → empty (past n text) ≡ false → lineOutcome text (suc n) ≡ Done → formed Frame.Task (past n text) ≡ true
+clear-task text n opened there clear = go (formed Frame.Header (past n text)) (formed Frame.Task (past n text)) (formed Frame.Masked (past n text)) refl refl refl
   where
-    go : (b : Bool) → formed Frame.Task (past n text) ≡ b → b ≡ true
-    go true e = refl
-    go false e = done-refused (sym clear ∙ line-other text n there (neither (past n text) header e))
+    go : (h t m : Bool) → formed Frame.Header (past n text) ≡ h → formed Frame.Task (past n text) ≡ t → formed Frame.Masked (past n text) ≡ m → t ≡ true
+    go h true m eh et em = refl
+    go true false m eh et em = done-refused (sym clear ∙ later-header text n (omega (arith, some-opening text)) eh)
+    go false false true eh et em = done-refused (sym clear ∙ later-masked text n opened em)
+    go false false false eh et em = done-refused (sym clear ∙ line-other text n there (neither (past n text) eh et em))
 
--- after the first an 02 line
-pub clear-task : (text : List ℕ) (n : ℕ) → 1 ≤ n → empty (past n text) ≡ false → lineOutcome text (suc n) ≡ Done → formed Frame.Task (past n text) ≡ true
-clear-task text n some there clear = go (formed Frame.Header (past n text)) refl
-  where
-    go : (b : Bool) → formed Frame.Header (past n text) ≡ b → formed Frame.Task (past n text) ≡ true
-    go true e = done-refused (sym clear ∙ later-header text n some e)
-    go false e = kind-of text n there e clear
+-- it does not break row 2
+order-clear : (text : List ℕ) (k : ℕ) → lineOutcome text k ≡ Done → orderRow text k ≡ false
+unfolding lineOutcome
+order-clear text k clear =
+    let order = when (orderRow text k) (Order k) in
+    let later = firstOf (when (countLineRow text k) (Count k)) (when (twiceLineRow text k) (Twice k)) in
+    when-done (orderRow text k) (Order k) (first-done order later (first-done (when (lineRow text k) (Line k)) (firstOf order later) clear .1) .0)
 
 -- line 1 is an 01 line
 pub clear-header : (text : List ℕ) → lineOutcome text 1 ≡ Done → formed Frame.Header text ≡ true
-unfolding past
-clear-header [] clear = done-refused (sym clear ∙ first-missing)
-clear-header (b ∷ bs) clear = go (formed Frame.Header (b ∷ bs)) refl
+unfolding orderRow past
+clear-header text clear = not-false (formed Frame.Header text) (order-clear text 1 clear)
+
+-- in a file without a task a clear line behind one that is there is there
+next-there : (text : List ℕ) (n : ℕ) → length (fileTasks text) ≡ 0 → empty (past n text) ≡ false → lineOutcome text (suc (suc n)) ≡ Done → empty (past (suc n) text) ≡ false
+next-there text n none there clear = by-rest (past (suc n) text) refl
   where
-    go : (h : Bool) → formed Frame.Header (b ∷ bs) ≡ h → h ≡ true
-    go true e = refl
-    go false e = done-refused (sym clear ∙ first-task (b ∷ bs) (kind-of (b ∷ bs) 0 refl e clear))
+    by-rest : (rest : List ℕ) → past (suc n) text ≡ rest → empty rest ≡ false
+    by-rest [] e = done-refused (sym clear ∙ no-task text n there e none)
+    by-rest (b ∷ bs) e = refl
+
+-- and so are all clear lines
+pub clear-there : (text : List ℕ) (n : ℕ) → length (fileTasks text) ≡ 0 → till (lineOutcome text) (suc n) ≡ Done → empty (past n text) ≡ false
+unfolding past till
+clear-there text zero none clear = formed-there Frame.Header text (clear-header text clear)
+clear-there text (suc n) none clear =
+    let parts = first-done (till (lineOutcome text) (suc n)) (lineOutcome text (suc (suc n))) clear in
+    next-there text n none (clear-there text n none (parts .0)) (parts .1)
 
 -- an 02 line is no 65th
 pub clear-room : (text : List ℕ) (n : ℕ) → 1 ≤ n → formed Frame.Task (past n text) ≡ true → lineOutcome text (suc n) ≡ Done → length (tasksAmong text n) ≡ mostTasks → ⊥

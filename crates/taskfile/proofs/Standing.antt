@@ -1,12 +1,12 @@
 -- What the reader learns at the cursor, after some lines.
 -- Assumes nothing.
-use Prim.Native.Nat.{ℕ, zero, suc, _+_, _<_, _^_}
+use Prim.Native.Nat.{ℕ, zero, suc, _+_, _≤_, _<_, _^_}
 use native.Mathlib.Omega.{arith}
 use native.Mathlib.Numerals.{add-one}
 use mathlib.Core.List.{List, [], _∷_, map}
 use mathlib.Core.Bool.{Bool, true, false, _||_}
 use mathlib.Core.Path.{_≡_, refl, sym, _∙_, ap, subst}
-use lib.ListN.{length, drop, length-map}
+use lib.ListN.{length, drop, getD, length-map}
 use lib.Dec.{eqb}
 use borrow.Author.Tests.{eq-eqb, ne-eqb}
 use Rattle.frameread.specs.Line.{formed, fieldOf}
@@ -14,6 +14,7 @@ use types.Run.{OneOf, miss}
 use denote.Enum.Declared.{tagOf}
 use Rattle.frames.proofs.table.Frame.{the-type}
 use Rattle.frames.specs.Table.{widthOf, indexOf, allFrames}
+use Rattle.frames.proofs.Tables.{at-index}
 use Rattle.frameread.proofs.KindLaws.{not-formed}
 use Rattle.frames.specs.declared.table.Frame.{Frame}
 use Rattle.refusals.specs.declared.Refusal.the-variants.{Line, Order, Count, Twice}
@@ -23,9 +24,9 @@ use Rattle.frameread.proofs.Formed.{field-below}
 use Rattle.tasks.specs.declared.set.Task.{Task}
 use Rattle.tasks.specs.Set.{mostTasks, hasId}
 use Rattle.tasks.specs.Search.{some}
-use Rattle.taskfile.specs.File.{past, empty, admitted, lineOutcome, tasksAmong, taskAt}
+use Rattle.taskfile.specs.File.{empty, admitted, lineOutcome, tasksAmong, taskAt}
 use Rattle.taskfile.specs.Taken.{Taken, idsOf}
-use Rattle.taskfile.proofs.Lines.{neither, line-other, later-header, later-task}
+use Rattle.taskfile.proofs.Lines.{neither, some-opening, line-other, later-header, later-masked, later-task}
 
 -- a number that is a field of a formed line is below its width's power of 16
 pub field-within : (frame : Frame) (k x : ℕ) (text : List ℕ) → formed frame text ≡ true → x ≡ fieldOf frame k text → x < 16 ^ widthOf frame k
@@ -41,6 +42,7 @@ byte-there (suc at) (b ∷ bs) lt = byte-there at bs (omega arith)
 tag-index : (frame : Frame) → tagOf the-type frame ≡ indexOf frame
 tag-index Frame.Header = refl
 tag-index Frame.Task = refl
+tag-index Frame.Masked = refl
 tag-index Frame.Plan = refl
 tag-index Frame.Server = refl
 tag-index Frame.Placed = refl
@@ -48,13 +50,23 @@ tag-index Frame.Processor = refl
 tag-index Frame.Refused = refl
 tag-index Frame.Switch = refl
 
+-- so a frame is told by its tag
+tag-frame : (frame kind : Frame) → tagOf the-type frame ≡ indexOf kind → frame ≡ kind
+tag-frame frame kind e =
+    sym (at-index (λ (f : Frame). f) frame frame)
+    ∙ ap (λ (n : ℕ). getD (map (λ (f : Frame). f) allFrames) n frame) (sym (tag-index frame) ∙ e)
+    ∙ at-index (λ (f : Frame). f) frame kind
+
+pub tag-formed : (frame kind : Frame) (text : List ℕ) → tagOf the-type frame ≡ indexOf kind → formed frame text ≡ true → formed kind text ≡ true
+tag-formed frame kind text e f = ap (λ (g : Frame). formed g text) (sym (tag-frame frame kind e)) ∙ f
+
 -- the tags of the frames that are none of a task file's
 abbrev otherTags : List ℕ
-otherTags = drop 2 (map indexOf allFrames)
+otherTags = drop 3 (map indexOf allFrames)
 
 -- a line of such a frame is of no kind that a task file admits
 pub other-frame : (frame : Frame) (text : List ℕ) → OneOf otherTags (tagOf the-type frame) → formed frame text ≡ true → admitted text ≡ false
-other-frame frame text o f = neither text (apart Frame.Header (miss otherTags 0 tt)) (apart Frame.Task (miss otherTags 1 tt))
+other-frame frame text o f = neither text (apart Frame.Header (miss otherTags 0 tt)) (apart Frame.Task (miss otherTags 1 tt)) (apart Frame.Masked (miss otherTags 2 tt))
   where
     apart : (kind : Frame) → (OneOf otherTags (indexOf kind) → ⊥) → formed kind text ≡ false
     apart kind missed =
@@ -71,14 +83,21 @@ module _ {text : List ℕ} {k at : ℕ} (taken : Taken text k at) where
   said-line lt other =
       rw (add-one k) (line-other text k (ap empty (taken .rest) ∙ byte-there at text lt) (ap admitted (taken .rest) ∙ other))
 
+  -- a line is taken, the first
+  pub taken-some : 1 ≤ k
+  taken-some = omega (arith, some-opening text, taken .opened)
+
   pub said-order : formed Frame.Header (drop at text) ≡ true → lineOutcome text (k + 1) ≡ Refused (Order (k + 1))
-  said-order e = rw (add-one k) (later-header text k (taken .some-line) (ap (formed Frame.Header) (taken .rest) ∙ e))
+  said-order e = rw (add-one k) (later-header text k taken-some (ap (formed Frame.Header) (taken .rest) ∙ e))
+
+  pub said-masked : formed Frame.Masked (drop at text) ≡ true → lineOutcome text (k + 1) ≡ Refused (Order (k + 1))
+  said-masked e = rw (add-one k) (later-masked text k (taken .opened) (ap (formed Frame.Masked) (taken .rest) ∙ e))
 
   module _ (task : formed Frame.Task (drop at text) ≡ true) (ids : List ℕ) (held : ids ≡ idsOf (tasksAmong text k)) where
     said-task : lineOutcome text (k + 1) ≡ firstOf (when (eqb (length ids) mostTasks) (Count (k + 1))) (when (some (λ i. eqb i (taskAt (drop at text) .id)) ids) (Twice (k + 1)))
     said-task =
         rw (add-one k, held, some-ids (taskAt (drop at text) .id) (tasksAmong text k), length-map, ← taken .rest)
-        (later-task text k (taken .some-line) (ap (formed Frame.Task) (taken .rest) ∙ task))
+        (later-task text k taken-some (ap (formed Frame.Task) (taken .rest) ∙ task))
 
     pub said-count : length ids ≡ mostTasks → lineOutcome text (k + 1) ≡ Refused (Count (k + 1))
     said-count full = rw (eq-eqb (length ids) mostTasks full) at said-task

@@ -1,18 +1,21 @@
 -- A task file's lines, counted from 1, and the rows that reading tests at each line.
--- Document 01, "Lines of hexadecimal" (RULES 5) and rows 1 to 4 of the refusals (RULES 6.1 and 6.2).
-use Prim.Native.Nat.{ℕ, zero, suc, pred}
+-- Document 01, "Lines of hexadecimal" (RULES 5) and rows 1 to 4 of the refusals (RULES 6.1 and 6.2); document 02, Req 04.
+use Prim.Native.Nat.{ℕ, zero, suc, pred, _+_}
 use mathlib.Core.List.{List, [], _∷_, _++_}
 use mathlib.Core.Bool.{Bool, true, false, not, cond, _&&_, _||_}
 use lib.ListN.{length}
 use lib.Dec.{eqb}
 use Rattle.frameread.specs.Line.{after, formed, fieldOf}
+use Rattle.frames.specs.Table.{lengthOf}
 use Rattle.frames.specs.declared.table.Frame.{Frame}
 use Rattle.refusals.specs.declared.Refusal.the-variants.{Line, Order, Count, Twice}
 use Rattle.refusals.specs.declared.Outcome.{Outcome}
 use Rattle.refusals.specs.First.{firstOf, when}
+use Rattle.tasks.specs.declared.set.Optional.{Optional}
+use Rattle.tasks.specs.declared.set.Optional.the-variants.{Absent, Given}
 use Rattle.tasks.specs.declared.set.Header.{Header}
 use Rattle.tasks.specs.declared.set.Task.{Task}
-use Rattle.tasks.specs.Set.{mostTasks, hasId}
+use Rattle.tasks.specs.Set.{mostTasks, hasId, withMasked}
 use Rattle.tasks.specs.Search.{some}
 
 -- the text past n lines
@@ -28,7 +31,7 @@ abbrev pub empty : List ℕ → Bool
 empty [] = true
 empty (b ∷ bs) = false
 
--- whether line k is there, is an 01 line, is an 02 line
+-- whether line k is there, is an 01 line, is an 02 line, is a 05 line
 abbrev pub present : List ℕ → ℕ → Bool
 present text k = not (empty (from text k))
 
@@ -38,7 +41,10 @@ isHeader text k = formed Frame.Header (from text k)
 abbrev pub isTask : List ℕ → ℕ → Bool
 isTask text k = formed Frame.Task (from text k)
 
--- the figures of line 1, and of an 02 line
+abbrev pub isMasked : List ℕ → ℕ → Bool
+isMasked text k = formed Frame.Masked (from text k)
+
+-- the figures of line 1, with no 05 line, and of an 02 line
 unfoldable pub headerAt : List ℕ → Header
 headerAt text =
     record {
@@ -49,6 +55,7 @@ headerAt text =
       ctswo = fieldOf Frame.Header 4 text;
       resd = fieldOf Frame.Header 5 text;
       cpmdo = fieldOf Frame.Header 6 text;
+      masked = Absent;
     }
 
 unfoldable pub taskAt : List ℕ → Task
@@ -59,6 +66,20 @@ taskAt text =
       deadline = fieldOf Frame.Task 2 text;
       period = fieldOf Frame.Task 3 text;
     }
+
+-- what line 2 gives, if it is a 05 line, and the board's figures with that
+unfoldable pub maskedAt : List ℕ → Optional
+maskedAt text = cond (isMasked text 2) (Given (fieldOf Frame.Masked 0 (from text 2))) Absent
+
+unfoldable pub fileHeader : List ℕ → Header
+fileHeader text = withMasked (headerAt text) (maskedAt text)
+
+-- the lines before the tasks, and their bytes: the 01 line, and the 05 line where there is one
+unfoldable pub openingLines : List ℕ → ℕ
+openingLines text = cond (isMasked text 2) 2 1
+
+unfoldable pub openingBytes : List ℕ → ℕ
+openingBytes text = lengthOf Frame.Header + 1 + cond (isMasked text 2) (lengthOf Frame.Masked + 1) 0
 
 -- the task that line k holds, if it is an 02 line
 abbrev pub taskOn : List ℕ → ℕ → List Task
@@ -75,12 +96,12 @@ fileTasks text = tasksAmong text (length text)
 
 -- the kinds that a task file admits, and whether a text starts with a line of one of them
 abbrev pub fileKinds : List Frame
-fileKinds = Frame.Header ∷ Frame.Task ∷ []
+fileKinds = Frame.Header ∷ Frame.Task ∷ Frame.Masked ∷ []
 
 abbrev pub admitted : List ℕ → Bool
 admitted rest = some (λ (kind : Frame). formed kind rest) fileKinds
 
--- 1 LINE: a line is not kind 01 or 02 at its exact length in legal digits, or lacks its LF
+-- 1 LINE: a line is not kind 01, 02 or 05 at its exact length in legal digits, or lacks its LF
 unfoldable pub lineRow : List ℕ → ℕ → Bool
 lineRow text k = present text k && not (admitted (from text k))
 
@@ -88,14 +109,18 @@ abbrev pub firstLine : Bool → Bool → Bool → Bool
 firstLine true at-one at-later = at-one
 firstLine false at-one at-later = at-later
 
--- 2 ORDER: line 1 is missing or not 01, or a later line is 01
+-- 2 ORDER: line 1 is missing or not 01, or a later line is 01, or one elsewhere than line 2 is 05
 unfoldable pub orderRow : List ℕ → ℕ → Bool
-orderRow text k = firstLine (eqb k 1) (not (isHeader text k)) (isHeader text k)
+orderRow text k = firstLine (eqb k 1) (not (isHeader text k)) (isHeader text k || (isMasked text k && not (eqb k 2)))
 
--- 3 COUNT: no 02 line (place 2), or a 65th
+-- line k is the one after the last
+abbrev pub afterLast : List ℕ → ℕ → Bool
+afterLast text k = present text (pred k) && not (present text k)
+
+-- 3 COUNT: no 02 line (place: the line after the last), or a 65th
 unfoldable pub countLineRow : List ℕ → ℕ → Bool
 countLineRow text k =
-    (eqb k 2 && eqb (length (fileTasks text)) 0) ||
+    (afterLast text k && eqb (length (fileTasks text)) 0) ||
     (isTask text k && eqb (length (tasksAmong text (pred k))) mostTasks)
 
 -- 4 TWICE: an id repeats

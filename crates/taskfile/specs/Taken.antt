@@ -8,16 +8,16 @@ use Rattle.refusals.specs.declared.Outcome.the-variants.{Done}
 use Rattle.refusals.specs.First.{till}
 use Rattle.tasks.specs.declared.set.Task.{Task}
 use Rattle.tasks.specs.Set.{mostTasks}
-use Rattle.taskfile.specs.File.{past, lineOutcome, tasksAmong}
+use Rattle.taskfile.specs.File.{past, lineOutcome, openingLines, tasksAmong}
 
--- the reader has taken k lines, at least one: each is clear, and the rest of the text starts at the cursor
+-- the reader has taken k lines, at least those before the tasks: each is clear, and the rest of the text starts at the cursor
 pub record Taken (text : List ℕ) (k at : ℕ) : Type 0 where
-  pub some-line : 1 ≤ k
+  pub opened : openingLines text ≤ k
   pub within : at ≤ length text
   pub rest : past k text ≡ drop at text
   pub clear : till (lineOutcome text) k ≡ Done
-  -- all lines but the first hold a task, and there is room for these
-  pub lines : k ≤ length (tasksAmong text k) + 1
+  -- all lines but the first two at most hold a task, and there is room for these
+  pub lines : k ≤ length (tasksAmong text k) + 2
   pub few : length (tasksAmong text k) ≤ mostTasks
 
 -- the ids of these tasks

@@ -26,7 +26,7 @@ pub fn task_line(text: &[u8], at: usize, lines: usize, ids: &[u8]) -> TaskLine
         return TaskLine::Refused(Refusal::Line(line));
     };
     match frame {
-        Frame::Header => TaskLine::Refused(Refusal::Order(line)),
+        Frame::Header | Frame::Masked => TaskLine::Refused(Refusal::Order(line)),
         Frame::Task => listed_line(text, at, lines, ids),
         _ => TaskLine::Refused(Refusal::Line(line)),
     }

@@ -1,15 +1,14 @@
--- How reading goes on: from the header, over each task, to the answer of the whole text.
+-- How reading goes on: from the lines before the tasks, over each task, to the answer of the whole text.
 -- Assumes nothing.
 use Prim.Native.Nat.{ℕ, zero, suc, _+_, _≤_, _<_}
 use native.Mathlib.Omega.{arith}
 use native.Mathlib.Numerals.{add-one}
-use native.Mathlib.Nat.{zero-add}
-use mathlib.Core.List.{List, [], _∷_, _++_, map, map-append}
+use mathlib.Core.List.{List, [], _∷_, _++_, map-append}
 use mathlib.Core.Bool.{true}
-use mathlib.Core.Path.{_≡_, refl, sym, _∙_, ap, subst}
+use mathlib.Core.Path.{_≡_, refl, sym, _∙_, ap}
 use lib.ListN.{length, drop, take, set as put, length-append, length-set, drop-of-length-le}
 use lib.Seq.{take-suc-set}
-use Rattle.frameread.specs.Line.{formed, closed}
+use Rattle.frameread.specs.Line.{formed}
 use Rattle.frames.specs.Table.{lengthOf}
 use Rattle.frames.specs.declared.table.Frame.{Frame}
 use Rattle.refusals.specs.declared.Refusal.{Refusal}
@@ -17,26 +16,28 @@ use Rattle.refusals.specs.declared.Refusal.the-variants.{Count}
 use Rattle.refusals.specs.declared.Outcome.{Outcome}
 use Rattle.refusals.specs.declared.Outcome.the-variants.{Done, Refused}
 use Rattle.refusals.specs.First.{till}
-use Rattle.tasks.specs.declared.set.Header.{Header}
 use Rattle.tasks.specs.declared.set.Task.{Task}
 use Rattle.tasks.specs.declared.set.TaskSet.{TaskSet}
 use Rattle.headerline.specs.declared.HeaderLine.{HeaderLine}
 use Rattle.listedline.specs.declared.TaskLine.{TaskLine}
 use Rattle.tasks.specs.Set.{mostTasks, setOf, zeroSet, withTask}
 use Rattle.taskrows.specs.Rows.{figuresOutcome}
-use Rattle.taskfile.specs.File.{past, empty, lineRow, orderRow, countLineRow, lineOutcome, headerAt, taskAt, tasksAmong, fileTasks}
+use Rattle.taskfile.specs.File.{past, empty, lineOutcome, headerAt, fileHeader, openingLines, taskAt, tasksAmong, fileTasks}
 use Rattle.taskfile.specs.Taken.{Taken, idsOf}
+use Rattle.opening.specs.declared.Opening.{Opening}
+use Rattle.opening.specs.Opening.{openingOf}
 use Rattle.headerline.specs.Answer.{headerOr, ofHeader}
 use Rattle.listedline.specs.Answer.{taskOr, ofTask}
 use Rattle.taskread.specs.Read.{readOf, readOutcome, fileSet, answer}
 use Rattle.refusals.proofs.FirstLaws.{stays, till-suc}
 use Rattle.tasks.proofs.SetLaws.{set-more}
 use Rattle.taskfile.proofs.Past.{past-formed}
-use Rattle.taskfile.proofs.AmongLaws.{among-none, among-task, among-other, among-all}
-use Rattle.taskfile.proofs.Lines.{header-no-task, refused-within, clear-header, clear-task, clear-room, clear-past}
-use Rattle.headerline.proofs.Answers.{of-header, header-given, header-refused}
+use Rattle.taskfile.proofs.AmongLaws.{among-task, among-all}
+use Rattle.taskfile.proofs.Lines.{refused-within, no-task, clear-header, clear-task, clear-there, clear-room, clear-past}
+use Rattle.taskfile.proofs.OpeningLaws.{taken-opening, among-opening}
+use Rattle.headerline.proofs.Answers.{of-header, header-refused}
 use Rattle.listedline.proofs.Answers.{of-task, task-given, task-refused}
-use Rattle.taskfile.proofs.Standing.{byte-there}
+use Rattle.taskfile.proofs.Standing.{byte-there, taken-some}
 
 -- ---- the answer of a text
 
@@ -62,7 +63,7 @@ reads-line text n set clear refused = go (lineOutcome text (suc n)) refl
 -- the reader's state after k lines: the cursor, the set that they hold, and its ids
 pub record Held (text : List ℕ) (k at : ℕ) (set : TaskSet) (ids : List ℕ) : Type 0 where
   pub taken : Taken text k at
-  pub all : set ≡ setOf (headerAt text) (tasksAmong text k)
+  pub all : set ≡ setOf (fileHeader text) (tasksAmong text k)
   pub room : length ids ≡ mostTasks
   pub listed : take (set .count) ids ≡ idsOf (tasksAmong text k)
 
@@ -89,38 +90,19 @@ held-count held = ap (λ (s : TaskSet). s .count) (held .all)
 pub held-few : {text : List ℕ} {k at : ℕ} {set : TaskSet} {ids : List ℕ} → Held text k at set ids → set .count ≤ mostTasks
 held-few held = omega (arith, held-count held, held .taken .few)
 
--- ---- the header is taken
+-- ---- the lines before the tasks are taken
 
--- a clear first line holds no task
-header-none : (text : List ℕ) → lineOutcome text 1 ≡ Done → tasksAmong text 1 ≡ []
-unfolding past
-header-none text clear = among-other text 0 (header-no-task text (clear-header text clear)) ∙ among-none text
-
-header-held : (text : List ℕ) → lineOutcome text 1 ≡ Done → Taken text 1 (lengthOf Frame.Header + 1)
-unfolding past till
-header-held text clear =
-    let start : 0 + (lengthOf Frame.Header + 1) ≡ lengthOf Frame.Header + 1 = zero-add (lengthOf Frame.Header + 1) in
-    let passed = past-formed Frame.Header text 0 0 refl (omega arith) (clear-header text clear) in
-    let none : length (tasksAmong text 1) ≡ 0 = ap length (header-none text clear) in
-    record {
-      some-line = omega arith;
-      within = rw start at (passed .1);
-      rest = rw start at (passed .0);
-      clear = clear;
-      lines = omega (arith, none);
-      few = omega (arith, none);
-    }
-
-pub held-header : (text : List ℕ) (h : Header) (set : TaskSet) (ids : List ℕ) → set ≡ zeroSet → length ids ≡ mostTasks → headerOr (lineOutcome text 1) (headerAt text) ≡ HeaderLine.Header h → Held text 1 (lengthOf Frame.Header + 1) (record { header = h; count = set .count; tasks = set .tasks }) ids
-unfolding setOf
-held-header text h set ids zeroed room e =
-    let given = header-given (lineOutcome text 1) (headerAt text) h e in
-    rw (zeroed, given .1)
+pub held-opening : (text : List ℕ) {opening : Opening} {set : TaskSet} {ids : List ℕ} → set ≡ zeroSet → length ids ≡ mostTasks → lineOutcome text 1 ≡ Done → opening ≡ openingOf text → Held text (opening .lines) (opening .at) (record { header = opening .header; count = set .count; tasks = set .tasks }) ids
+unfolding setOf openingOf
+held-opening text zeroed room clear e =
+    let header : formed Frame.Header text ≡ true = clear-header text clear in
+    let none : tasksAmong text (openingLines text) ≡ [] = among-opening text header in
+    rw (zeroed, e)
     (record {
-      taken = header-held text (given .0);
-      all = ap (setOf (headerAt text)) (sym (header-none text (given .0)));
+      taken = taken-opening text header;
+      all = ap (setOf (fileHeader text)) (sym none);
       room = room;
-      listed = ap idsOf (sym (header-none text (given .0)));
+      listed = ap idsOf (sym none);
     })
 
 -- ---- a task is taken
@@ -133,7 +115,7 @@ module _ {text : List ℕ} {k at : ℕ} {set : TaskSet} {ids : List ℕ} (t : Ta
   figures = task-given (lineOutcome text (k + 1)) (taskAt (drop at text)) t e .1 ∙ ap taskAt (sym (held .taken .rest))
 
   task : formed Frame.Task (past k text) ≡ true
-  task = clear-task text k (held .taken .some-line) (ap empty (held .taken .rest) ∙ byte-there at text within) line
+  task = clear-task text k (held .taken .opened) (ap empty (held .taken .rest) ∙ byte-there at text within) line
 
   count : set .count ≡ length (tasksAmong text k)
   count = held-count held
@@ -141,7 +123,7 @@ module _ {text : List ℕ} {k at : ℕ} {set : TaskSet} {ids : List ℕ} (t : Ta
   -- there is room for it
   pub task-room : set .count < mostTasks
   task-room =
-      let full : length (tasksAmong text k) ≡ mostTasks → ⊥ = clear-room text k (held .taken .some-line) task line in
+      let full : length (tasksAmong text k) ≡ mostTasks → ⊥ = clear-room text k (taken-some (held .taken)) task line in
       omega (arith, held .taken .few, count, full)
 
   more : tasksAmong text (suc k) ≡ tasksAmong text k ++ (t ∷ [])
@@ -154,7 +136,7 @@ module _ {text : List ℕ} {k at : ℕ} {set : TaskSet} {ids : List ℕ} (t : Ta
   taken-more =
       let passed = past-formed Frame.Task text k at (held .taken .rest) (held .taken .within) (ap (formed Frame.Task) (sym (held .taken .rest)) ∙ task) in
       record {
-        some-line = omega arith;
+        opened = omega (arith, held .taken .opened);
         within = passed .1;
         rest = passed .0;
         clear = till-suc (lineOutcome text) k ∙ rw (held .taken .clear) line;
@@ -174,47 +156,39 @@ module _ {text : List ℕ} {k at : ℕ} {set : TaskSet} {ids : List ℕ} (t : Ta
       rw (add-one k)
       (record {
         taken = taken-more;
-        all = ap (λ (s : TaskSet). withTask s t) (held .all) ∙ set-more (headerAt text) (tasksAmong text k) t (omega (arith, task-room, count)) ∙ ap (setOf (headerAt text)) (sym more);
+        all = ap (λ (s : TaskSet). withTask s t) (held .all) ∙ set-more (fileHeader text) (tasksAmong text k) t (omega (arith, task-room, count)) ∙ ap (setOf (fileHeader text)) (sym more);
         room = length-set ids (set .count) (t .id) ∙ held .room;
         listed = listed-more;
       })
 
 -- ---- no line is left
 
--- of one clear line, that line is clear
-first-clear : (text : List ℕ) → till (lineOutcome text) 1 ≡ Done → lineOutcome text 1 ≡ Done
-unfolding till
-first-clear text e = e
+-- where the text ends behind clear lines, with no task that is COUNT at the next line
+reads-count : (text : List ℕ) (k : ℕ) → 1 ≤ k → past k text ≡ [] → till (lineOutcome text) k ≡ Done → length (fileTasks text) ≡ 0 → readOf text ≡ record { outcome = Refused (Count (k + 1)); set = zeroSet }
+reads-count text zero some end clear none = absurd (omega arith)
+reads-count text (suc n) some end clear none =
+    rw (add-one (suc n)) (reads-refused text (suc n) (Count (suc (suc n))) clear (no-task text n (clear-there text n none clear) end none))
 
--- nothing behind the header: COUNT at line 2
-pub no-task : (text : List ℕ) → past 1 text ≡ [] → length (fileTasks text) ≡ 0 → lineOutcome text 2 ≡ Refused (Count 2)
-unfolding lineOutcome lineRow orderRow countLineRow formed closed
-no-task text e none = rw (e, none)
+-- with a task rows 5 and 6 answer
+reads-figures : (text : List ℕ) (k : ℕ) → 1 ≤ k → past k text ≡ [] → till (lineOutcome text) k ≡ Done → 1 ≤ length (fileTasks text) → readOf text ≡ answer (figuresOutcome (fileSet text)) (fileSet text)
+reads-figures text zero some end clear any = absurd (omega arith)
+reads-figures text (suc n) some end clear any = reads-clear text (clear-past text n (length text + 2) end any clear)
 
 module _ {text : List ℕ} {k at : ℕ} {set : TaskSet} {ids : List ℕ} (held : Held text k at set ids) (over : length text ≤ at) where
   ended : past k text ≡ []
   ended = held .taken .rest ∙ drop-of-length-le text over
 
-  -- where no task was taken, that is COUNT at line 2
-  pub ended-none : set .count ≡ 0 → answer (Refused (Count 2)) set ≡ readOf text
-  ended-none none =
-      let one : k ≡ 1 = omega (arith, held .taken .lines, held .taken .some-line, held-count held) in
-      let end : past 1 text ≡ [] = subst (λ (n : ℕ). past n text ≡ []) one ended in
-      let clear : till (lineOutcome text) 1 ≡ Done = subst (λ (n : ℕ). till (lineOutcome text) n ≡ Done) one (held .taken .clear) in
-      let empty : length (fileTasks text) ≡ 0 = ap length (sym (among-all text k ended)) ∙ sym (held-count held) ∙ none in
-      sym (reads-refused text 1 (Count 2) clear (no-task text end empty))
+  -- the set has all tasks of the file
+  counted : set .count ≡ length (fileTasks text)
+  counted = held-count held ∙ ap length (among-all text k ended)
+
+  -- where no task was taken, that is COUNT at the next line
+  pub ended-none : set .count ≡ 0 → answer (Refused (Count (k + 1))) set ≡ readOf text
+  ended-none none = sym (reads-count text k (taken-some (held .taken)) ended (held .taken .clear) (sym counted ∙ none))
 
   -- else rows 5 and 6 of the set answer
   pub ended-all : (set .count ≡ 0 → ⊥) → answer (figuresOutcome set) set ≡ readOf text
   unfolding fileSet
   ended-all some =
-      ap (λ (s : TaskSet). answer (figuresOutcome s) s) (held .all ∙ ap (setOf (headerAt text)) (among-all text k ended))
-      ∙ sym (reads-clear text (all-lines k refl))
-    where
-      all-lines : (n : ℕ) → k ≡ n → till (lineOutcome text) (length text + 2) ≡ Done
-      all-lines zero same = absurd (omega (arith, held .taken .some-line))
-      all-lines (suc zero) same =
-          let clear : lineOutcome text 1 ≡ Done = first-clear text (subst (λ (n : ℕ). till (lineOutcome text) n ≡ Done) same (held .taken .clear)) in
-          absurd (some (held-count held ∙ ap (λ (n : ℕ). length (tasksAmong text n)) same ∙ ap length (header-none text clear)))
-      all-lines (suc (suc n)) same =
-          clear-past text n (length text + 2) (subst (λ (n : ℕ). past n text ≡ []) same ended) (subst (λ (n : ℕ). till (lineOutcome text) n ≡ Done) same (held .taken .clear))
+      ap (λ (s : TaskSet). answer (figuresOutcome s) s) (held .all ∙ ap (setOf (fileHeader text)) (among-all text k ended))
+      ∙ sym (reads-figures text k (taken-some (held .taken)) ended (held .taken .clear) (omega (arith, counted, some)))

@@ -12,11 +12,11 @@ use Rattle.tasks.specs.declared.set.TaskSet.{TaskSet}
 use Rattle.taskread.specs.declared.read.ReadAnswer.{ReadAnswer}
 use Rattle.tasks.specs.Set.{mostTasks, setOf, zeroSet}
 use Rattle.taskrows.specs.Rows.{figuresOutcome}
-use Rattle.taskfile.specs.File.{lineOutcome, headerAt, fileTasks}
+use Rattle.taskfile.specs.File.{lineOutcome, fileHeader, fileTasks}
 
 -- the set that a file's lines hold
 unfoldable pub fileSet : List ℕ → TaskSet
-fileSet text = setOf (headerAt text) (fileTasks text)
+fileSet text = setOf (fileHeader text) (fileTasks text)
 
 -- a refused read gives the all-zero set
 abbrev pub answer : Outcome → TaskSet → ReadAnswer
@@ -30,6 +30,7 @@ readOutcome text = firstOf (till (lineOutcome text) (length text + 2)) (figuresO
 unfoldable pub readOf : List ℕ → ReadAnswer
 readOf text = answer (readOutcome text) (fileSet text)
 
--- the bytes that reading looks at: a header, 64 tasks and the longest line after them
+-- the bytes that reading looks at: a header, a 05 line, 64 tasks and the longest line after them
 abbrev pub furthest : ℕ
-furthest = (lengthOf Frame.Header + 1) + (lengthOf Frame.Task + 1) * mostTasks + (lengthOf Frame.Header + 1)
+furthest =
+    (lengthOf Frame.Header + 1) + (lengthOf Frame.Masked + 1) + (lengthOf Frame.Task + 1) * mostTasks + (lengthOf Frame.Header + 1)

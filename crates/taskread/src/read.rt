@@ -9,6 +9,7 @@ use headerline::header_line;
 use headerline::header_outcome;
 use listedline::TaskLine;
 use listedline::task_outcome;
+use opening::opened;
 use refusals::Outcome;
 use refusals::Refusal;
 use taskline::task_line;
@@ -17,13 +18,18 @@ use tasks::set::TaskSet;
 ghost use mathlib.Core.Path.{_≡_};
 ghost use Rattle.taskread.specs.Read.{answer, readOf, furthest};
 
-// The bytes of an 01 and of an 02 line with its LF, by the table.
+// The bytes of an 01, an 02 and a 05 line with its LF, by the table.
 const HEADER_BYTES: usize = TABLE[0].starts[MOST_FIELDS] as usize + 1;
 
 const TASK_BYTES: usize = TABLE[1].starts[MOST_FIELDS] as usize + 1;
 
+const MASKED_BYTES: usize = TABLE[2].starts[MOST_FIELDS] as usize + 1;
+
 // The bytes that reading looks at: a buffer of so many holds all that decides an answer.
-pub const FURTHEST: usize = HEADER_BYTES + TASK_BYTES * TaskSet::MOST_TASKS + HEADER_BYTES;
+pub const FURTHEST: usize = HEADER_BYTES
+    + MASKED_BYTES
+    + TASK_BYTES * TaskSet::MOST_TASKS
+    + HEADER_BYTES;
 
 pub struct ReadAnswer {
     pub outcome: Outcome,
@@ -61,10 +67,12 @@ pub fn read(text: &[u8]) -> ReadAnswer
     let HeaderLine::Header(header) = first else {
         return answered(header_outcome(first), set);
     };
-    set.header = header;
+    let opening = opened(text, header);
+    let board = opening.header;
+    set.header = board;
     let mut ids = [0u8; TaskSet::MOST_TASKS];
-    let mut at = length(Frame::Header) + 1;
-    let mut lines = 1;
+    let mut at = opening.at;
+    let mut lines = opening.lines;
     while at < text.len() {
         let count = set.count;
         let line = task_line(text, at, lines, &ids[..count]);
@@ -78,7 +86,8 @@ pub fn read(text: &[u8]) -> ReadAnswer
         lines += 1;
     }
     if set.count == 0 {
-        return answered(Outcome::Refused(Refusal::Count(2)), set);
+        let place = (lines + 1) as u8;
+        return answered(Outcome::Refused(Refusal::Count(place)), set);
     }
     answered(figures(set), set)
 }

@@ -1,12 +1,14 @@
 -- `header_line` meets its contract: what line 1 is, and what it then answers.
+use mathlib.Core.Logic.{⊎-elim}
 use mathlib.Core.Path.{_≡_, sym, ap, _∙_}
 use mathlib.Core.Bool.{true, false}
-use mathlib.Core.List.{List, [], _∷_}
-use Prim.Native.Nat.{ℕ, _≤_}
+use mathlib.Core.List.{List}
+use Prim.Native.Nat.{ℕ}
 use native.Mathlib.Omega.{arith}
+use denote.Enum.Declared.{tagOf}
 use denote.Ref.{now}
-use lib.ListN.{length}
 use Rattle.frameread.specs.Line.{formed, kindAt}
+use Rattle.frames.proofs.table.Frame.{the-type}
 use Rattle.frames.specs.declared.table.Frame.{Frame}
 use Rattle.frameread.specs.declared.Found.{Found}
 use Rattle.refusals.specs.declared.Outcome.{Outcome}
@@ -15,8 +17,8 @@ use Rattle.taskfile.specs.File.{lineOutcome, headerAt, empty}
 use Rattle.headerline.specs.Answer.{headerOr}
 use Rattle.frameread.proofs.KindLaws.{kind-formed, kind-none}
 use Rattle.taskfile.proofs.Past.{nothing-left}
-use Rattle.taskfile.proofs.Lines.{admits-none, first-missing, first-header, first-task, first-other}
-use Rattle.taskfile.proofs.Standing.{byte-there, other-frame}
+use Rattle.taskfile.proofs.Lines.{admits-none, first-missing, first-header, first-task, first-masked, first-other}
+use Rattle.taskfile.proofs.Standing.{byte-there, tag-formed, other-frame}
 use borrow.Author.Needs.{needs}
 use Rattle.headerline.proofs.header_line.Statement.{statement}
 use Rattle.headerline.proofs.header_line.Tie as tie
@@ -56,9 +58,14 @@ returns-3 c =
 
 returns-4 : tie.Need-returns-4
 returns-4 c =
-    let text : List ℕ = now (c .before .before .before .before .before .before .before .before .args .text) in
-    let task : formed Frame.Task text ≡ true = ap (λ (f : Frame). formed f text) (sym (c .enum-told3 .given .1)) ∙ is-formed (c .before .before) in
-    sym (ap (given text) (first-task text task))
+    let text : List ℕ = now (c .before .before .before .before .before .before .before .args .text) in
+    let frame : Frame = c .before .before .found .given .0 .0 in
+    sym
+    (ap (given text)
+    (⊎-elim
+    (λ (task : tagOf the-type frame ≡ 1). first-task text (tag-formed frame Frame.Task text task (is-formed (c .before))))
+    (λ (masked : tagOf the-type frame ≡ 2). first-masked text (tag-formed frame Frame.Masked text masked (is-formed (c .before))))
+    (c .match2 .keys2)))
 
 returns-5 : tie.Need-returns-5
 returns-5 c =
@@ -77,7 +84,6 @@ header-line-spec =
     returns-2
     (λ c. search needs)
     header-at-requires
-    (λ c. search needs)
     returns-3
     returns-4
     returns-5)

@@ -1,11 +1,14 @@
 -- `task_line` meets its contract: what a later line is, and what it then answers.
+use mathlib.Core.Logic.{⊎-elim}
 use mathlib.Core.Path.{_≡_, sym, ap, _∙_}
 use mathlib.Core.Bool.{true}
 use mathlib.Core.List.{List}
 use Prim.Native.Nat.{ℕ}
+use denote.Enum.Declared.{tagOf}
 use denote.Ref.{now}
 use lib.ListN.{drop}
 use Rattle.frameread.specs.Line.{formed, kindAt}
+use Rattle.frames.proofs.table.Frame.{the-type}
 use Rattle.frames.specs.declared.table.Frame.{Frame}
 use Rattle.frameread.specs.declared.Found.{Found}
 use Rattle.refusals.specs.declared.Outcome.{Outcome}
@@ -14,7 +17,7 @@ use Rattle.taskfile.specs.File.{taskAt}
 use Rattle.listedline.specs.Answer.{taskOr}
 use Rattle.frameread.proofs.KindLaws.{kind-formed, kind-none}
 use Rattle.taskfile.proofs.Lines.{admits-none}
-use Rattle.taskfile.proofs.Standing.{other-frame, said-line, said-order}
+use Rattle.taskfile.proofs.Standing.{tag-formed, other-frame, said-line, said-order, said-masked}
 use borrow.Author.Needs.{needs}
 use Rattle.taskline.proofs.task_line.Statement.{statement}
 use Rattle.taskline.proofs.task_line.Tie as tie
@@ -40,13 +43,18 @@ is-formed c =
 listed-line-requires : tie.Need-listed-line-requires
 listed-line-requires c κs =
     let s = c .before .before .before .before .before .before .before .before in
-    (s .pre .0, (s .pre .1 .1, ap (λ (f : Frame). formed f (rest s)) (sym (c .enum-told3 .given .1)) ∙ is-formed (c .before .before)))
+    (s .pre .0, (s .pre .1 .1, ap (λ (f : Frame). formed f (rest s)) (sym (c .enum-told2 .given .1)) ∙ is-formed (c .before .before)))
 
 returns-2 : tie.Need-returns-2
 returns-2 c =
-    let s = c .before .before .before .before .before .before .before .before in
-    let header : formed Frame.Header (rest s) ≡ true = ap (λ (f : Frame). formed f (rest s)) (sym (c .enum-told2 .given .1)) ∙ is-formed (c .before .before) in
-    sym (ap (given s) (said-order (s .pre .0) header))
+    let s = c .before .before .before .before .before .before .before in
+    let frame : Frame = c .before .before .found .given .0 .0 in
+    sym
+    (ap (given s)
+    (⊎-elim
+    (λ (header : tagOf the-type frame ≡ 0). said-order (s .pre .0) (tag-formed frame Frame.Header (rest s) header (is-formed (c .before))))
+    (λ (masked : tagOf the-type frame ≡ 2). said-masked (s .pre .0) (tag-formed frame Frame.Masked (rest s) masked (is-formed (c .before))))
+    (c .match2 .keys1)))
 
 returns-4 : tie.Need-returns-4
 returns-4 c =
@@ -64,7 +72,6 @@ task-line-spec =
     (λ c. search needs)
     (λ c. search needs)
     returns
-    (λ c. search needs)
     (λ c. search needs)
     listed-line-requires
     returns-2

@@ -1,26 +1,25 @@
 -- `read::read` meets its contract.
 -- The loop's invariant: the lines so far are taken, the set and the ids are what they hold, and the cursor stands behind them.
-use Prim.Native.Nat.{ℕ, suc, _+_, _-_, _<_}
+use Prim.Native.Nat.{ℕ, _+_, _-_, _≤_, _<_}
 use native.Mathlib.Omega.{arith}
 use mathlib.Core.List.{List}
-use mathlib.Core.Path.{_≡_, refl, sym, ap, _∙_, subst}
+use mathlib.Core.Path.{_≡_, refl, sym, ap, _∙_}
 use borrow.Author.Needs.{needs}
 use denote.Ref.{now}
 use lib.ListN.{length, drop}
 use lib.Seq.{length-take-le}
-use Rattle.frames.specs.Table.{lengthOf}
-use Rattle.frames.specs.declared.table.Frame.{Frame}
+use Rattle.frames.specs.Table.{mostDigits}
 use Rattle.frames.proofs.Tables.{length-most}
 use Rattle.refusals.specs.declared.Outcome.{Outcome}
+use Rattle.refusals.specs.declared.Outcome.the-variants.{Done}
+use Rattle.headerline.proofs.Answers.{header-given}
 use Rattle.tasks.specs.declared.set.Task.{Task}
-use Rattle.tasks.specs.declared.set.TaskSet.{TaskSet}
 use Rattle.listedline.specs.declared.TaskLine.{TaskLine}
 use Rattle.tasks.specs.Set.{mostTasks}
-use Rattle.taskfile.specs.File.{lineOutcome, taskAt}
-use Rattle.taskfile.specs.Taken.{Taken}
+use Rattle.taskfile.specs.File.{lineOutcome, headerAt, taskAt}
 use Rattle.listedline.specs.Answer.{taskOr}
 use Rattle.taskread.specs.Read.{answer}
-use Rattle.taskread.proofs.Reading.{Held, held-few, first-refused, later-refused, held-header, held-task, task-room, ended-all, ended-none}
+use Rattle.taskread.proofs.Reading.{Held, held-few, first-refused, later-refused, held-opening, held-task, task-room, ended-all, ended-none}
 use Rattle.taskread.proofs.read.read.Statement.{statement}
 use Rattle.taskread.proofs.read.read.Tie as tie
 
@@ -36,15 +35,22 @@ returns c =
     let told = c .before .before .enum-told .given in
     c .answered .ensures ∙ first-refused (now (s .before .before .args .text)) (told .0 .0) (s .zero .result) (c .before .before .before .before .header-line .ensures) (told .1) (c .before .header-outcome .ensures)
 
-add-at : tie.Need-add-at Inv-loop μ-loop
-add-at c = omega (arith, c .length .ensures, length-most Frame.Header)
+-- line 1 is clear, and the header has its figures
+first-line : (c : tie.After-known-told Inv-loop μ-loop) →
+    let text : List ℕ = now (c .before .before .before .before .before .before .args .text) in
+    (lineOutcome text 1 ≡ Done) × (c .before .first .given .0 .0 ≡ headerAt text)
+first-line c =
+    let text : List ℕ = now (c .before .before .before .before .before .before .args .text) in
+    header-given (lineOutcome text 1) (headerAt text) (c .before .first .given .0 .0) (sym (c .before .before .before .header-line .ensures) ∙ c .before .first .given .1)
+
+opened-requires : tie.Need-opened-requires Inv-loop μ-loop
+opened-requires c κs = first-line c
 
 loop-holds : tie.Need-loop-holds Inv-loop μ-loop
 loop-holds c =
-    let text : List ℕ = now (c .before .before .before .before .before .before .before .args .text) in
-    let zeroed = c .before .before .before .before .before .zero .ensures in
-    rw (c .length .ensures)
-    (held-header text (c .before .before .first .given .0 .0) (c .before .before .before .before .before .zero .result) _ zeroed refl (sym (c .before .before .before .before .header-line .ensures) ∙ c .before .before .first .given .1))
+    let k = c .before .before in
+    let zeroed = k .before .before .before .before .zero .ensures in
+    held-opening (now (k .before .before .before .before .before .before .args .text)) zeroed refl (first-line k .0) (c .before .opened .ensures)
 
 array-share-prefix-ids : tie.Need-array-share-prefix-ids Inv-loop μ-loop
 array-share-prefix-ids c = omega (arith, held-few (c .before .loop .inv), c .before .loop .inv .room)
@@ -62,7 +68,7 @@ returns-2 c =
     c .answered2 .ensures ∙ later-refused (at .loop .inv) (told .0 .0) (c .before .before .before .before .task-line .ensures) (told .1) (c .before .task-outcome .ensures)
 
 -- what the line gives where it is a task
-gives : (c : tie.After-known-told2 Inv-loop μ-loop) → taskOr (lineOutcome (now (c .before .before .before .before .before .before .before .before .before .before .before .before .before .before .args .text)) (c .before .before .before .before .before .before .loop .lines + 1)) (taskAt (drop (c .before .before .before .before .before .before .loop .at) (now (c .before .before .before .before .before .before .before .before .before .before .before .before .before .before .args .text)))) ≡ TaskLine.Task (c .before .line .given .0 .0)
+gives : (c : tie.After-known-told2 Inv-loop μ-loop) → taskOr (lineOutcome (now (c .before .before .before .before .before .before .before .before .before .before .before .before .before .before .before .args .text)) (c .before .before .before .before .before .before .loop .lines + 1)) (taskAt (drop (c .before .before .before .before .before .before .loop .at) (now (c .before .before .before .before .before .before .before .before .before .before .before .before .before .before .before .args .text)))) ≡ TaskLine.Task (c .before .line .given .0 .0)
 gives c = sym (c .before .before .before .task-line .ensures) ∙ c .before .line .given .1
 
 -- there is room for the task
@@ -83,13 +89,18 @@ add-set c = omega (arith, room c)
 array-write-ids : tie.Need-array-write-ids Inv-loop μ-loop
 array-write-ids c = omega (arith, room c)
 
-add-at-2 : tie.Need-add-at-2 Inv-loop μ-loop
-add-at-2 c = omega (arith, c .length2 .ensures, length-most Frame.Task)
+-- a line's length is small
+small : (c : tie.After-length Inv-loop μ-loop) → c .length .result ≤ mostDigits
+small c = rw (c .length .ensures) (length-most _)
 
-add-at-3 : tie.Need-add-at-3 Inv-loop μ-loop
-add-at-3 c =
+add-at : tie.Need-add-at Inv-loop μ-loop
+add-at c = omega (arith, small c)
+
+add-at-2 : tie.Need-add-at-2 Inv-loop μ-loop
+add-at-2 c =
     let at = c .before .before .before .before .before .before .before in
-    omega (arith, c .length2 .ensures, at .loop .inv .taken .within, length-most Frame.Task)
+    let s = at .before .before .before .before .before .before .before .before .before in
+    omega (arith, small c, at .loop .inv .taken .within, s .good)
 
 add-lines : tie.Need-add-lines Inv-loop μ-loop
 add-lines c =
@@ -97,14 +108,21 @@ add-lines c =
     omega (arith, at .loop .inv .taken .lines, at .loop .inv .taken .few)
 
 loop-less : tie.Need-loop-less Inv-loop μ-loop
-loop-less c = omega (arith, c .length2 .ensures, c .before .before .before .before .before .before .loop-test .taken)
+loop-less c = omega (arith, c .length .ensures, c .before .before .before .before .before .before .loop-test .taken)
 
 loop-again : tie.Need-loop-again Inv-loop μ-loop
 loop-again c =
     let at = c .before .before .before .before .before .before .before in
     let task : Task = c .before .before .line .given .0 .0 in
-    rw (c .length2 .ensures)
+    rw (c .length .ensures)
     (held-task task (at .loop .inv) (c .before .before .before .before .before .before .loop-test .taken) (gives (c .before)))
+
+-- the place of the next line is small
+add-place : tie.Need-add-place Inv-loop μ-loop
+add-place c = let at = c .before .before in omega (arith, at .loop .inv .taken .lines, at .loop .inv .taken .few)
+
+cast-place : tie.Need-cast-place Inv-loop μ-loop
+cast-place c = let at = c .before .before in omega (arith, at .loop .inv .taken .lines, at .loop .inv .taken .few)
 
 returns-3 : tie.Need-returns-3 Inv-loop μ-loop
 returns-3 c = c .answered3 .ensures ∙ ended-none (c .before .before .before .loop .inv) (c .before .before .loop-test .left) (c .before .if1 .taken)
@@ -132,8 +150,7 @@ read-spec =
     (λ c κs. search needs)
     (λ c κs. search needs)
     returns
-    (λ c κs. search needs)
-    add-at
+    opened-requires
     loop-holds
     array-share-prefix-ids
     slice-aggregate-task-line
@@ -148,11 +165,13 @@ read-spec =
     add-set
     array-write-ids
     (λ c κs. search needs)
+    add-at
     add-at-2
-    add-at-3
     add-lines
     loop-less
     loop-again
+    add-place
+    cast-place
     (λ c κs. search needs)
     returns-3
     figures-requires
