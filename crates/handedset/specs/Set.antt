@@ -1,12 +1,20 @@
--- The set that is handed in as numbers: its count, the seven figures of the header, then each place.
+-- The set that is handed in as numbers: its count, the seven figures of the header, the two of the 05 line, then each place.
 use Prim.Native.Nat.{ℕ, _+_, _*_, _-_}
 use mathlib.Core.List.{List}
+use mathlib.Core.Bool.{cond}
+use lib.Dec.{eqb}
+use Rattle.tasks.specs.declared.set.Optional.{Optional}
+use Rattle.tasks.specs.declared.set.Optional.the-variants.{Absent, Given}
 use Rattle.tasks.specs.declared.set.Header.{Header}
 use Rattle.tasks.specs.declared.set.Task.{Task}
 use Rattle.tasks.specs.declared.set.TaskSet.{TaskSet}
 use Rattle.tasks.specs.Set.{mostTasks}
 use Rattle.places.specs.Padded.{upTo}
 use Rattle.handed.specs.Handed.{numberAt, byteAt, halfAt, wordAt}
+
+-- what the 05 line gives: whether there is one (0 for none), and its figure
+abbrev pub maskedFrom : (numbers : List ℕ) → Optional
+maskedFrom ns = cond (eqb (numberAt ns 8) 0) Absent (Given (halfAt ns 9))
 
 abbrev pub headerFrom : (numbers : List ℕ) → Header
 headerFrom ns =
@@ -18,6 +26,7 @@ headerFrom ns =
       ctswo = halfAt ns 5;
       resd = halfAt ns 6;
       cpmdo = halfAt ns 7;
+      masked = maskedFrom ns;
     }
 
 -- the task whose numbers stand from a place on
@@ -25,4 +34,4 @@ abbrev pub taskFrom : (numbers : List ℕ) (at : ℕ) → Task
 taskFrom ns at = record { id = byteAt ns at; cost = wordAt ns (at + 1); deadline = wordAt ns (at + 2); period = wordAt ns (at + 3) }
 
 unfoldable pub setFrom : (numbers : List ℕ) → TaskSet
-setFrom ns = record { header = headerFrom ns; count = numberAt ns 0; tasks = upTo (λ (k : ℕ). taskFrom ns (8 + 4 * (k - 1))) mostTasks }
+setFrom ns = record { header = headerFrom ns; count = numberAt ns 0; tasks = upTo (λ (k : ℕ). taskFrom ns (10 + 4 * (k - 1))) mostTasks }

@@ -1,18 +1,30 @@
-// The set of numbers: its count, the seven figures of the header, then id, cost, deadline and period of each place.
+// The set of numbers: its count, the seven figures of the header, whether there is a 05 line (0 for none) and its figure, then id, cost,
+// deadline and period of each place.
 use handed::number_at;
 use tasks::set::Header;
+use tasks::set::Optional;
 use tasks::set::Task;
 use tasks::set::TaskSet;
 ghost use mathlib.Core.Path.{_≡_};
 ghost use Prim.Native.Nat.{_≤_};
 ghost use Rattle.handed.specs.Handed.{mostNumbers};
-ghost use Rattle.handedset.specs.Set.{headerFrom, taskFrom, setFrom};
+ghost use Rattle.handedset.specs.Set.{maskedFrom, headerFrom, taskFrom, setFrom};
 
 const BYTE: u64 = 256;
 
 const HALF: u64 = 65_536;
 
 const WORD: u64 = 4_294_967_296;
+
+// The figure of the 05 line, where there is one.
+fn masked_from(numbers: &[u64]) -> Optional
+    ensures { λ r. ⌜ r ≡ maskedFrom (now (numbers .entry)) ⌝ }
+{
+    if number_at(numbers, 8) == 0 {
+        return Optional::Absent;
+    }
+    Optional::Given((number_at(numbers, 9) % HALF) as u16)
+}
 
 fn header_from(numbers: &[u64]) -> Header
     ensures { λ r. ⌜ r ≡ headerFrom (now (numbers .entry)) ⌝ }
@@ -25,6 +37,7 @@ fn header_from(numbers: &[u64]) -> Header
         ctswo: (number_at(numbers, 5) % HALF) as u16,
         resd: (number_at(numbers, 6) % HALF) as u16,
         cpmdo: (number_at(numbers, 7) % HALF) as u16,
+        masked: masked_from(numbers),
     }
 }
 
@@ -52,7 +65,7 @@ pub fn set_from(numbers: &[u64]) -> TaskSet
     }; TaskSet::MOST_TASKS];
     let mut i: usize = 0;
     while i < TaskSet::MOST_TASKS {
-        tasks[i] = task_from(numbers, 8 + 4 * i);
+        tasks[i] = task_from(numbers, 10 + 4 * i);
         i += 1;
     }
     let header = header_from(numbers);

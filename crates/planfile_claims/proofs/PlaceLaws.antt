@@ -1,4 +1,4 @@
--- The places of the refusals that a file meets: a line among the first 66, a task among 64, or at most as many processors as tasks.
+-- The places of the refusals that a file meets: a line among the first 67, a task among 64, or at most as many processors as tasks.
 -- Assumes nothing.
 use Prim.Native.Nat.{ℕ, zero, suc, _+_, _≤_, _<_}
 use mathlib.Core.Path.{_≡_, refl, sym, _∙_, ap, subst}
@@ -25,7 +25,7 @@ use Rattle.taskfile.proofs.Lines.{clear-header, clear-task, clear-room}
 use Rattle.taskread.specs.Read.{readOf}
 use Rattle.tasks_claims.specs.Claims.{LineRow, LINE, ORDER, COUNT, TWICE, holdsAt, FirstAt, FirstRange, Shaped, linesTo, tasksIn}
 use Rattle.tasks_claims.proofs.Claims.{read-exactly-line, read-exactly-range, read-refuses}
-use Rattle.tasks_claims.proofs.ShapedLaws.{lines-some, shaped-none, shaped-more, shaped-count, shaped-all}
+use Rattle.tasks_claims.proofs.ShapedLaws.{opening-lines, lines-opened, lines-some, shaped-none, shaped-more, shaped-count, shaped-all}
 use Rattle.loads.specs.Charge.{figuresOf}
 use Rattle.setfigures.specs.Figures.{setFigures}
 use Rattle.rows.proofs.Clears.{board-slot}
@@ -40,31 +40,31 @@ use Rattle.plan_claims.proofs.Claims.{plan-exactly, plan-only}
 
 -- ---- lines
 
--- a line that is not there, after the second, breaks no row
-absent-holds : (row : LineRow) (text : List ℕ) (n : ℕ) → past (suc (suc n)) text ≡ [] → holdsAt row text (suc (suc (suc n))) ≡ false
+-- a line behind one that is not there breaks no row
+absent-holds : (row : LineRow) (text : List ℕ) (n : ℕ) → past n text ≡ [] → holdsAt row text (suc (suc n)) ≡ false
 unfolding lineRow orderRow countLineRow twiceLineRow formed closed
-absent-holds LINE text n e = rw e
-absent-holds ORDER text n e = rw (e, ne-eqb (suc (suc (suc n))) 1 (λ h. omega arith))
-absent-holds COUNT text n e = rw (e, ne-eqb (suc (suc (suc n))) 2 (λ h. omega arith))
-absent-holds TWICE text n e = rw e
+absent-holds LINE text n e = rw (absent-later n (suc n) text (omega arith) e)
+absent-holds ORDER text n e = rw (absent-later n (suc n) text (omega arith) e, ne-eqb (suc (suc n)) 1 (λ h. omega arith))
+absent-holds COUNT text n e = rw (absent-later n (suc n) text (omega arith) e, e)
+absent-holds TWICE text n e = rw (absent-later n (suc n) text (omega arith) e)
 
-lines-are : (text : List ℕ) (n : ℕ) → linesTo text n ≡ n + 1
-lines-are text zero = refl
-lines-are text (suc n) = omega (arith, lines-are text n)
+lines-most : (text : List ℕ) (n : ℕ) → linesTo text n ≤ n + 2
+lines-most text zero = omega (arith, opening-lines text)
+lines-most text (suc n) = omega (arith, lines-most text n)
 
--- a text whose first 66 lines are clear ends after at most 64 tasks
+-- a text whose first 67 lines are clear ends after at most 64 tasks
 record Ended (text : List ℕ) : Type 0 where
   tasks : ℕ
   shaped : Shaped text tasks
   most : tasks ≤ mostTasks
   ended : past (linesTo text tasks) text ≡ []
 
-module _ (text : List ℕ) (clear : (j : ℕ) → 1 ≤ j → j < 67 → lineOutcome text j ≡ Done) where
+module _ (text : List ℕ) (clear : (j : ℕ) → 1 ≤ j → j < 68 → lineOutcome text j ≡ Done) where
   step : (m : ℕ) → Shaped text m → m ≤ mostTasks → (Shaped text (suc m) → suc m ≤ mostTasks → Ended text) → (rest : List ℕ) → past (linesTo text m) text ≡ rest → Ended text
   step m s most more [] e = record { tasks = m; shaped = s; most = most; ended = e }
   step m s most more (b ∷ bs) e =
-      let line : lineOutcome text (suc (linesTo text m)) ≡ Done = clear (suc (linesTo text m)) (omega arith) (omega (arith, lines-are text m, most)) in
-      let task = clear-task text (linesTo text m) (lines-some text m) (ap empty e) line in
+      let line : lineOutcome text (suc (linesTo text m)) ≡ Done = clear (suc (linesTo text m)) (omega arith) (omega (arith, lines-most text m, most)) in
+      let task = clear-task text (linesTo text m) (lines-opened text m) (ap empty e) line in
       let room : length (tasksAmong text (linesTo text m)) ≡ mostTasks → ⊥ = clear-room text (linesTo text m) (lines-some text m) task line in
       more (shaped-more text m s task) (omega (arith, most, room, shaped-count text m s))
 
@@ -75,15 +75,14 @@ module _ (text : List ℕ) (clear : (j : ℕ) → 1 ≤ j → j < 67 → lineOut
   ends : Ended text
   ends = going mostTasks 0 (omega arith) (omega arith) (shaped-none text (clear-header text (clear 1 (omega arith) (omega arith))))
 
-line-few : (row : LineRow) (text : List ℕ) (k : ℕ) → FirstAt row text k → k ≤ 66
+line-few : (row : LineRow) (text : List ℕ) (k : ℕ) → FirstAt row text k → k ≤ 67
 line-few row text zero f = omega arith
 line-few row text (suc zero) f = omega arith
-line-few row text (suc (suc zero)) f = omega arith
-line-few row text (suc (suc (suc n))) f =
-    elim (decLt 66 (suc (suc (suc n)))) [
-      | yes past66 ↦
-          let e = ends text (λ j one lt. f .clear j one (omega (arith, past66, lt))) in
-          let gone = absent-later (linesTo text (e .tasks)) (suc (suc n)) text (omega (arith, lines-are text (e .tasks), e .most, past66)) (e .ended) in
+line-few row text (suc (suc n)) f =
+    elim (decLt 67 (suc (suc n))) [
+      | yes past67 ↦
+          let e = ends text (λ j one lt. f .clear j one (omega (arith, past67, lt))) in
+          let gone = absent-later (linesTo text (e .tasks)) n text (omega (arith, lines-most text (e .tasks), e .most, past67)) (e .ended) in
           true-false (sym (f .holds) ∙ absent-holds row text n gone)
       | no few ↦ omega (arith, few)
     ]

@@ -1,5 +1,5 @@
--- An accepted file is a header and 1 to 64 tasks and nothing after them.
-use Prim.Native.Nat.{ℕ, zero, suc, _≤_}
+-- An accepted file is a header, a 05 line or none, and 1 to 64 tasks and nothing after them.
+use Prim.Native.Nat.{ℕ, zero, suc, _-_, _≤_}
 use native.Mathlib.Omega.{arith}
 use mathlib.Core.List.{List, [], _∷_}
 use mathlib.Core.Bool.{false}
@@ -11,15 +11,14 @@ use Rattle.refusals.specs.declared.Outcome.{Outcome}
 use Rattle.refusals.specs.declared.Outcome.the-variants.{Done}
 use Rattle.tasks.specs.declared.set.TaskSet.{TaskSet}
 use Rattle.tasks.specs.Set.{mostTasks, setOf, members}
-use Rattle.taskfile.specs.File.{past, empty, tasksAmong, fileTasks, headerAt, lineOutcome}
+use Rattle.taskfile.specs.File.{past, empty, openingLines, tasksAmong, fileTasks, fileHeader, lineOutcome}
 use Rattle.taskread.specs.Read.{readOf, fileSet, answer}
-use Rattle.tasks_claims.specs.Claims.{opening, linesTo, sizeOf, Shaped, tasksIn, AllClear, AcceptedFile, ReadAccepted}
-use Rattle.refusals.proofs.FirstLaws.{done-refused}
+use Rattle.tasks_claims.specs.Claims.{linesTo, sizeOf, Shaped, tasksIn, AllClear, AcceptedFile, ReadAccepted}
+use Rattle.refusals.proofs.FirstLaws.{done-refused, done-till}
 use Rattle.taskfile.proofs.Past.{nothing-left, after-shorter}
-use Rattle.taskfile.proofs.Lines.{clear-header, clear-task, clear-room}
-use Rattle.tasks_claims.proofs.ShapedLaws.{lines-some, shaped-none, shaped-more, past-shaped, shaped-count, shaped-all}
+use Rattle.taskfile.proofs.Lines.{some-opening, clear-header, clear-task, clear-room, clear-there, no-task}
+use Rattle.tasks_claims.proofs.ShapedLaws.{lines-opened, lines-some, shaped-none, shaped-more, past-shaped, shaped-count, shaped-all}
 use Rattle.tasks.proofs.SetLaws.{members-set}
-use Rattle.taskread.proofs.Reading.{no-task}
 use Rattle.tasks_claims.proofs.Exactly.{read-done, read-outcome, all-clear}
 
 -- a text of clear lines, all of which are taken
@@ -34,7 +33,7 @@ module _ (text : List ℕ) (clear : AllClear text) where
   next n s most there =
       let k = linesTo text n in
       let line : lineOutcome text (suc k) ≡ Done = clear (suc k) (omega arith) in
-      let task = clear-task text k (lines-some text n) there line in
+      let task = clear-task text k (lines-opened text n) there line in
       let room : length (tasksAmong text k) ≡ mostTasks → ⊥ = clear-room text k (lines-some text n) task line in
       (shaped-more text n s task, omega (arith, most, room, shaped-count text n s))
 
@@ -52,7 +51,7 @@ module _ (text : List ℕ) (clear : AllClear text) where
 
   whole : (m : ℕ) × Whole text m
   whole =
-      taking (length (past (opening text) text)) 0 (shaped-none text (clear-header text (clear 1 (omega arith)))) (omega arith) (omega arith)
+      taking (length (past (openingLines text) text)) 0 (shaped-none text (clear-header text (clear 1 (omega arith)))) (omega arith) (omega arith)
 
 -- the answer of an accepted read holds the file's set
 accepted-set : (text : List ℕ) → readOf text .outcome ≡ Done → readOf text .set ≡ fileSet text
@@ -61,9 +60,12 @@ accepted-set text e = ap (λ (o : Outcome). answer o (fileSet text) .set) (sym (
 
 some-task : (text : List ℕ) (m : ℕ) → AllClear text → Whole text m → m ≡ 0 → ⊥
 some-task text m clear w none =
-    done-refused
-    (sym (clear 2 (omega arith))
-    ∙ no-task text (subst (λ (k : ℕ). past (linesTo text k) text ≡ []) none (w .ended)) (shaped-all text m (w .shaped) (w .ended) ∙ none))
+    let k = openingLines text - 1 in
+    let lines : openingLines text ≡ suc k = omega (arith, some-opening text) in
+    let empty-file : length (fileTasks text) ≡ 0 = shaped-all text m (w .shaped) (w .ended) ∙ none in
+    let end : past (suc k) text ≡ [] = subst (λ (n : ℕ). past n text ≡ []) lines (subst (λ (n : ℕ). past (linesTo text n) text ≡ []) none (w .ended)) in
+    let there : empty (past k text) ≡ false = clear-there text k empty-file (done-till (lineOutcome text) (suc k) (λ j lt. clear (suc j) (omega arith))) in
+    done-refused (sym (clear (suc (suc k)) (omega arith)) ∙ no-task text k there end empty-file)
 
 accepted : (text : List ℕ) (m : ℕ) → AllClear text → Whole text m → readOf text .set ≡ fileSet text → AcceptedFile text
 unfolding fileSet setOf widthsOf sum
@@ -80,7 +82,7 @@ accepted text m clear w holds =
       ended = subst (λ (k : ℕ). past (linesTo text k) text ≡ []) (sym all) (w .ended);
       header = ap (λ (s : TaskSet). s .header) holds;
       count = ap (λ (s : TaskSet). s .count) holds;
-      tasks = ap members holds ∙ members-set (headerAt text) (fileTasks text);
+      tasks = ap members holds ∙ members-set (fileHeader text) (fileTasks text);
     }
 
 pub read-accepted : ReadAccepted

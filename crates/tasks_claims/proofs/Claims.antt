@@ -1,8 +1,9 @@
 -- The claims of specs/Claims, each under its own name.
-use Rattle.tasks_claims.specs.Claims.{ReadExactlyLine, ReadExactlyBoard, ReadExactlyRange, ReadExactlyDone, ReadRefuses, ReadDetermined, ReadLooksAt, ReadAccepted, WritesExactly, WritesLeave, WriteDetermined, ReadWritten, ReadWrittenSame, WrittenRead}
+use Rattle.tasks_claims.specs.Claims.{ReadExactlyLine, ReadExactlyBoard, ReadExactlyRange, ReadExactlyDone, ReadRefuses, ReadDetermined, ReadLooksAt, ReadAccepted, MaskedRemembered, MaskedOnlyAtTwo, NoTaskPlace, WritesExactly, WritesLeave, WriteDetermined, ReadWritten, ReadWrittenSame, WrittenRead}
 use Rattle.tasks_claims.proofs.Exactly as exactly
 use Rattle.tasks_claims.proofs.Prefix as prefix
 use Rattle.tasks_claims.proofs.Accepted as accepted
+use Rattle.tasks_claims.proofs.MaskedLaws as masked
 use Rattle.tasks_claims.proofs.WriteAnswers as answers
 use Rattle.tasks_claims.proofs.RoundTripSet as sets
 use Rattle.tasks_claims.proofs.RoundTripText as texts
@@ -30,6 +31,15 @@ read-looks-at = prefix.read-looks-at
 
 pub read-accepted : ReadAccepted
 read-accepted = accepted.read-accepted
+
+pub masked-remembered : MaskedRemembered
+masked-remembered = masked.masked-remembered
+
+pub masked-only-at-two : MaskedOnlyAtTwo
+masked-only-at-two = masked.masked-only-at-two
+
+pub no-task-place : NoTaskPlace
+no-task-place = masked.no-task-place
 
 pub writes-exactly : WritesExactly
 writes-exactly = answers.writes-exactly

@@ -1,27 +1,24 @@
 -- Each refusal of reading exactly when its row says: the claims of specs/Claims, proved.
 use Prim.Native.Nat.{ℕ, zero, suc, _+_, _≤_, _<_}
 use native.Mathlib.Omega.{arith}
-use native.Mathlib.Decide.{decLt, ℕ-discrete}
-use mathlib.Core.List.{List, [], _∷_}
+use native.Mathlib.Decide.{decLt}
+use mathlib.Core.List.{List}
 use mathlib.Core.Bool.{Bool, true, false}
 use mathlib.Core.Path.{_≡_, refl, sym, _∙_, ap, subst, subst₂}
-use mathlib.Core.Logic.{_↔_}
-use lib.ListN.{length, getD, List·getD-append}
-use lib.Seq.{getD-at}
+use lib.ListN.{length, getD}
 use Rattle.laws.proofs.Tests.{clash}
 use Rattle.refusals.specs.Refused.{numberOf, placeOf}
 use Rattle.refusals.specs.declared.Refusal.{Refusal}
 use Rattle.refusals.specs.declared.Refusal.the-variants.{Line, Order, Count, Twice, Board, Range}
 use Rattle.refusals.specs.declared.Outcome.{Outcome}
 use Rattle.refusals.specs.declared.Outcome.the-variants.{Done, Refused}
-use Rattle.tasks.specs.declared.set.Task.{Task}
 use Rattle.tasks.specs.declared.set.TaskSet.{TaskSet}
 use Rattle.taskread.specs.declared.read.ReadAnswer.{ReadAnswer}
 use Rattle.tasks.specs.Set.{members, setOf, zeroTask}
 use Rattle.refusals.specs.First.{firstOf, when, till}
 use Rattle.tasks.specs.Search.{atTask, firstTask}
 use Rattle.taskrows.specs.Rows.{boardRow, rangeRow, figuresOutcome}
-use Rattle.taskfile.specs.File.{headerAt, lineRow, orderRow, countLineRow, twiceLineRow, lineOutcome, fileTasks}
+use Rattle.taskfile.specs.File.{fileHeader, lineRow, orderRow, countLineRow, twiceLineRow, lineOutcome, fileTasks}
 use Rattle.taskread.specs.Read.{readOf, readOutcome, fileSet, answer}
 use Rattle.tasks_claims.specs.Claims.{tasksIn, taskOf, LineRow, LINE, ORDER, COUNT, TWICE, refusalAt, holdsAt, Clear, AllClear, FirstAt, FirstRange, NoRow, ReadExactlyLine, ReadExactlyBoard, ReadExactlyRange, ReadExactlyDone, ReadRefuses, ReadDetermined}
 use Rattle.refusals.proofs.FirstLaws.{done-refused, first-done, till-done, done-till, found}
@@ -153,8 +150,7 @@ all-clear text clear (suc j) one =
   where
     past-end : (j : ℕ) → length text + 2 ≤ j → lineOutcome text (suc j) ≡ Done
     past-end zero le = absurd (omega arith)
-    past-end (suc zero) le = absurd (omega arith)
-    past-end (suc (suc n)) le = absent-done text n (absent-past (suc (suc n)) text (omega arith))
+    past-end (suc n) le = absent-done text n (absent-past n text (omega arith))
 
 pub clear-all : (text : List ℕ) → AllClear text → till (lineOutcome text) (length text + 2) ≡ Done
 clear-all text f = done-till (lineOutcome text) (length text + 2) (λ j lt. f (suc j) (omega arith))
@@ -218,28 +214,28 @@ after-lines text r five (at-line row j same clear low) =
 after-lines text r five (at-figures clear e) = (all-clear text clear, e)
 
 -- the set's header and tasks are the file's
-file-header : (text : List ℕ) → fileSet text .header ≡ headerAt text
+file-header : (text : List ℕ) → fileSet text .header ≡ fileHeader text
 unfolding fileSet setOf
 file-header text = refl
 
 file-members : (text : List ℕ) → members (fileSet text) ≡ fileTasks text
 unfolding fileSet
-file-members text = members-set (headerAt text) (fileTasks text)
+file-members text = members-set (fileHeader text) (fileTasks text)
 
 -- row 5
 pub read-exactly-board : ReadExactlyBoard
 read-exactly-board text = (said, answered)
   where
-    said : readOf text .outcome ≡ Refused Board → AllClear text × (boardRow (headerAt text) ≡ true)
+    said : readOf text .outcome ≡ Refused Board → AllClear text × (boardRow (fileHeader text) ≡ true)
     said e =
         let all : AllClear text × (figuresOutcome (fileSet text) ≡ Refused Board) = after-lines text Board (omega arith) (came text Board e) in
         (all .0, ap boardRow (sym (file-header text)) ∙ board-said (boardRow (fileSet text .header)) (firstTask rangeRow (members (fileSet text))) (figures-said (fileSet text) (Refused Board) (all .1)))
 
-    answered : AllClear text × (boardRow (headerAt text) ≡ true) → readOf text .outcome ≡ Refused Board
+    answered : AllClear text × (boardRow (fileHeader text) ≡ true) → readOf text .outcome ≡ Refused Board
     answered h = clear-outcome text (h .0) ∙ figures-board (fileSet text) (ap boardRow (file-header text) ∙ h .1)
 
 -- the first task out of range, as the claim and as the search say it
-stops-range : (text : List ℕ) (d : ℕ) → Stops rangeRow zeroTask (fileTasks text) d → AllClear text → boardRow (headerAt text) ≡ false → FirstRange text (suc d)
+stops-range : (text : List ℕ) (d : ℕ) → Stops rangeRow zeroTask (fileTasks text) d → AllClear text → boardRow (fileHeader text) ≡ false → FirstRange text (suc d)
 stops-range text d s clear board =
     record {
       clear = clear;
@@ -266,7 +262,7 @@ range-stops text d f =
 pub read-exactly-range : ReadExactlyRange
 read-exactly-range text k = (said, answered k)
   where
-    named : (k : ℕ) → AllClear text → boardRow (headerAt text) ≡ false → firstTask rangeRow (members (fileSet text)) ≡ k → 1 ≤ k → FirstRange text k
+    named : (k : ℕ) → AllClear text → boardRow (fileHeader text) ≡ false → firstTask rangeRow (members (fileSet text)) ≡ k → 1 ≤ k → FirstRange text k
     named zero clear board e one = absurd (omega arith)
     named (suc m) clear board e one =
         let stop : (d : ℕ) × (m ≡ 0 + d) × Stops rangeRow zeroTask (fileTasks text) d =

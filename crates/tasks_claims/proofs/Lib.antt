@@ -1,6 +1,7 @@
 pub mod ShapedLaws
 pub mod Exactly
 pub mod Accepted
+pub mod MaskedLaws
 pub mod Prefix
 pub mod RoundTripSet
 pub mod RoundTripText

@@ -14,25 +14,25 @@ use Rattle.frameread.specs.Line.{after, formed, fieldOf}
 use Rattle.framewrite.specs.Line.{lineOf}
 use Rattle.framesizes.specs.Overflow.{lineOverflows, someTooLarge}
 use Rattle.frames.specs.declared.table.Frame.{Frame}
-use Rattle.refusals.specs.declared.Refusal.{Refusal}
 use Rattle.refusals.specs.declared.Refusal.the-variants.{Count, Twice}
 use Rattle.refusals.specs.declared.Outcome.the-variants.{Done}
 use Rattle.frameread.proofs.Formed.{field-below}
 use Rattle.frames_claims.specs.Values.{fieldsFrom, fieldsOf}
 use Rattle.frames_claims.proofs.LineLaws.{line-fields}
-use Rattle.frameread.proofs.KindLaws.{not-formed}
+use Rattle.tasks.specs.declared.set.Optional.{Optional}
+use Rattle.tasks.specs.declared.set.Header.{Header}
 use Rattle.tasks.specs.declared.set.Task.{Task}
 use Rattle.tasks.specs.declared.set.TaskSet.{TaskSet}
 use Rattle.tasks.specs.Set.{mostTasks, zeroTask, members, hasId}
 use Rattle.refusals.specs.First.{when}
 use Rattle.tasks.specs.Search.{some}
-use Rattle.taskask.specs.Ask.{countRow, twiceRow, headerOverflows, taskOverflows}
+use Rattle.taskask.specs.Ask.{countRow, twiceRow, headerOverflows, taskOverflows, maskedOverflows}
 use Rattle.taskrows.specs.Rows.{boardRow, rangeRow}
-use Rattle.taskfile.specs.File.{past, lineOutcome, headerAt, taskAt, tasksAmong, fileTasks}
+use Rattle.taskfile.specs.File.{past, lineOutcome, headerAt, maskedAt, fileHeader, openingLines, taskAt, tasksAmong, fileTasks}
 use Rattle.taskread.specs.Read.{readOf}
-use Rattle.tasks_claims.specs.Claims.{opening, linesTo, Shaped, tasksIn, AcceptedFile, NoRow, WrittenRead}
+use Rattle.tasks_claims.specs.Claims.{linesTo, Shaped, tasksIn, AcceptedFile, NoRow, WrittenRead}
 use Rattle.tasks.specs.Values.{headerValues, taskValues}
-use Rattle.tasktext.specs.Text.{taskLines, textOf}
+use Rattle.tasktext.specs.Text.{taskLines, maskedLine, textOf}
 use Rattle.taskwrite.specs.Write.{writerAsks}
 use Rattle.refusals.proofs.FirstLaws.{first-done, when-done}
 use Rattle.taskask.proofs.Carried.{ask-rows}
@@ -41,32 +41,33 @@ use Rattle.tasks_claims.proofs.Exactly.{read-exactly-done}
 use Rattle.tasks.proofs.Some.{some-nil, some-more}
 use Rattle.taskask.proofs.TwiceLaws.{twice-nil, twice-more}
 use Rattle.tasks.proofs.SearchLaws.{some-nowhere}
-use Rattle.taskfile.proofs.Lines.{later-task}
+use Rattle.taskfile.proofs.Lines.{opening-one, opening-two, later-task}
+use Rattle.taskfile.proofs.OpeningLaws.{among-opening}
 use Rattle.taskfile.proofs.AmongLaws.{among-task, among-all}
-use Rattle.tasks_claims.proofs.ShapedLaws.{among-opened, lines-some, shaped-less}
+use Rattle.tasks_claims.proofs.ShapedLaws.{past-next, masked-there, masked-absent, file-masked, lines-some, shaped-less}
 use Rattle.taskwrite.proofs.WriteAsks.{writer-rows}
-use Rattle.tasktext.proofs.TextLaws.{lines-nil, lines-one, lines-append}
+use Rattle.tasktext.proofs.TextLaws.{lines-nil, lines-one, lines-append, masked-none, masked-given}
 
 -- a line of a kind is the line of its own figures
-header-again : (text : List ℕ) → formed Frame.Header text ≡ true → text ≡ lineOf Frame.Header (headerValues (headerAt text)) ++ after text
-unfolding headerAt fieldsFrom fieldsOf widthsOf
+header-again : (text : List ℕ) → formed Frame.Header text ≡ true → text ≡ lineOf Frame.Header (headerValues (fileHeader text)) ++ after text
+unfolding fileHeader headerAt fieldsFrom fieldsOf widthsOf
 header-again text f = line-fields Frame.Header text f
+
+masked-again : (rest : List ℕ) → formed Frame.Masked rest ≡ true → rest ≡ lineOf Frame.Masked (fieldOf Frame.Masked 0 rest ∷ []) ++ after rest
+unfolding fieldsFrom fieldsOf widthsOf
+masked-again rest f = line-fields Frame.Masked rest f
 
 task-again : (rest : List ℕ) → formed Frame.Task rest ≡ true → rest ≡ lineOf Frame.Task (taskValues (taskAt rest)) ++ after rest
 unfolding taskAt fieldsFrom fieldsOf widthsOf
 task-again rest f = line-fields Frame.Task rest f
-
-past-next : (text : List ℕ) (i : ℕ) → past (suc i) text ≡ after (past i text)
-unfolding past
-past-next text i = refl
 
 past-one : (text : List ℕ) → past 1 text ≡ after text
 unfolding past
 past-one text = refl
 
 -- what follows the opening lines is the lines of the tasks so far, and the rest
-lines-again : (text : List ℕ) (i : ℕ) → Shaped text i → past (opening text) text ≡ taskLines (tasksAmong text (linesTo text i)) ++ past (linesTo text i) text
-lines-again text zero s = ap (λ (l : List ℕ). l ++ past (opening text) text) (sym (ap taskLines (among-opened text (s .opened)) ∙ lines-nil))
+lines-again : (text : List ℕ) (i : ℕ) → Shaped text i → past (openingLines text) text ≡ taskLines (tasksAmong text (linesTo text i)) ++ past (linesTo text i) text
+lines-again text zero s = ap (λ (l : List ℕ). l ++ past (openingLines text) text) (sym (ap taskLines (among-opening text (s .opened)) ∙ lines-nil))
 lines-again text (suc i) s =
     let k = linesTo text i in
     let rest = past k text in
@@ -77,21 +78,43 @@ lines-again text (suc i) s =
     ∙ sym (append-assoc (taskLines (tasksAmong text k)) (taskLines (t ∷ [])) (past (suc k) text))
     ∙ ap (λ (l : List ℕ). l ++ past (suc k) text) (sym (lines-append (tasksAmong text k) (t ∷ [])) ∙ ap taskLines (sym (among-task text k (s .tasks i (omega arith)))))
 
-text-again : (text : List ℕ) (n : ℕ) → Shaped text n → past (linesTo text n) text ≡ [] → lineOf Frame.Header (headerValues (headerAt text)) ++ taskLines (fileTasks text) ≡ text
+-- line 2 is the 05 line of what it gives, or the lines before the tasks end before it
+second-again : (text : List ℕ) → past 1 text ≡ maskedLine (maskedAt text) ++ past (openingLines text) text
+second-again text = by-kind (formed Frame.Masked (past 1 text)) refl
+  where
+    by-kind : (b : Bool) → formed Frame.Masked (past 1 text) ≡ b → past 1 text ≡ maskedLine (maskedAt text) ++ past (openingLines text) text
+    by-kind true e =
+        masked-again (past 1 text) e
+        ∙ ap₂ _++_ (sym (masked-given (masked-there text e))) (sym (ap (λ (n : ℕ). past n text) (opening-two text e) ∙ past-next text 1))
+    by-kind false e = ap₂ _++_ (sym (masked-none (masked-absent text e))) (ap (λ (n : ℕ). past n text) (sym (opening-one text e)))
+
+text-again : (text : List ℕ) (n : ℕ) → Shaped text n → past (linesTo text n) text ≡ []
+    → lineOf Frame.Header (headerValues (fileHeader text)) ++ (maskedLine (maskedAt text) ++ taskLines (fileTasks text)) ≡ text
 text-again text n s end =
     let k = linesTo text n in
-    let rest : after text ≡ taskLines (fileTasks text) =
-    sym (past-one text) ∙ lines-again text n s ∙ ap (λ (l : List ℕ). taskLines (tasksAmong text k) ++ l) end ∙ append-nil (taskLines (tasksAmong text k)) ∙ ap taskLines (among-all text k end) in
-    ap (λ (l : List ℕ). lineOf Frame.Header (headerValues (headerAt text)) ++ l) (sym rest) ∙ sym (header-again text (s .opened))
+    let first = lineOf Frame.Header (headerValues (fileHeader text)) in
+    let rest : past (openingLines text) text ≡ taskLines (fileTasks text) =
+    lines-again text n s ∙ ap (λ (l : List ℕ). taskLines (tasksAmong text k) ++ l) end ∙ append-nil (taskLines (tasksAmong text k)) ∙ ap taskLines (among-all text k end) in
+    ap (λ (l : List ℕ). first ++ (maskedLine (maskedAt text) ++ l)) (sym rest)
+    ∙ ap (λ (l : List ℕ). first ++ l) (sym (second-again text) ∙ past-one text)
+    ∙ sym (header-again text (s .opened))
 
 -- figures that were read fit their fields
-header-fits : (text : List ℕ) → formed Frame.Header text ≡ true → headerOverflows (headerAt text) ≡ false
-unfolding headerOverflows lineOverflows someTooLarge headerAt widthsOf
+header-fits : (text : List ℕ) → formed Frame.Header text ≡ true → headerOverflows (fileHeader text) ≡ false
+unfolding headerOverflows lineOverflows someTooLarge fileHeader headerAt widthsOf
 header-fits text f =
     or-neither (fits 0) (or-neither (fits 1) (or-neither (fits 2) (or-neither (fits 3) (or-neither (fits 4) (or-neither (fits 5) (or-neither (fits 6) refl))))))
   where
     fits : (k : ℕ) → leb (16 ^ lib.ListN.getD (widthsOf Frame.Header) k 0) (fieldOf Frame.Header k text) ≡ false
     fits k = lt-leb _ _ (field-below Frame.Header text f k)
+
+masked-fits : (text : List ℕ) → maskedOverflows (maskedAt text) ≡ false
+unfolding maskedOverflows lineOverflows someTooLarge widthsOf
+masked-fits text = by-kind (formed Frame.Masked (past 1 text)) refl
+  where
+    by-kind : (b : Bool) → formed Frame.Masked (past 1 text) ≡ b → maskedOverflows (maskedAt text) ≡ false
+    by-kind true e = ap maskedOverflows (masked-there text e) ∙ or-neither (lt-leb _ _ (field-below Frame.Masked (past 1 text) e 0)) refl
+    by-kind false e = ap maskedOverflows (masked-absent text e)
 
 task-fits : (rest : List ℕ) → formed Frame.Task rest ≡ true → taskOverflows (taskAt rest) ≡ false
 unfolding taskOverflows lineOverflows someTooLarge taskAt widthsOf
@@ -101,7 +124,7 @@ task-fits rest f = or-neither (fits 0) (or-neither (fits 1) (or-neither (fits 2)
     fits k = lt-leb _ _ (field-below Frame.Task rest f k)
 
 tasks-fit : (text : List ℕ) (i : ℕ) → Shaped text i → some taskOverflows (tasksAmong text (linesTo text i)) ≡ false
-tasks-fit text zero s = ap (some taskOverflows) (among-opened text (s .opened)) ∙ some-nil taskOverflows
+tasks-fit text zero s = ap (some taskOverflows) (among-opening text (s .opened)) ∙ some-nil taskOverflows
 tasks-fit text (suc i) s =
     let k = linesTo text i in
     let task = s .tasks i (omega arith) in
@@ -116,7 +139,7 @@ id-new text k one task clear =
     (first-done (when (eqb (length (tasksAmong text k)) mostTasks) (Count (suc k))) (when b (Twice (suc k))) (sym (later-task text k one task) ∙ clear) .1)
 
 ids-new : (text : List ℕ) (i : ℕ) → Shaped text i → ((j : ℕ) → 1 ≤ j → lineOutcome text j ≡ Done) → twiceRow (tasksAmong text (linesTo text i)) ≡ false
-ids-new text zero s clear = ap twiceRow (among-opened text (s .opened)) ∙ twice-nil
+ids-new text zero s clear = ap twiceRow (among-opening text (s .opened)) ∙ twice-nil
 ids-new text (suc i) s clear =
     let k = linesTo text i in
     let task = s .tasks i (omega arith) in
@@ -142,14 +165,16 @@ module _ (text : List ℕ) (taken : AcceptedFile text) (none : NoRow text) where
       (ask-rows set (count-right set (omega (arith, taken .count, taken .any)) (omega (arith, taken .count, taken .most)))
       (ap twiceRow all ∙ ids-new text (tasksIn text) s (none .clear))
       (ap headerOverflows (taken .header) ∙ header-fits text (s .opened))
-      (ap (some taskOverflows) all ∙ tasks-fit text (tasksIn text) s))
+      (ap (some taskOverflows) all ∙ tasks-fit text (tasksIn text) s)
+      (ap (λ (h : Header). maskedOverflows (h .masked)) (taken .header) ∙ ap maskedOverflows (file-masked text) ∙ masked-fits text))
       (ap boardRow (taken .header) ∙ none .board)
       (ap (some rangeRow) (taken .tasks) ∙ some-nowhere rangeRow zeroTask (fileTasks text) (λ j lt. none .range (suc j) (omega arith) (omega arith)))
 
   same : textOf (readOf text .set) ≡ text
   unfolding textOf
   same =
-      ap₂ (λ (h : _) (ts : List Task). lineOf Frame.Header (headerValues h) ++ taskLines ts) (taken .header) (taken .tasks)
+      ap₂ (λ (h : Header) (ts : List Task). lineOf Frame.Header (headerValues h) ++ (maskedLine (h .masked) ++ taskLines ts)) (taken .header) (taken .tasks)
+      ∙ ap (λ (m : Optional). lineOf Frame.Header (headerValues (fileHeader text)) ++ (maskedLine m ++ taskLines (fileTasks text))) (file-masked text)
       ∙ text-again text (tasksIn text) (taken .shaped) (taken .ended)
 
 pub written-read : WrittenRead

@@ -4,41 +4,66 @@ use Prim.Native.Nat.{ℕ, zero, suc, _+_, _*_, _≤_, _<_}
 use native.Mathlib.Omega.{arith}
 use native.Mathlib.Decide.{ℕ-discrete}
 use mathlib.Core.List.{List, [], _∷_}
-use mathlib.Core.Bool.{true}
+use mathlib.Core.Bool.{Bool, true, false}
 use mathlib.Core.Path.{_≡_, refl, ap, sym, _∙_, subst}
 use lib.ListN.{length, drop, length-append}
-use Rattle.frameread.specs.Line.{formed}
+use Rattle.frameread.specs.Line.{after, formed, fieldOf}
 use Rattle.frames.specs.Table.{lengthOf}
 use Rattle.frames.specs.declared.table.Frame.{Frame}
-use Rattle.taskfile.specs.File.{past, tasksAmong, taskAt}
+use Rattle.tasks.specs.declared.set.Optional.the-variants.{Absent, Given}
+use Rattle.taskfile.specs.File.{past, maskedAt, fileHeader, openingLines, openingBytes, tasksAmong, taskAt}
 use Rattle.taskfile.proofs.Past.{past-formed}
-use Rattle.taskfile.proofs.AmongLaws.{among-none, among-task, among-other, among-all}
-use Rattle.taskfile.proofs.Lines.{header-no-task}
-use Rattle.tasks_claims.specs.Claims.{Opened, opening, openingBytes, linesTo, sizeOf, Shaped, tasksIn}
+use Rattle.taskfile.proofs.AmongLaws.{among-task, among-all}
+use Rattle.taskfile.proofs.Lines.{some-opening, opening-one, opening-two}
+use Rattle.taskfile.proofs.OpeningLaws.{opening-bytes, taken-opening, among-opening}
+use Rattle.tasks_claims.specs.Claims.{Opened, linesTo, sizeOf, Shaped, tasksIn}
+
+-- the text past one line more
+pub past-next : (text : List ℕ) (i : ℕ) → past (suc i) text ≡ after (past i text)
+unfolding past
+past-next text i = refl
 
 -- ---- the lines before the tasks
 
--- there are some, they are passed by their bytes, and they hold no task
-opening-some : (text : List ℕ) → 1 ≤ opening text
-opening-some text = omega arith
+-- an 01 and a 05 line at most, and their bytes
+module _ (text : List ℕ) where
+  pub opening-lines : openingLines text ≤ 2
+  opening-lines = by-kind (formed Frame.Masked (past 1 text)) refl
+    where
+      by-kind : (b : Bool) → formed Frame.Masked (past 1 text) ≡ b → openingLines text ≤ 2
+      by-kind true e = omega (arith, opening-two text e)
+      by-kind false e = omega (arith, opening-one text e)
 
-past-opened : (text : List ℕ) → Opened text → (past (opening text) text ≡ drop (openingBytes text) text) × (openingBytes text ≤ length text)
-unfolding past
-past-opened text header =
-    let passed = past-formed Frame.Header text 0 0 refl (omega arith) header in
-    let e : 0 + (lengthOf Frame.Header + 1) ≡ openingBytes text = omega arith in
-    (rw e at (passed .0), rw e at (passed .1))
+  pub opening-most : openingBytes text ≤ lengthOf Frame.Header + 1 + (lengthOf Frame.Masked + 1)
+  opening-most = by-kind (formed Frame.Masked (past 1 text)) refl
+    where
+      by-kind : (b : Bool) → formed Frame.Masked (past 1 text) ≡ b → openingBytes text ≤ lengthOf Frame.Header + 1 + (lengthOf Frame.Masked + 1)
+      by-kind true e = omega (arith, opening-bytes text e)
+      by-kind false e = omega (arith, opening-bytes text e)
 
-pub among-opened : (text : List ℕ) → Opened text → tasksAmong text (opening text) ≡ []
-unfolding past
-among-opened text header = among-other text 0 (header-no-task text header) ∙ among-none text
+-- what line 2 gives, by whether it is a 05 line
+pub masked-there : (text : List ℕ) → formed Frame.Masked (past 1 text) ≡ true → maskedAt text ≡ Given (fieldOf Frame.Masked 0 (past 1 text))
+unfolding maskedAt
+masked-there text e = rw e
+
+pub masked-absent : (text : List ℕ) → formed Frame.Masked (past 1 text) ≡ false → maskedAt text ≡ Absent
+unfolding maskedAt
+masked-absent text e = rw e
+
+-- and the board's figures have it
+pub file-masked : (text : List ℕ) → fileHeader text .masked ≡ maskedAt text
+unfolding fileHeader
+file-masked text = refl
 
 -- ---- the tasks behind them
 
 -- the lines and the bytes of n tasks, in figures
+pub lines-opened : (text : List ℕ) (n : ℕ) → openingLines text ≤ linesTo text n
+lines-opened text zero = omega arith
+lines-opened text (suc n) = omega (arith, lines-opened text n)
+
 pub lines-some : (text : List ℕ) (n : ℕ) → 1 ≤ linesTo text n
-lines-some text zero = opening-some text
-lines-some text (suc n) = omega arith
+lines-some text n = omega (arith, some-opening text, lines-opened text n)
 
 pub size-is : (text : List ℕ) (n : ℕ) → sizeOf text n ≡ openingBytes text + (lengthOf Frame.Task + 1) * n
 size-is text zero = omega arith
@@ -61,14 +86,14 @@ shaped-none text o = record { opened = o; tasks = λ j lt. absurd (omega arith) 
 
 -- past the lines of n tasks stands what follows their bytes, and the text has those bytes
 pub past-shaped : (text : List ℕ) (n : ℕ) → Shaped text n → (past (linesTo text n) text ≡ drop (sizeOf text n) text) × (sizeOf text n ≤ length text)
-past-shaped text zero s = past-opened text (s .opened)
+past-shaped text zero s = let taken = taken-opening text (s .opened) in (taken .rest, taken .within)
 past-shaped text (suc n) s =
     let ih = past-shaped text n (shaped-less text n (suc n) (omega arith) s) in
     past-formed Frame.Task text (linesTo text n) (sizeOf text n) (ih .0) (ih .1) (ap (formed Frame.Task) (sym (ih .0)) ∙ s .tasks n (omega arith))
 
 -- each of the lines behind the opening holds a task
 pub shaped-count : (text : List ℕ) (n : ℕ) → Shaped text n → length (tasksAmong text (linesTo text n)) ≡ n
-shaped-count text zero s = ap length (among-opened text (s .opened))
+shaped-count text zero s = ap length (among-opening text (s .opened))
 shaped-count text (suc n) s =
     ap length (among-task text (linesTo text n) (s .tasks n (omega arith)))
     ∙ length-append (tasksAmong text (linesTo text n)) (taskAt (past (linesTo text n) text) ∷ [])

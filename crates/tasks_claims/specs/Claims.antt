@@ -1,13 +1,13 @@
 -- What is claimed of task files: each refusal of reading exactly when its row says, what an accepted file is,
 -- what a write answers and leaves, and that reading and writing undo each other.
--- Document 01, "Refusal numbers and their order" (RULES 6) and "How tight each promise is".
+-- Document 01, "Refusal numbers and their order" (RULES 6) and "How tight each promise is"; document 02, Req 04.
 use Prim.Native.Nat.{ℕ, zero, suc, pred, _+_, _<_, _≤_}
 use mathlib.Core.List.{List, []}
 use mathlib.Core.Bool.{Bool, true, false}
 use mathlib.Core.Path.{_≡_}
 use mathlib.Core.Logic.{_↔_, _⊎_}
 use lib.ListN.{length, take, drop, getD}
-use Rattle.frameread.specs.Line.{formed}
+use Rattle.frameread.specs.Line.{formed, fieldOf}
 use Rattle.frames.specs.Table.{lengthOf}
 use Rattle.refusals.specs.Refused.{numberOf}
 use Rattle.frames.specs.declared.table.Frame.{Frame}
@@ -17,7 +17,8 @@ use Rattle.refusals.specs.declared.Outcome.the-variants.{Done, Refused}
 use Rattle.taskread.specs.declared.read.ReadAnswer.{ReadAnswer}
 use Rattle.tasks.specs.Set.{mostTasks, zeroTask, zeroSet, members, setOf}
 use Rattle.taskrows.specs.Rows.{boardRow, rangeRow}
-use Rattle.taskfile.specs.File.{past, lineRow, orderRow, countLineRow, twiceLineRow, lineOutcome, headerAt, fileTasks}
+use Rattle.tasks.specs.declared.set.Optional.the-variants.{Absent, Given}
+use Rattle.taskfile.specs.File.{past, from, isHeader, isMasked, maskedAt, lineRow, orderRow, countLineRow, twiceLineRow, lineOutcome, fileHeader, openingLines, openingBytes, fileTasks}
 use Rattle.taskread.specs.Read.{readOf, answer, furthest}
 use Rattle.refusals.specs.declared.Written.{Written}
 use Rattle.tasks.specs.declared.set.Task.{Task}
@@ -65,15 +66,15 @@ pub record FirstAt (row : LineRow) (text : List ℕ) (k : ℕ) : Type 0 where
 abbrev pub ReadExactlyLine : Type 0
 ReadExactlyLine = (row : LineRow) (text : List ℕ) (k : ℕ) → (readOf text .outcome ≡ Refused (refusalAt row k)) ↔ FirstAt row text k
 
--- row 5: every line is clear, and the header breaks it
+-- row 5: every line is clear, and the board's figures break it
 abbrev pub ReadExactlyBoard : Type 0
 ReadExactlyBoard =
-    (text : List ℕ) → (readOf text .outcome ≡ Refused Board) ↔ (AllClear text × (boardRow (headerAt text) ≡ true))
+    (text : List ℕ) → (readOf text .outcome ≡ Refused Board) ↔ (AllClear text × (boardRow (fileHeader text) ≡ true))
 
--- row 6 with place k: every line is clear, the header is right, and task k is the first out of range
+-- row 6 with place k: every line is clear, the board's figures are right, and task k is the first out of range
 pub record FirstRange (text : List ℕ) (k : ℕ) : Type 0 where
   pub clear : AllClear text
-  pub board : boardRow (headerAt text) ≡ false
+  pub board : boardRow (fileHeader text) ≡ false
   pub counted : 1 ≤ k
   pub within : k ≤ tasksIn text
   pub holds : rangeRow (taskOf text k) ≡ true
@@ -85,7 +86,7 @@ ReadExactlyRange = (text : List ℕ) (k : ℕ) → (readOf text .outcome ≡ Ref
 -- accepted: none of rows 1 to 6 holds
 pub record NoRow (text : List ℕ) : Type 0 where
   pub clear : AllClear text
-  pub board : boardRow (headerAt text) ≡ false
+  pub board : boardRow (fileHeader text) ≡ false
   pub range : (j : ℕ) → 1 ≤ j → j ≤ tasksIn text → rangeRow (taskOf text j) ≡ false
 
 abbrev pub ReadExactlyDone : Type 0
@@ -99,15 +100,9 @@ ReadRefuses = (text : List ℕ) (r : Refusal) → readOf text .outcome ≡ Refus
 abbrev pub ReadDetermined : Type 0
 ReadDetermined = (text : List ℕ) (a b : ReadAnswer) → a ≡ readOf text → b ≡ readOf text → a ≡ b
 
--- the lines before the tasks, how many they are and how many bytes they have: line 1 is an 01 line, and there is no other
+-- the lines before the tasks are there: line 1 is an 01 line, and line 2 may be a 05 line
 abbrev pub Opened : List ℕ → Type 0
 Opened text = formed Frame.Header text ≡ true
-
-abbrev pub opening : List ℕ → ℕ
-opening text = 1
-
-abbrev pub openingBytes : List ℕ → ℕ
-openingBytes text = lengthOf Frame.Header + 1
 
 -- so many lines, or bytes, and behind them n 02 lines
 abbrev pub linesWith : (lines n : ℕ) → ℕ
@@ -120,7 +115,7 @@ bytesWith bytes (suc n) = bytesWith bytes n + (lengthOf Frame.Task + 1)
 
 -- the lines of a file that has n tasks, and their bytes
 abbrev pub linesTo : List ℕ → ℕ → ℕ
-linesTo text n = linesWith (opening text) n
+linesTo text n = linesWith (openingLines text) n
 
 abbrev pub sizeOf : List ℕ → ℕ → ℕ
 sizeOf text n = bytesWith (openingBytes text) n
@@ -134,19 +129,41 @@ pub record Shaped (text : List ℕ) (n : ℕ) : Type 0 where
 abbrev pub ReadLooksAt : Type 0
 ReadLooksAt = (n : ℕ) (text : List ℕ) → furthest ≤ n → readOf (take n text) ≡ readOf text
 
--- an accepted file is a header and 1 to 64 tasks, nothing after them, and the answer holds those
+-- an accepted file is a header, a 05 line or none, and 1 to 64 tasks, nothing after them, and the answer holds those
 pub record AcceptedFile (text : List ℕ) : Type 0 where
   pub any : 1 ≤ tasksIn text
   pub most : tasksIn text ≤ mostTasks
   pub shaped : Shaped text (tasksIn text)
   pub bytes : length text ≡ sizeOf text (tasksIn text)
   pub ended : past (linesTo text (tasksIn text)) text ≡ []
-  pub header : readOf text .set .header ≡ headerAt text
+  pub header : readOf text .set .header ≡ fileHeader text
   pub count : readOf text .set .count ≡ tasksIn text
   pub tasks : members (readOf text .set) ≡ fileTasks text
 
 abbrev pub ReadAccepted : Type 0
 ReadAccepted = (text : List ℕ) → readOf text .outcome ≡ Done → AcceptedFile text
+
+-- the set of an accepted file remembers its 05 line: it gives a figure exactly where line 2 is a 05 line with that figure, and none
+-- exactly where line 2 is no 05 line
+pub record Remembered (text : List ℕ) : Type 0 where
+  pub told : readOf text .set .header .masked ≡ maskedAt text
+  pub given : (b : ℕ) → (readOf text .set .header .masked ≡ Given b) ↔ ((isMasked text 2 ≡ true) × (fieldOf Frame.Masked 0 (from text 2) ≡ b))
+  pub absent : (readOf text .set .header .masked ≡ Absent) ↔ (isMasked text 2 ≡ false)
+
+abbrev pub MaskedRemembered : Type 0
+MaskedRemembered = (text : List ℕ) → readOf text .outcome ≡ Done → Remembered text
+
+-- no line of an accepted file but line 2 is a 05 line
+abbrev pub MaskedOnlyAtTwo : Type 0
+MaskedOnlyAtTwo = (text : List ℕ) (k : ℕ) → readOf text .outcome ≡ Done → 1 ≤ k → isMasked text k ≡ true → k ≡ 2
+
+-- a file without a task is COUNT at the line after the last: line 2 behind an 01 line, line 3 behind an 01 and a 05 line
+pub record NoTask (text : List ℕ) : Type 0 where
+  pub header : isHeader text 1 ≡ true → past 1 text ≡ [] → readOf text .outcome ≡ Refused (Count 2)
+  pub masked : isHeader text 1 ≡ true → isMasked text 2 ≡ true → past 2 text ≡ [] → readOf text .outcome ≡ Refused (Count 3)
+
+abbrev pub NoTaskPlace : Type 0
+NoTaskPlace = (text : List ℕ) → NoTask text
 
 -- ASK exactly where row 11 holds of the set. ROOM exactly where it does not and the buffer is shorter than the text.
 -- A number of bytes exactly where neither holds, and it is the text's length. No other refusal is given.

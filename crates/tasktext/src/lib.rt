@@ -1,9 +1,11 @@
-// The text of a task set: one 01 line, then the 02 lines in file order.
+// The text of a task set: one 01 line, the 05 line where the set has one, then the 02 lines in file order.
 use framelines::figures::put_figures;
 use framelines::lines_length;
 use framelines::put_lines;
 use frames::table::Frame;
 use framewrite::put_line;
+use tasks::set::Header;
+use tasks::set::Optional;
 use tasks::set::TaskSet;
 use tasks::values::header_values;
 use tasks::values::task_values;
@@ -14,16 +16,28 @@ ghost use Rattle.frames.specs.Table.{lengthOf};
 ghost use Rattle.framelines.specs.Figures.{filled};
 ghost use Rattle.digits.specs.Stored.{stored};
 ghost use Rattle.tasks.specs.Set.{mostTasks};
-ghost use Rattle.tasktext.specs.Text.{mostFigures, taskFigures, textOf};
+ghost use Rattle.tasktext.specs.Text.{maskedLine, mostFigures, taskFigures, textOf};
 
-// The bytes of a file of so many tasks.
-pub fn text_length(count: usize) -> usize
+// The bytes of the 05 line, where there is one.
+fn masked_length(masked: Optional) -> usize
+    ensures { λ r. ⌜ r ≡ bytes (maskedLine masked) ⌝ }
+{
+    match masked {
+        Optional::Given(_) => lines_length(Frame::Masked, 1),
+        Optional::Absent => 0,
+    }
+}
+
+// The bytes of a set's text.
+pub fn text_length(header: Header, count: usize) -> usize
     requires { ⌜ count ≤ mostTasks ⌝ }
-    ensures { λ r. ⌜ r ≡ lengthOf Frame.Header + 1 + count * (lengthOf Frame.Task + 1) ⌝ }
+    ensures { λ r. ⌜ r ≡ lengthOf Frame.Header + 1 + bytes (maskedLine (header .masked)) + count * (lengthOf Frame.Task + 1) ⌝ }
 {
     let first = lines_length(Frame::Header, 1);
+    let line = header.masked;
+    let masked = masked_length(line);
     let tasks = lines_length(Frame::Task, count);
-    first + tasks
+    first + masked + tasks
 }
 
 // The figures of as many 02 lines as a set has room for.
@@ -46,14 +60,29 @@ fn task_figures(set: TaskSet) -> [u64; MOST_FIGURES]
     values
 }
 
+// Writes the 05 line, where there is one.
+fn put_masked(out: &mut [u8], at: usize, masked: Optional)
+    requires { ⌜ at + bytes (maskedLine masked) ≤ bytes (now out) ⌝ }
+    ensures { λ r. ⌜ now (out .exit) ≡ stored (now (out .entry)) at (maskedLine masked) ⌝ }
+{
+    if let Optional::Given(ticks) = masked {
+        let values = [ticks as u64];
+        put_line(out, at, Frame::Masked, &values);
+    }
+}
+
 // Writes the text of a set into a buffer that has the room.
 pub fn put_text(out: &mut [u8], set: TaskSet)
     requires { ⌜ (set .count ≤ mostTasks) × (bytes (textOf set) ≤ bytes (now out)) ⌝ }
     ensures { λ r. ⌜ now (out .exit) ≡ stored (now (out .entry)) 0 (textOf set) ⌝ }
 {
-    let first = header_values(set.header);
+    let header = set.header;
+    let first = header_values(header);
     put_line(out, 0, Frame::Header, &first);
-    let at = lines_length(Frame::Header, 1);
+    let second = lines_length(Frame::Header, 1);
+    let masked = header.masked;
+    put_masked(out, second, masked);
+    let at = second + masked_length(masked);
     let values = task_figures(set);
     put_lines(out, at, Frame::Task, &values, set.count);
 }

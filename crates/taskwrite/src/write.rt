@@ -34,7 +34,7 @@ pub fn write(set: TaskSet, out: &mut [u8]) -> Written
         return Written::Refused(Refusal::Ask);
     }
     let count = set.count;
-    let needed = text_length(count);
+    let needed = text_length(set.header, count);
     if out.len() < needed {
         return Written::Refused(Refusal::Room);
     }

@@ -1,4 +1,4 @@
--- `handedset::header_from` meets its contract: each figure is its number, at the field's width. Assumes nothing.
+-- `handedset::header_from` meets its contract: each figure is its number, at the field's width, and the 05 line is that of its two numbers. Assumes nothing.
 use borrow.Author.Needs.{needs}
 use Rattle.handedset.proofs.header_from.Statement.{statement}
 use Rattle.handedset.proofs.header_from.Tie as tie
@@ -6,13 +6,14 @@ use Rattle.handedset.proofs.header_from.Tie as tie
 returns : tie.Need-returns
 returns c =
     rw (
-      c .before .before .before .before .before .before .number-at .ensures,
-      c .before .before .before .before .before .number-at2 .ensures,
-      c .before .before .before .before .number-at3 .ensures,
-      c .before .before .before .number-at4 .ensures,
-      c .before .before .number-at5 .ensures,
-      c .before .number-at6 .ensures,
-      c .number-at7 .ensures,
+      c .before .before .before .before .before .before .before .number-at .ensures,
+      c .before .before .before .before .before .before .number-at2 .ensures,
+      c .before .before .before .before .before .number-at3 .ensures,
+      c .before .before .before .before .number-at4 .ensures,
+      c .before .before .before .number-at5 .ensures,
+      c .before .before .number-at6 .ensures,
+      c .before .number-at7 .ensures,
+      c .masked-from .ensures,
     )
 
 pub header-from-spec : {M : Type 1} → statement M
@@ -33,4 +34,5 @@ header-from-spec =
     (λ c. search needs)
     (λ c κs. search needs)
     (λ c. search needs)
+    (λ c κs. search needs)
     returns)
