@@ -6,13 +6,13 @@ use native.Mathlib.Nat.{le-suc-iff}
 use mathlib.Core.Path.{_≡_, refl, sym, ap, subst, _∙_}
 use mathlib.Core.Logic.{_⊎_, inl, inr, ⊎-elim}
 use mathlib.Core.Bool.{Bool, true, false, cond, _&&_}
-use lib.Dec.{ltb}
-use borrow.Author.Tests.{ltb-true, ltb-false}
-use Rattle.laws.proofs.Tests.{true-false}
+use lib.Dec.{leb, ltb}
+use borrow.Author.Tests.{le-leb, leb-true, ltb-true, ltb-false}
+use Rattle.laws.proofs.Tests.{and-parts, and-both, true-false}
 use Rattle.laws.proofs.Orders.{eq-by-cases}
 use Rattle.search.specs.Search.{NoneIn}
 use Rattle.search.proofs.Bounded.{none-more, none-has}
-use Rattle.slack.specs.Least.{lesser, leastUpTo, Least}
+use Rattle.slack.specs.Least.{lesser, leastUpTo, leastFrom, Least}
 
 module _ {p : ℕ → Bool} {v : ℕ → ℕ} {n : ℕ} where
   -- the first number that has p is the least so far
@@ -98,3 +98,45 @@ least-is p v n t l =
 pub least-within : (p : ℕ → Bool) (v : ℕ → ℕ) (n : ℕ) → leastUpTo p v n ≤ n
 least-within p v n =
     ⊎-elim (λ w. let z : leastUpTo p v n ≡ 0 = w .0 in omega arith) (λ l. l .within) (least-view p v n)
+
+-- ---- from a lower end on
+
+-- t is in from..n and has p; no number there that has p has a smaller value, and none before t has the same
+pub record LeastFrom (p : ℕ → Bool) (v : ℕ → ℕ) (from n t : ℕ) : Type 0 where
+  pub begins : from ≤ t
+  pub within : t ≤ n
+  pub has : p t ≡ true
+  pub least : (x : ℕ) → from ≤ x → x ≤ n → p x ≡ true → v t ≤ v x
+  pub first : (x : ℕ) → from ≤ x → x < t → p x ≡ true → v t < v x
+
+module _ (p : ℕ → Bool) (v : ℕ → ℕ) (from n : ℕ) (some : 1 ≤ from) where
+  parts : (x : ℕ) → (leb from x && p x) ≡ true → (from ≤ x) × (p x ≡ true)
+  parts x e = let both = and-parts (leb from x) (p x) e in (leb-true from x (both .0), both .1)
+
+  pub from-is : (t : ℕ) → LeastFrom p v from n t → leastFrom p v from n ≡ t
+  unfolding leastFrom
+  from-is t l =
+      least-is (λ (t : ℕ). leb from t && p t) v n t
+      (record {
+        there = omega (arith, l .begins);
+        within = l .within;
+        has = and-both (le-leb from t (l .begins)) (l .has);
+        least = λ x a b e. l .least x (parts x e .0) b (parts x e .1);
+        first = λ x a b e. l .first x (parts x e .0) b (parts x e .1);
+      })
+
+  -- where some number there has p, it is found
+  pub from-found : (u : ℕ) → from ≤ u → u ≤ n → p u ≡ true → LeastFrom p v from n (leastFrom p v from n)
+  unfolding leastFrom
+  from-found u begins within has =
+      ⊎-elim
+      (λ w. none-has (w .1) (omega arith) within (and-both (le-leb from u begins) has))
+      (λ l.
+      record {
+        begins = parts _ (l .has) .0;
+        within = l .within;
+        has = parts _ (l .has) .1;
+        least = λ x a b e. l .least x (omega arith) b (and-both (le-leb from x a) e);
+        first = λ x a b e. l .first x (omega arith) b (and-both (le-leb from x a) e);
+      })
+      (least-view (λ (t : ℕ). leb from t && p t) v n)

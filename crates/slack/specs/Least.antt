@@ -2,7 +2,7 @@
 use Prim.Native.Nat.{ℕ, zero, suc, _≤_, _<_}
 use mathlib.Core.Bool.{Bool, true, cond, _&&_}
 use mathlib.Core.Path.{_≡_}
-use lib.Dec.{ltb}
+use lib.Dec.{leb, ltb}
 
 -- t, where it has p and nothing was found before or what was found has a larger value; else what was found
 unfoldable pub lesser : (p : ℕ → Bool) → (v : ℕ → ℕ) → (found t : ℕ) → ℕ
@@ -13,6 +13,10 @@ lesser p v (suc found) t = cond (p t && ltb (v t) (v (suc found))) t (suc found)
 unfoldable pub leastUpTo : (p : ℕ → Bool) → (v : ℕ → ℕ) → ℕ → ℕ
 leastUpTo p v zero = 0
 leastUpTo p v (suc n) = lesser p v (leastUpTo p v n) (suc n)
+
+-- the smallest t from `from` on, up to n, with p t and the smallest v t, or 0
+unfoldable pub leastFrom : (p : ℕ → Bool) → (v : ℕ → ℕ) → (from n : ℕ) → ℕ
+leastFrom p v from n = leastUpTo (λ (t : ℕ). leb from t && p t) v n
 
 -- t is in 1..n and has p; no number in 1..n that has p has a smaller value, and none before t has the same
 pub record Least (p : ℕ → Bool) (v : ℕ → ℕ) (n t : ℕ) : Type 0 where

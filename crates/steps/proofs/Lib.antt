@@ -1,4 +1,3 @@
 pub mod StepLaws
 pub mod Claims
-pub mod FirstFound
 pub mod LastFound

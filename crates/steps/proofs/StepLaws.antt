@@ -1,7 +1,7 @@
 -- Laws of the lengths where a demand steps: what the test says, and that the demand of sound loads steps exactly where a deadline falls.
 -- Assumes nothing.
 use Prim.Native.Nat.{ℕ, zero, suc, _+_, _*_, _-_, _/_, _≤_, _<_}
-use mathlib.Core.Path.{_≡_, ap, sym, _∙_}
+use mathlib.Core.Path.{_≡_, ap, sym, subst, _∙_}
 use mathlib.Core.Bool.{true, false}
 use mathlib.Core.Logic.{_⊎_, inl, inr, ⊎-elim}
 use mathlib.Core.List.{List, [], _∷_, _++_}
@@ -11,9 +11,11 @@ use native.Mathlib.Omega.{arith}
 use lib.Arith.{digits-div}
 use borrow.Author.Tests.{lt-ltb, ltb-true, ltb-false}
 use Rattle.laws.proofs.Tests.{never-true}
+use Rattle.laws.proofs.Orders.{le-or-lt}
 use Rattle.demand.specs.Load.{Load, Sound, Every}
 use Rattle.demand.specs.Demand.{jobs, demand}
 use Rattle.demand.specs.Steps.{StepOf, Some, Step}
+use Rattle.demand.specs.Lawful.{RisesAt}
 use Rattle.demand.proofs.Demand.{jobs-code, jobs-mono, demand-cons, demand-mono}
 use Rattle.demand.proofs.Steps.{rises-at}
 use Rattle.search.specs.Search.{NoneIn}
@@ -50,6 +52,26 @@ pub steps-from : (g : ℕ → ℕ) (x : ℕ) → StepsAt g x → 1 ≤ x
 steps-from g zero h = absurd (omega arith)
 steps-from g (suc x) h = omega arith
 
+-- a demand that rises at some lengths only steps at these only
+pub steps-rise : (At : ℕ → Type 0) (g : ℕ → ℕ) (x : ℕ) → RisesAt At g → StepsAt g x → At x
+steps-rise At g x rises h =
+    let e : suc (x - 1) ≡ x = omega (arith, steps-from g x h) in
+    ⊎-elim
+    (λ (at : At (suc (x - 1))). subst At e at)
+    (λ (n : g (suc (x - 1)) ≤ g (x - 1)). absurd (omega (arith, ap g e)))
+    (rises (x - 1))
+
+-- one that asks for something at a length steps there or before
+pub some-step : (g : ℕ → ℕ) (x : ℕ) → g 0 ≡ 0 → 1 ≤ g x → (m : ℕ) × (m ≤ x) × StepsAt g m
+some-step g zero none some = absurd (omega (arith, none))
+some-step g (suc x) none some =
+    ⊎-elim
+    (λ (stays : g (suc x) ≤ g x).
+    let before = some-step g x none (omega arith) in
+    (before .0, omega (arith, before .1), before .2))
+    (λ (rises : g x < g (suc x)). (suc x, omega arith, simp unary-clauses rises))
+    (le-or-lt (g (suc x)) (g x))
+
 -- ---- one load
 
 -- at a deadline there is one job more than before
@@ -85,12 +107,7 @@ some-steps (l ∷ ls) x sound st =
 
 -- and it steps there only
 pub steps-some : (ls : List Load) (x : ℕ) → Every Sound ls → StepsAt (demand ls) x → Step ls x
-steps-some ls x sound h =
-    let e : suc (x - 1) ≡ x = omega (arith, steps-from (demand ls) x h) in
-    ⊎-elim
-    (λ (st : Step ls (suc (x - 1))). rw e at st)
-    (λ (n : demand ls (suc (x - 1)) ≤ demand ls (x - 1)). absurd (omega (arith, ap (demand ls) e)))
-    (rises-at ls sound (x - 1))
+steps-some ls x sound h = steps-rise (Step ls) (demand ls) x (rises-at ls sound) h
 
 -- the test of sound loads, by their deadlines
 module _ (ls : List Load) (x : ℕ) (sound : Every Sound ls) where

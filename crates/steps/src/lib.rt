@@ -1,30 +1,10 @@
-// The first and the last length up to a bound where the demand of loads steps. What a step is stands in specs/Stepping.antt.
+// The last length up to a bound where the demand of loads steps. What a step is stands in specs/Stepping.antt.
 ghost use mathlib.Core.Path.{_≡_};
 ghost use Prim.Native.Nat.{_<_, _^_};
 ghost use Rattle.demand.specs.Load.{Loaded, loadsOf};
 ghost use Rattle.demand.specs.Demand.{demand};
-ghost use Rattle.search.specs.Search.{firstUpTo, lastUpTo};
+ghost use Rattle.search.specs.Search.{lastUpTo};
 ghost use Rattle.steps.specs.Stepping.{steps};
-
-// The smallest deadline, if it is within hi.
-pub fn first_step(loads: &[u64], n: usize, hi: u64) -> u64
-    requires { ⌜ Loaded (now loads) n × (hi < 2 ^ 36) ⌝ }
-    ensures { λ r. ⌜ r ≡ firstUpTo (steps (demand (loadsOf (now (loads .entry)) n))) hi ⌝ }
-{
-    let mut first = hi + 1;
-    let mut i: usize = 0;
-    while i < n {
-        let d = loads[3 * i + 1];
-        if d < first {
-            first = d;
-        }
-        i += 1;
-    }
-    if hi < first {
-        return 0;
-    }
-    first
-}
 
 // The last of the loads' own last steps.
 pub fn last_step(loads: &[u64], n: usize, hi: u64) -> u64

@@ -2,59 +2,60 @@
 -- `best`, and no step above t is closer. The measure is t. Assumes nothing.
 use Prim.Native.Nat.{ℕ, _+_, _-_, _^_, _≤_, _<_}
 use mathlib.Core.Path.{_≡_, ap₂}
+use mathlib.Core.Bool.{true}
 use mathlib.Core.Logic.{⊎-elim}
 use native.Mathlib.Omega.{arith}
 use Rattle.demand.specs.Load.{loadsOf}
 use Rattle.demand.specs.Demand.{demand}
 use Rattle.demand.specs.Supply.{supplyPast, lastWith}
 use Rattle.demand.specs.Lawful.{Rising}
-use Rattle.demand.proofs.Demand.{demand-zero}
 use Rattle.demand.proofs.Supply.{supply-within}
 use Rattle.demand.proofs.Claims.{loads-lawful}
-use Rattle.search.proofs.Bounded.{first-within}
 use Rattle.steps.specs.Stepping.{steps}
-use Rattle.slack.proofs.Closing.{Covered, covered, Closing, Closer, closing-none, closing-starts, closing-ends, closing-passes, last-covers, closing-moves}
+use Rattle.steps.proofs.StepLaws.{has-stepped, steps-from}
+use Rattle.slack.proofs.Closing.{Covered, covered, asks-some, Closing, Closer, closing-starts, closing-ends, closing-passes, last-covers, closing-moves}
 use Rattle.slack.proofs.closest.Statement.{statement}
 use Rattle.slack.proofs.closest.Tie as tie
 
 abbrev Inv-loop : tie.InvT-loop
-Inv-loop loads n slot gap hi best₀ spare least₀ t₀ supply₀ w₀ best least t supply w =
-    Closing (demand (loadsOf loads n)) slot gap hi t supply best least × (w ≡ demand (loadsOf loads n) t)
+Inv-loop loads n slot gap from hi best₀ spare least₀ t₀ supply₀ w₀ best least t supply w =
+    Closing (demand (loadsOf loads n)) slot gap from hi t supply best least × (w ≡ demand (loadsOf loads n) t)
 
 abbrev μ-loop : tie.MeasureT-loop
-μ-loop loads n slot gap hi best₀ spare least₀ t₀ supply₀ w₀ best least t supply w = t
+μ-loop loads n slot gap from hi best₀ spare least₀ t₀ supply₀ w₀ best least t supply w = t
 
--- the demand of the loads: nothing at 0, it never falls, and up to hi it is covered
+-- the demand of the loads: it steps at `from`, it never falls, and from there to hi it is covered
 abbrev asked : tie.Start Inv-loop μ-loop → ℕ → ℕ
 asked s = demand (loadsOf (s .args .loads .now) (s .args .n))
 
-nothing : (s : tie.Start Inv-loop μ-loop) → asked s 0 ≡ 0
-nothing s = demand-zero (loadsOf (s .args .loads .now) (s .args .n)) (s .pre .0 .sound)
+begins : (s : tie.Start Inv-loop μ-loop) → steps (asked s) (s .args .from) ≡ true
+begins s = s .pre .1 .1 .0 .0
+
+some : (s : tie.Start Inv-loop μ-loop) → 1 ≤ s .args .from
+some s = steps-from (asked s) (s .args .from) (has-stepped (asked s) (s .args .from) (begins s))
 
 rising : (s : tie.Start Inv-loop μ-loop) → Rising (asked s)
 rising s = loads-lawful .rising (loadsOf (s .args .loads .now) (s .args .n)) (s .pre .0 .sound)
 
-all : (s : tie.Start Inv-loop μ-loop) → Covered (asked s) (s .args .slot) (s .args .gap) (s .args .hi)
-all s = covered (asked s) (s .args .slot) (s .args .gap) (nothing s) (s .pre .1 .1)
+all : (s : tie.Start Inv-loop μ-loop) → Covered (asked s) (s .args .slot) (s .args .gap) (s .args .from) (s .args .hi)
+all s = covered (asked s) (s .args .slot) (s .args .gap) (s .args .from) (some s) (s .pre .1 .1 .1)
 
 abbrev start : tie.At-loop Inv-loop μ-loop → tie.Start Inv-loop μ-loop
-start c = c .before .before .before .before .before .before .before .before
+start c = c .before .before .before .before .before .before
 
 -- supply's own terms: some of each slot is usable
 enough : (s : tie.Start Inv-loop μ-loop) → (1 ≤ s .args .slot) × (s .args .gap ≤ s .args .slot)
 enough s = (omega (arith, s .pre .1 .0 .usable), omega (arith, s .pre .1 .0 .usable))
 
--- the first step lies within hi
-first-inside : (c : tie.After-first-step Inv-loop μ-loop) → c .first-step .result ≤ c .before .before .args .hi
-first-inside c =
-    let s = c .before .before in
-    omega (arith, c .first-step .ensures, first-within (steps (asked s)) (s .args .hi))
+-- a turn stands at `from` or past it
+past : (c : tie.In-loop Inv-loop μ-loop) → start (c .before) .args .from ≤ c .before .loop .t
+past c = omega (arith, c .loop-test .taken)
 
--- at t the supply meets the demand
-met : (c : tie.At-loop Inv-loop μ-loop) → c .loop .w ≤ c .loop .supply
+-- there the supply meets the demand
+met : (c : tie.In-loop Inv-loop μ-loop) → c .before .loop .w ≤ c .before .loop .supply
 met c =
-    let i = c .loop .inv in
-    omega (arith, i .1, i .0 .supplied, all (start c) (c .loop .t) (i .0 .within))
+    let i = c .before .loop .inv in
+    omega (arith, i .1, i .0 .supplied, all (start (c .before)) (c .before .loop .t) (past c) (i .0 .within))
 
 -- demand and least slack are at most the lengths that they belong to
 room : (c : tie.In-loop Inv-loop μ-loop) → c .before .loop .w + c .before .loop .least < 2 ^ 37
@@ -63,7 +64,7 @@ room c =
     let s = start (c .before) in
     omega (
       arith,
-      met (c .before),
+      met c,
       l .inv .0 .supplied,
       l .inv .0 .within,
       l .inv .0 .best-within,
@@ -73,50 +74,37 @@ room c =
       supply-within (s .args .slot) (s .args .gap) (l .best),
     )
 
--- in a turn something is asked
-some : (c : tie.In-loop Inv-loop μ-loop) → 0 < c .before .loop .w
-some c = omega (arith, c .loop-test .taken)
-
-first-step-requires : tie.Need-first-step-requires Inv-loop μ-loop
-first-step-requires c κs = (c .before .pre .0, omega (arith, c .before .pre .1 .0 .small))
-
-returns : tie.Need-returns Inv-loop μ-loop
-returns c =
-    let s = c .before .before .before in
-    closing-none (asked s) (s .args .slot) (s .args .gap) (s .args .hi) (c .before .first-step .ensures) (c .if1 .taken)
-
 supply-at-requires : tie.Need-supply-at-requires Inv-loop μ-loop
-supply-at-requires c κs = enough (c .before .before .before)
+supply-at-requires c κs = enough (c .before)
 
 demand-at-requires : tie.Need-demand-at-requires Inv-loop μ-loop
 demand-at-requires c κs =
-    let s = c .before .before .before .before in
-    (s .pre .0, omega (arith, first-inside (c .before .before), s .pre .1 .0 .small))
+    let s = c .before .before in
+    (s .pre .0, omega (arith, s .pre .1 .1 .0 .1, s .pre .1 .0 .small))
 
 sub-least : tie.Need-sub-least Inv-loop μ-loop
 sub-least c =
-    let f = c .before .before .before in
-    omega (arith, c .demand-at .ensures, c .before .supply-at .ensures, all (f .before .before) (f .first-step .result) (first-inside f))
+    let s = c .before .before .before in
+    omega (arith, c .demand-at .ensures, c .before .supply-at .ensures, all s (s .args .from) (omega arith) (s .pre .1 .1 .0 .1))
 
 supply-at-requires-2 : tie.Need-supply-at-requires-2 Inv-loop μ-loop
-supply-at-requires-2 c κs = enough (c .before .before .before .before .before)
+supply-at-requires-2 c κs = enough (c .before .before .before)
 
 demand-at-requires-2 : tie.Need-demand-at-requires-2 Inv-loop μ-loop
 demand-at-requires-2 c κs =
-    let s = c .before .before .before .before .before .before in
+    let s = c .before .before .before .before in
     (s .pre .0, s .pre .1 .0 .small)
 
 loop-holds : tie.Need-loop-holds Inv-loop μ-loop
 loop-holds c =
-    let f = c .before .before .before .before .before in
-    let s = f .before .before in
     let d = c .before .before in
-    let least : d .before .supply-at .result - d .demand-at .result ≡ supplyPast (s .args .slot) (s .args .gap) (f .first-step .result) - asked s (f .first-step .result) =
+    let s = d .before .before .before in
+    let least : d .before .supply-at .result - d .demand-at .result ≡ supplyPast (s .args .slot) (s .args .gap) (s .args .from) - asked s (s .args .from) =
     ap₂ _-_ (d .before .supply-at .ensures) (d .demand-at .ensures) in
-    (closing-starts (asked s) (s .args .slot) (s .args .gap) (s .args .hi) (all s) (f .first-step .ensures) (c .before .before .before .before .if1 .left) least (c .before .supply-at2 .ensures), c .demand-at2 .ensures)
+    (closing-starts (asked s) (s .args .slot) (s .args .gap) (s .args .from) (s .args .hi) (all s) (begins s) (s .pre .1 .1 .0 .1) least (c .before .supply-at2 .ensures), c .demand-at2 .ensures)
 
-add-if2 : tie.Need-add-if2 Inv-loop μ-loop
-add-if2 c = omega (arith, room c)
+add-if1 : tie.Need-add-if1 Inv-loop μ-loop
+add-if1 c = omega (arith, room c)
 
 add-supply : tie.Need-add-supply Inv-loop μ-loop
 add-supply c = omega (arith, room (c .before))
@@ -134,19 +122,22 @@ met-last : (c : tie.After-supply-at3 Inv-loop μ-loop) → c .before .before .be
 met-last c =
     let l = c .before .before .before .before in
     let s = start l in
-    last-covers (rising s) (nothing s) (all s) (l .loop .inv .0) (l .loop .inv .1) (some (c .before .before .before)) (c .before .last-step .ensures) (c .supply-at3 .ensures)
+    last-covers (rising s) (begins s) (all s) (l .loop .inv .0) (l .loop .inv .1) (past (c .before .before .before)) (c .before .last-step .ensures) (c .supply-at3 .ensures)
 
 sub-least-2 : tie.Need-sub-least-2 Inv-loop μ-loop
-sub-least-2 c = omega (arith, met-last c, met (c .before .before .before .before))
+sub-least-2 c = omega (arith, met-last c, met (c .before .before .before))
 
 sub-supply : tie.Need-sub-supply Inv-loop μ-loop
-sub-supply c = omega (arith, met-last c, some (c .before .before .before))
+sub-supply c =
+    let l = c .before .before .before .before in
+    let s = start l in
+    omega (arith, met-last c, l .loop .inv .1, asks-some (asked s) {t = l .loop .t} (rising s) (begins s) (past (c .before .before .before)))
 
 -- the turn's jump, by either way
-turned : (c : tie.Joined2 Inv-loop μ-loop) →
+turned : (c : tie.Joined1 Inv-loop μ-loop) →
     let l = c .before .before in
     let a = start l .args in
-    Closer (asked (start l)) (a .slot) (a .gap) (a .hi) (l .loop .t) (c .if2 .supply) (c .if2 .best) (c .if2 .least)
+    Closer (asked (start l)) (a .slot) (a .gap) (a .from) (a .hi) (l .loop .t) (c .if1 .supply) (c .if1 .best) (c .if1 .least)
 turned c =
     let l = c .before .before in
     let s = start l in
@@ -154,15 +145,15 @@ turned c =
     ⊎-elim
     (λ w.
     let more : l .loop .w + l .loop .least < l .loop .supply = omega (arith, w .0 .taken) in
-    rw (w .1, w .2, w .3) (closing-passes (rising s) (i .0) (l .loop .w) (s .pre .1 .0 .usable) (i .1) more))
+    rw (w .1, w .2, w .3) (closing-passes (i .0) (l .loop .w) (rising s) (s .pre .1 .0 .usable) (i .1) more))
     (λ w.
     let no-more : l .loop .supply ≤ l .loop .w + l .loop .least = omega (arith, w .0 .left) in
     rw (w .3, w .4, w .5)
-    (closing-moves (rising s) (nothing s) (all s) (i .0) (i .1) (some (c .before)) (w .1 .ensures) (w .2 .ensures) (s .pre .1 .0 .usable) no-more))
-    (c .if2 .came)
+    (closing-moves (rising s) (begins s) (all s) (i .0) (i .1) (past (c .before)) (w .1 .ensures) (w .2 .ensures) (s .pre .1 .0 .usable) no-more))
+    (c .if1 .came)
 
 -- so the length that the search goes on at is small
-small : (c : tie.Joined2 Inv-loop μ-loop) → lastWith (start (c .before .before) .args .slot) (start (c .before .before) .args .gap) (c .if2 .supply) < 2 ^ 36
+small : (c : tie.Joined1 Inv-loop μ-loop) → lastWith (start (c .before .before) .args .slot) (start (c .before .before) .args .gap) (c .if1 .supply) < 2 ^ 36
 small c =
     omega (arith, turned c .1, c .before .before .loop .inv .0 .within, start (c .before .before) .pre .1 .0 .small)
 
@@ -178,10 +169,8 @@ loop-less c = rw (c .before .last-with .ensures) (turned (c .before .before) .1)
 loop-again : tie.Need-loop-again Inv-loop μ-loop
 loop-again c = (rw (c .before .last-with .ensures) (turned (c .before .before) .0), c .demand-at3 .ensures)
 
-returns-2 : tie.Need-returns-2 Inv-loop μ-loop
-returns-2 c =
-    let l = c .before .loop in
-    closing-ends (rising (start (c .before))) (l .inv .0) (omega (arith, l .inv .1, c .loop-test .left))
+returns : tie.Need-returns Inv-loop μ-loop
+returns c = closing-ends (c .before .loop .inv .0) (some (start (c .before))) (omega (arith, c .loop-test .left))
 
 pub closest-spec : {M : Type 1} → statement M
 closest-spec =
@@ -189,15 +178,13 @@ closest-spec =
     (tie.spec
     Inv-loop
     μ-loop
-    first-step-requires
-    returns
     supply-at-requires
     demand-at-requires
     sub-least
     supply-at-requires-2
     demand-at-requires-2
     loop-holds
-    add-if2
+    add-if1
     add-supply
     last-step-requires
     supply-at-requires-3
@@ -207,4 +194,4 @@ closest-spec =
     demand-at-requires-3
     loop-less
     loop-again
-    returns-2)
+    returns)

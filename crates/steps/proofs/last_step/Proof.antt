@@ -1,6 +1,6 @@
 -- `last_step` meets its contract. The loop's invariant: `last` is the last step up to hi of the first i loads, or 0 where there is none.
 -- The measure is what is left of n. Assumes nothing.
-use Prim.Native.Nat.{ℕ, _+_, _-_, _%_, _≤_, _<_}
+use Prim.Native.Nat.{_-_, _≤_, _<_}
 use mathlib.Core.Path.{_≡_}
 use mathlib.Core.Logic.{⊎-elim}
 use borrow.Author.Needs.{needs}

@@ -1,0 +1,65 @@
+// Masked interrupts: where a server's demand gains, and by how much. What it means stands in specs/Masking.antt.
+// The loads stand in one slice of numbers, three for each: cost, deadline, period.
+ghost use mathlib.Core.Path.{_≡_};
+ghost use Rattle.demand.specs.Load.{Loaded, loadsOf};
+ghost use Rattle.masking.specs.Masking.{gainOf, gainsSome, gainAt};
+
+// So many ticks more at each length from `from` up to, not including, `until`.
+pub struct Gain {
+    pub extra: u64,
+    pub from: u64,
+    pub until: u64,
+}
+
+impl Gain {
+    // Whether there is a length that gains.
+    pub fn gains(self) -> bool
+        ensures { λ r. ⌜ r ≡ gainsSome self ⌝ }
+    {
+        if self.extra == 0 {
+            return false;
+        }
+        self.from < self.until
+    }
+
+    // The gain at length t.
+    pub fn at(self, t: u64) -> u64
+        ensures { λ r. ⌜ r ≡ gainAt self t ⌝ }
+    {
+        if t < self.from {
+            return 0;
+        }
+        if t < self.until {
+            return self.extra;
+        }
+        0
+    }
+}
+
+// Where the first n loads gain: from their smallest deadline up to, not including, their largest.
+pub fn gain_of(loads: &[u64], n: usize, masked: u64) -> Gain
+    requires { ⌜ Loaded (now loads) n ⌝ }
+    ensures { λ r. ⌜ r ≡ gainOf masked (loadsOf (now (loads .entry)) n) ⌝ }
+{
+    let mut from: u64 = 0;
+    let mut until: u64 = 0;
+    let mut i: usize = 0;
+    while i < n {
+        let d = loads[3 * i + 1];
+        if i == 0 {
+            from = d;
+        }
+        if d < from {
+            from = d;
+        }
+        if until < d {
+            until = d;
+        }
+        i += 1;
+    }
+    Gain {
+        extra: masked,
+        from,
+        until,
+    }
+}
