@@ -1,11 +1,13 @@
 // What the benchmark calls from Rust: the searches for a short length and for the closest alone, with no file and no plan around them.
 ghost use mathlib.Core.Path.{_≡_};
+ghost use lib.Dec.{eqb};
 ghost use Rattle.demand.specs.Load.{Loaded, loadsOf};
 ghost use Rattle.demand.specs.Demand.{demand};
-ghost use Rattle.search.specs.Search.{Searched, NoneIn, lastUpTo, short};
+ghost use Rattle.search.specs.Search.{Searched, NoneIn, firstUpTo, lastUpTo, short};
 ghost use Rattle.steps.specs.Stepping.{steps};
 ghost use Rattle.slack.specs.Least.{leastUpTo};
 ghost use Rattle.slack.specs.Slack.{slackPast};
+ghost use Rattle.masking.specs.Masking.{Maskable, maskedDemand};
 
 #[no_mangle]
 pub extern "C" fn probe_last_short(loads: &[u64], n: usize, slot: u64, gap: u64, hi: u64) -> u64
@@ -17,11 +19,38 @@ pub extern "C" fn probe_last_short(loads: &[u64], n: usize, slot: u64, gap: u64,
 }
 
 #[no_mangle]
-pub extern "C" fn probe_closest(loads: &[u64], n: usize, slot: u64, gap: u64, hi: u64) -> u64
+pub extern "C" fn probe_none_fails(
+    loads: &[u64],
+    n: usize,
+    masked: u64,
+    slot: u64,
+    gap: u64,
+    hi: u64,
+) -> bool
     requires { ⌜ Loaded (now loads) n ⌝ }
     requires { ⌜ Searched slot gap 0 hi ⌝ }
-    requires { ⌜ NoneIn (short (demand (loadsOf (now loads) n)) slot gap 0) 0 hi ⌝ }
-    ensures { λ r. ⌜ r ≡ leastUpTo (steps (demand (loadsOf (now (loads .entry)) n))) (slackPast (demand (loadsOf (now (loads .entry)) n)) slot gap) hi ⌝ }
+    requires { ⌜ Maskable masked (loadsOf (now loads) n) hi ⌝ }
+    ensures { λ r. ⌜ r ≡ eqb (firstUpTo (short (maskedDemand masked (loadsOf (now (loads .entry)) n)) slot gap 0) hi) 0 ⌝ }
 {
-    slack::closest(loads, n, slot, gap, hi)
+    let gain = masking::gain_of(loads, n, masked);
+    fails::none_fails(loads, n, gain, slot, gap, hi)
+}
+
+#[no_mangle]
+pub extern "C" fn probe_closest(
+    loads: &[u64],
+    n: usize,
+    masked: u64,
+    slot: u64,
+    gap: u64,
+    hi: u64,
+) -> u64
+    requires { ⌜ Loaded (now loads) n ⌝ }
+    requires { ⌜ Searched slot gap 0 hi ⌝ }
+    requires { ⌜ Maskable masked (loadsOf (now loads) n) hi ⌝ }
+    requires { ⌜ NoneIn (short (maskedDemand masked (loadsOf (now loads) n)) slot gap 0) 0 hi ⌝ }
+    ensures { λ r. ⌜ r ≡ leastUpTo (steps (maskedDemand masked (loadsOf (now (loads .entry)) n))) (slackPast (maskedDemand masked (loadsOf (now (loads .entry)) n)) slot gap) hi ⌝ }
+{
+    let own = masking::gain_of(loads, n, masked);
+    closeness::closest_of(loads, n, own, slot, gap, hi)
 }

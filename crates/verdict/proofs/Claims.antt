@@ -11,10 +11,10 @@ use Rattle.demand.specs.Supply.{Ring}
 use Rattle.search.specs.Search.{firstUpTo}
 use Rattle.verdict.specs.Verdict.{firstFailing}
 use Rattle.verdict.specs.Reserve.{enough}
-use Rattle.verdict.specs.Claims.{PassingMeans, PassingByFailing, VerdictMeans, ReadWithin, NothingAsked, ClosestOfAll, AnyHorizon, OwnHorizon, PassingStays, ReserveMeans, ReserveOne, OneLess}
+use Rattle.verdict.specs.Claims.{PassingMeans, PassingByFailing, VerdictMeans, ReadWithin, NothingAsked, ClosestOfAll, ClosestFirst, AnyHorizon, OwnHorizon, PassingStays, ReserveMeans, ReserveOne, OneLess}
 use Rattle.search.proofs.Bounded.{first-view}
 use Rattle.verdict.proofs.Verdict.{passing-yes, passing-no, passing-passes, passes-passing, passing-rises}
-use Rattle.verdict.proofs.ClosestLaws.{none-closer}
+use Rattle.verdict.proofs.ClosestLaws.{none-closer, all-further}
 use Rattle.verdict.proofs.Tells.{yes-closest, closest-yes, no-fails, fails-no, same-verdict, verdict-within, never-yes}
 use Rattle.verdict.proofs.Horizons.{own-lawful}
 use Rattle.verdict.proofs.ReserveLaws.{reserve-whole, reserve-part, whole-smallest, part-smallest}
@@ -47,6 +47,9 @@ nothing-asked = never-yes
 
 pub closest-of-all : ClosestOfAll
 closest-of-all = none-closer
+
+pub closest-first : ClosestFirst
+closest-first = all-further
 
 pub any-horizon : AnyHorizon
 any-horizon = same-verdict

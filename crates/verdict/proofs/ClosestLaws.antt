@@ -81,6 +81,20 @@ none-closer g S L R t w s m (suc x) slot c st h =
     (le-or-lt m x))
     (step-view g (suc x))
 
+-- and each before it, from there on, has more to spare
+pub all-further : (g : ℕ → ℕ) (S L R t w s m x : ℕ) → 1 ≤ S → Closest g S L R t w s → StepsAt g m → m ≤ x → x < t → s - w < supply S L R x - g x
+unfolding slack
+all-further g S L R t w s m zero slot c st h b = absurd (omega (arith, steps-from g m st))
+all-further g S L R t w s m (suc x) slot c st h b =
+    ⊎-elim
+    (λ (e : steps g (suc x) ≡ true). c .first (suc x) (has-stepped g (suc x) e) b)
+    (λ (e : steps g (suc x) ≡ false).
+    ⊎-elim
+    (λ (k : m ≤ x). omega (arith, all-further g S L R t w s m x slot c st k (omega arith), slack-stays g S L R x slot e))
+    (λ (k : x < m). c .first (suc x) (subst (λ (y : ℕ). StepsAt g y) (omega arith) st) b)
+    (le-or-lt m x))
+    (step-view g (suc x))
+
 -- ---- the least up to the horizon is the least of all
 
 module _ (g : ℕ → ℕ) (H S L R : ℕ) (lawful : Lawful g H) (slot : 1 ≤ S) (passes : Passes g S L R)

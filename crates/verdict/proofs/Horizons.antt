@@ -7,9 +7,9 @@ use mathlib.Core.List.{List, [], _∷_, _++_, map, map-append}
 use Rattle.wholes.specs.Multiple.{leastMultiple, leastMultipleOf, Divide, AllPositive}
 use Rattle.wholes.proofs.MultipleLaws.{multiple-of-pos, others-divide-of, multiple-of-append}
 use Rattle.demand.specs.Load.{Load, Sound, Every}
-use Rattle.demand.specs.Demand.{demand}
 use Rattle.demand.specs.Lawful.{Lawful}
-use Rattle.demand.proofs.Claims.{loads-lawful}
+use Rattle.masking.specs.Masking.{latest, maskedDemand}
+use Rattle.masking.proofs.MaskedLaws.{masked-within, masked-lawful}
 use Rattle.verdict.specs.Verdict.{ownHorizon}
 
 -- what divides as a list divides load by load
@@ -33,9 +33,12 @@ pub own-some : (ls : List Load) (S : ℕ) → Every Sound ls → 1 ≤ S → 1 �
 unfolding ownHorizon
 own-some ls S sound slot = multiple-of-pos S (map (λ (l : Load). l .period) ls) slot (periods-some ls sound)
 
--- so the loads' demand is lawful under it
-pub own-lawful : (ls : List Load) (S : ℕ) → Every Sound ls → 1 ≤ S → Lawful (demand ls) (ownHorizon S ls)
-own-lawful ls S sound slot = loads-lawful .lawful ls (ownHorizon S ls) sound (own-some ls S sound slot) (own-periods ls S)
+-- so the loads' demand is lawful under it, whatever it gains, and their deadlines are within it
+pub own-lawful : (B : ℕ) (ls : List Load) (S : ℕ) → Every Sound ls → 1 ≤ S → Lawful (maskedDemand B ls) (ownHorizon S ls)
+own-lawful B ls S sound slot = masked-lawful B ls (ownHorizon S ls) sound (own-some ls S sound slot) (own-periods ls S)
+
+pub own-due : (ls : List Load) (S : ℕ) → Every Sound ls → 1 ≤ S → latest ls ≤ ownHorizon S ls
+own-due ls S sound slot = masked-within ls (ownHorizon S ls) sound (own-some ls S sound slot) (own-periods ls S)
 
 -- one load more: the least common multiple with its period, as `wholes::least_multiple` computes it
 pub own-more : (ls : List Load) (S : ℕ) (l : Load) → ownHorizon S (ls ++ (l ∷ [])) ≡ leastMultiple (ownHorizon S ls) (l .period)

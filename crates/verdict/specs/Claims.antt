@@ -7,9 +7,9 @@ use mathlib.Core.List.{List}
 use lib.Dec.{eqb}
 use Rattle.demand.specs.Load.{Load, Sound, Every}
 use Rattle.demand.specs.Lawful.{Lawful}
-use Rattle.demand.specs.Demand.{demand}
 use Rattle.demand.specs.Supply.{Allowed, supply}
 use Rattle.demand.specs.Passes.{Passes}
+use Rattle.masking.specs.Masking.{maskedDemand}
 use Rattle.steps.specs.Stepping.{StepsAt}
 use Rattle.verdict.specs.Verdict.{firstFailing, verdictOf, readingOf, passing, ownHorizon}
 use Rattle.verdict.specs.Reserve.{smallestReserve, Smallest}
@@ -68,15 +68,20 @@ abbrev pub ClosestOfAll : Type 0
 ClosestOfAll =
     (g : ℕ → ℕ) (S L R t w s m x : ℕ) → 1 ≤ S → Closest g S L R t w s → StepsAt g m → m ≤ x → s - w ≤ supply S L R x - g x
 
+-- and each length before it, from the first step on, has more to spare, whether the demand steps there or not
+abbrev pub ClosestFirst : Type 0
+ClosestFirst =
+    (g : ℕ → ℕ) (S L R t w s m x : ℕ) → 1 ≤ S → Closest g S L R t w s → StepsAt g m → m ≤ x → x < t → s - w < supply S L R x - g x
+
 -- any two horizons under which the demand is lawful give the same verdict: the file's and a server's own
 abbrev pub AnyHorizon : Type 0
 AnyHorizon =
     (g : ℕ → ℕ) (H H′ S L R : ℕ) → Lawful g H → Lawful g H′ → 1 ≤ S
     → verdictOf g H S L R ≡ verdictOf g H′ S L R
 
--- the demand of sound loads is lawful under their own horizon
+-- the demand of sound loads is lawful under their own horizon, however long interrupts are held off
 abbrev pub OwnHorizon : Type 0
-OwnHorizon = (ls : List Load) (S : ℕ) → Every Sound ls → 1 ≤ S → Lawful (demand ls) (ownHorizon S ls)
+OwnHorizon = (B : ℕ) (ls : List Load) (S : ℕ) → Every Sound ls → 1 ≤ S → Lawful (maskedDemand B ls) (ownHorizon S ls)
 
 -- a larger allowed reserve never turns yes into no, whatever the demand and the horizon
 abbrev pub PassingStays : Type 0

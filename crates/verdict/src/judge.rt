@@ -1,35 +1,69 @@
-// Does this server pass with this reserve: yes or no for placement and sizing, and the whole answer for the question.
+// Does this server pass with this reserve: yes or no for placement and sizing, and the whole answer for the question. Interrupts can be
+// held off for `masked` ticks.
 // What they mean stands in specs/Verdict.antt. Lengths up to the horizon are looked at.
 use crate::answer::Reading;
 use crate::answer::Verdict;
-use search::first_short;
-use search::last_short;
-use slack::closest;
+use closeness::closest_of;
+use fails::first_fails;
+use fails::none_fails;
+use masking::Gain;
+use masking::gain_of;
 ghost use mathlib.Core.Path.{_≡_};
 ghost use Prim.Native.Nat.{_<_, _≤_, _^_};
 ghost use Rattle.demand.specs.Load.{Loaded, loadsOf};
 ghost use Rattle.demand.specs.Demand.{demand};
 ghost use Rattle.demand.specs.Supply.{Allowed};
+ghost use Rattle.masking.specs.Masking.{Gains, Maskable, gaining, maskedDemand};
 ghost use Rattle.verdict.specs.Verdict.{Testable, passing, readingPast, verdictOf};
 
-pub fn passes(loads: &[u64], n: usize, slot: u64, loss: u64, reserve: u64, horizon: u64) -> bool
+// Whether the loads pass with a gain that is theirs.
+pub fn passes_gaining(
+    loads: &[u64],
+    n: usize,
+    gain: Gain,
+    slot: u64,
+    loss: u64,
+    reserve: u64,
+    horizon: u64,
+) -> bool
     requires { ⌜ Loaded (now loads) n ⌝ }
     requires { ⌜ Testable horizon slot loss ⌝ }
     requires { ⌜ Allowed slot loss reserve ⌝ }
-    ensures { λ r. ⌜ r ≡ passing (demand (loadsOf (now (loads .entry)) n)) horizon slot loss reserve ⌝ }
+    requires { ⌜ Gains gain (loadsOf (now loads) n) horizon ⌝ }
+    ensures { λ r. ⌜ r ≡ passing (gaining gain (demand (loadsOf (now (loads .entry)) n))) horizon slot loss reserve ⌝ }
 {
     let gap = demand::gap_of(slot, loss, reserve);
-    let last = last_short(loads, n, slot, gap, 0, horizon);
-    last == 0
+    none_fails(loads, n, gain, slot, gap, horizon)
+}
+
+// Whether they pass, with the gain reckoned here.
+pub fn passes(
+    loads: &[u64],
+    n: usize,
+    masked: u64,
+    slot: u64,
+    loss: u64,
+    reserve: u64,
+    horizon: u64,
+) -> bool
+    requires { ⌜ Loaded (now loads) n ⌝ }
+    requires { ⌜ Testable horizon slot loss ⌝ }
+    requires { ⌜ Allowed slot loss reserve ⌝ }
+    requires { ⌜ Maskable masked (loadsOf (now loads) n) horizon ⌝ }
+    ensures { λ r. ⌜ r ≡ passing (maskedDemand masked (loadsOf (now (loads .entry)) n)) horizon slot loss reserve ⌝ }
+{
+    let own = gain_of(loads, n, masked);
+    passes_gaining(loads, n, own, slot, loss, reserve, horizon)
 }
 
 // A length with the demand and the supply there.
-fn reading(loads: &[u64], n: usize, slot: u64, gap: u64, length: u64) -> Reading
+fn reading(loads: &[u64], n: usize, gain: Gain, slot: u64, gap: u64, length: u64) -> Reading
     requires { ⌜ Loaded (now loads) n × (length < 2 ^ 36) ⌝ }
+    requires { ⌜ gain .extra < 2 ^ 36 ⌝ }
     requires { ⌜ (1 ≤ slot) × (gap ≤ slot) ⌝ }
-    ensures { λ r. ⌜ r ≡ readingPast (demand (loadsOf (now (loads .entry)) n)) slot gap length ⌝ }
+    ensures { λ r. ⌜ r ≡ readingPast (gaining gain (demand (loadsOf (now (loads .entry)) n))) slot gap length ⌝ }
 {
-    let asked = demand::demand_at(loads, n, length);
+    let asked = demand::demand_at(loads, n, length) + gain.at(length);
     let supply = demand::supply_at(slot, gap, length);
     Reading {
         length,
@@ -38,17 +72,27 @@ fn reading(loads: &[u64], n: usize, slot: u64, gap: u64, length: u64) -> Reading
     }
 }
 
-pub fn verdict(loads: &[u64], n: usize, slot: u64, loss: u64, reserve: u64, horizon: u64) -> Verdict
+pub fn verdict(
+    loads: &[u64],
+    n: usize,
+    masked: u64,
+    slot: u64,
+    loss: u64,
+    reserve: u64,
+    horizon: u64,
+) -> Verdict
     requires { ⌜ Loaded (now loads) n ⌝ }
     requires { ⌜ Testable horizon slot loss ⌝ }
     requires { ⌜ Allowed slot loss reserve ⌝ }
-    ensures { λ r. ⌜ r ≡ verdictOf (demand (loadsOf (now (loads .entry)) n)) horizon slot loss reserve ⌝ }
+    requires { ⌜ Maskable masked (loadsOf (now loads) n) horizon ⌝ }
+    ensures { λ r. ⌜ r ≡ verdictOf (maskedDemand masked (loadsOf (now (loads .entry)) n)) horizon slot loss reserve ⌝ }
 {
     let gap = demand::gap_of(slot, loss, reserve);
-    let failing = first_short(loads, n, slot, gap, 0, 0, horizon);
+    let gain = gain_of(loads, n, masked);
+    let failing = first_fails(loads, n, gain, slot, gap, horizon);
     if failing == 0 {
-        let close = closest(loads, n, slot, gap, horizon);
-        return Verdict::Yes(reading(loads, n, slot, gap, close));
+        let close = closest_of(loads, n, gain, slot, gap, horizon);
+        return Verdict::Yes(reading(loads, n, gain, slot, gap, close));
     }
-    Verdict::No(reading(loads, n, slot, gap, failing))
+    Verdict::No(reading(loads, n, gain, slot, gap, failing))
 }

@@ -1,23 +1,33 @@
 // The size of a server's reserve. What it means stands in specs/Reserve.antt.
 // A larger allowed reserve never turns yes into no, so halving finds the smallest.
-use crate::judge::passes;
+use crate::judge::passes_gaining;
+use masking::gain_of;
 ghost use mathlib.Core.Path.{_≡_};
 ghost use Rattle.demand.specs.Load.{Loaded, loadsOf};
-ghost use Rattle.demand.specs.Demand.{demand};
+ghost use Rattle.masking.specs.Masking.{Maskable, maskedDemand};
 ghost use Rattle.verdict.specs.Verdict.{Testable};
 ghost use Rattle.verdict.specs.Reserve.{smallestReserve};
 
 // No reserve up to lo is enough; hi is, or it is the whole processor.
-pub fn smallest_reserve(loads: &[u64], n: usize, slot: u64, loss: u64, horizon: u64) -> u64
+pub fn smallest_reserve(
+    loads: &[u64],
+    n: usize,
+    masked: u64,
+    slot: u64,
+    loss: u64,
+    horizon: u64,
+) -> u64
     requires { ⌜ Loaded (now loads) n ⌝ }
     requires { ⌜ Testable horizon slot loss ⌝ }
-    ensures { λ r. ⌜ r ≡ smallestReserve (demand (loadsOf (now (loads .entry)) n)) horizon slot loss ⌝ }
+    requires { ⌜ Maskable masked (loadsOf (now loads) n) horizon ⌝ }
+    ensures { λ r. ⌜ r ≡ smallestReserve (maskedDemand masked (loadsOf (now (loads .entry)) n)) horizon slot loss ⌝ }
 {
+    let gain = gain_of(loads, n, masked);
     let mut lo = loss;
     let mut hi = slot;
     while lo + 1 < hi {
         let mid = lo + (hi - lo) / 2;
-        if passes(loads, n, slot, loss, mid, horizon) {
+        if passes_gaining(loads, n, gain, slot, loss, mid, horizon) {
             hi = mid;
         } else {
             lo = mid;

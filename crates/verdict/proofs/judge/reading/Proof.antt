@@ -1,18 +1,29 @@
--- `reading` meets its contract: the demand and the supply at a length. Assumes nothing.
+-- `reading` meets its contract: the demand with its gain, and the supply, at a length. Assumes nothing.
+use Prim.Native.Nat.{_≤_}
 use borrow.Author.Needs.{needs}
+use native.Mathlib.Omega.{arith}
+use Rattle.demand.proofs.Demand.{demand-room}
+use Rattle.masking.specs.Masking.{gaining}
+use Rattle.masking.proofs.GainLaws.{gain-most}
 use Rattle.verdict.specs.Verdict.{readingPast}
 use Rattle.verdict.proofs.judge.reading.Statement.{statement}
 use Rattle.verdict.proofs.judge.reading.Tie as tie
 
-demand-at-requires : tie.Need-demand-at-requires
-demand-at-requires c κs = search needs
-
-supply-at-requires : tie.Need-supply-at-requires
-supply-at-requires c κs = search needs
+add-asked : tie.Need-add-asked
+add-asked c =
+    let s = c .before .before .before in
+    let a = s .args in
+    let gained : c .at .result ≤ a .gain .extra = rw (c .at .ensures) (gain-most _ _) in
+    omega (
+      arith,
+      c .before .demand-at .ensures,
+      demand-room (a .loads .now) (a .n) (a .n) (a .length) (s .pre .0 .0) (omega arith) (s .pre .0 .1),
+      s .pre .1 .0,
+    )
 
 returns : tie.Need-returns
-unfolding readingPast
-returns c = rw (c .before .demand-at .ensures, c .supply-at .ensures)
+unfolding readingPast gaining
+returns c = rw (c .before .before .demand-at .ensures, c .before .at .ensures, c .supply-at .ensures)
 
 pub reading-spec : {M : Type 1} → statement M
-reading-spec = tie.close (tie.spec demand-at-requires supply-at-requires returns)
+reading-spec = tie.close (tie.spec (λ c κs. search needs) (λ c κs. search needs) add-asked (λ c κs. search needs) returns)

@@ -1,21 +1,25 @@
 -- `smallest_reserve` meets its contract. The loop's invariant: no reserve up to `lo` is enough; `hi` is, or it is the slot.
 -- The measure is the distance between them. Assumes nothing.
-use Prim.Native.Nat.{_+_, _-_, _/_}
+use Prim.Native.Nat.{ℕ, _+_, _-_, _/_}
+use mathlib.Core.Path.{_≡_, ap, _∙_}
+use borrow.Author.Needs.{needs}
 use native.Mathlib.Omega.{arith}
 use Rattle.demand.specs.Load.{loadsOf}
-use Rattle.demand.specs.Demand.{demand}
+use Rattle.masking.specs.Masking.{maskedDemand}
+use Rattle.masking.proofs.OwnLaws.{own-demand, own-gains}
+use Rattle.verdict.specs.Verdict.{passing}
 use Rattle.verdict.proofs.Sizing.{Sized, sizing-starts, sizing-ring, sizing-down, sizing-up, sizing-ends}
 use Rattle.verdict.proofs.reserve.smallest_reserve.Statement.{statement}
 use Rattle.verdict.proofs.reserve.smallest_reserve.Tie as tie
 
 abbrev Inv-loop : tie.InvT-loop
-Inv-loop loads n slot loss horizon lo₀ hi₀ lo hi = Sized (demand (loadsOf loads n)) horizon slot loss lo hi
+Inv-loop loads n masked slot loss horizon gain lo₀ hi₀ lo hi = Sized (maskedDemand masked (loadsOf loads n)) horizon slot loss lo hi
 
 abbrev μ-loop : tie.MeasureT-loop
-μ-loop loads n slot loss horizon lo₀ hi₀ lo hi = hi - lo
+μ-loop loads n masked slot loss horizon gain lo₀ hi₀ lo hi = hi - lo
 
 loop-holds : tie.Need-loop-holds Inv-loop μ-loop
-loop-holds c = sizing-starts (c .before .pre .1 .loss-small)
+loop-holds c = sizing-starts (c .before .before .pre .1 .0 .loss-small)
 
 add-loop : tie.Need-add-loop Inv-loop μ-loop
 add-loop c = omega arith
@@ -26,13 +30,29 @@ sub-mid c = omega arith
 add-mid : tie.Need-add-mid Inv-loop μ-loop
 add-mid c = omega arith
 
-passes-requires : tie.Need-passes-requires Inv-loop μ-loop
-passes-requires c κs =
-    let s = c .before .before .before in
+passes-gaining-requires : tie.Need-passes-gaining-requires Inv-loop μ-loop
+passes-gaining-requires c κs =
+    let g = c .before .before in
+    let s = g .before .before in
+    let a = s .args in
     let l = c .before .loop in
-    let t = s .pre .1 in
+    let t = s .pre .1 .0 in
     let ring = sizing-ring (l .inv) (l .lo + (l .hi - l .lo) / 2) (omega arith) (omega arith) in
-    (s .pre .0, (record { slot-some = t .slot-some; slot-small = t .slot-small; loss-small = t .loss-small; horizon-small = omega (arith, t) }, ring))
+    let m = s .pre .1 .1 in
+    let own = own-gains _ (loadsOf (a .loads .now) (a .n)) (g .gain-of .ensures) (record { masked-small = omega (arith, m .masked-small); due = m .due }) in
+    (s .pre .0, (record { slot-some = t .slot-some; slot-small = t .slot-small; loss-small = t .loss-small; horizon-small = omega (arith, t) }, (ring, own)))
+
+-- what the middle answers is said of the masked demand
+middle : (c : tie.After-passes-gaining Inv-loop μ-loop) →
+    let l = c .before .before .loop in
+    let a = c .before .before .before .before .before .args in
+    c .passes-gaining .result ≡ passing (maskedDemand (a .masked) (loadsOf (a .loads .now) (a .n))) (a .horizon) (a .slot) (a .loss) (l .lo + (l .hi - l .lo) / 2)
+middle c =
+    let l = c .before .before .loop in
+    let g = c .before .before .before in
+    let a = g .before .before .args in
+    c .passes-gaining .ensures ∙
+    ap (λ (f : ℕ → ℕ). passing f (a .horizon) (a .slot) (a .loss) (l .lo + (l .hi - l .lo) / 2)) (own-demand (a .masked) (loadsOf (a .loads .now) (a .n)) (g .gain-of .ensures))
 
 loop-less : tie.Need-loop-less Inv-loop μ-loop
 loop-less c = omega arith
@@ -40,7 +60,7 @@ loop-less c = omega arith
 loop-again : tie.Need-loop-again Inv-loop μ-loop
 loop-again c =
     let l = c .before .before .before .loop in
-    sizing-down (l .inv) (l .lo + (l .hi - l .lo) / 2) (omega arith) (omega arith) (c .before .passes .ensures) (c .if1 .taken)
+    sizing-down (l .inv) (l .lo + (l .hi - l .lo) / 2) (omega arith) (omega arith) (middle (c .before)) (c .if1 .taken)
 
 loop-less-2 : tie.Need-loop-less-2 Inv-loop μ-loop
 loop-less-2 c = omega arith
@@ -48,7 +68,7 @@ loop-less-2 c = omega arith
 loop-again-2 : tie.Need-loop-again-2 Inv-loop μ-loop
 loop-again-2 c =
     let l = c .before .before .before .loop in
-    sizing-up (l .inv) (l .lo + (l .hi - l .lo) / 2) (omega arith) (omega arith) (omega arith) (c .before .passes .ensures) (c .if1 .left)
+    sizing-up (l .inv) (l .lo + (l .hi - l .lo) / 2) (omega arith) (omega arith) (omega arith) (middle (c .before)) (c .if1 .left)
 
 returns : tie.Need-returns Inv-loop μ-loop
 returns c = sizing-ends (c .before .loop .inv) (omega (arith, c .loop-test .left))
@@ -59,11 +79,12 @@ smallest-reserve-spec =
     (tie.spec
     Inv-loop
     μ-loop
+    (λ c κs. search needs)
     loop-holds
     add-loop
     sub-mid
     add-mid
-    passes-requires
+    passes-gaining-requires
     loop-less
     loop-again
     loop-less-2

@@ -1,0 +1,2 @@
+pub mod RangesLaws
+pub mod GainedLaws

@@ -1,0 +1,32 @@
+-- `passes_gaining` meets its contract: no short length up to the horizon is what passing means. Assumes nothing.
+use Prim.Native.Nat.{ℕ}
+use native.Mathlib.Omega.{arith}
+use Rattle.demand.specs.Load.{loadsOf}
+use Rattle.demand.specs.Demand.{demand}
+use Rattle.masking.specs.Masking.{gaining}
+use Rattle.verdict.proofs.Judged.{gap-asked, gap-usable, none-passing}
+use Rattle.verdict.proofs.judge.passes_gaining.Statement.{statement}
+use Rattle.verdict.proofs.judge.passes_gaining.Tie as tie
+
+-- the demand of the loads with the gain
+abbrev asked : tie.Start → ℕ → ℕ
+asked s = gaining (s .args .gain) (demand (loadsOf (s .args .loads .now) (s .args .n)))
+
+gap-of-requires : tie.Need-gap-of-requires
+gap-of-requires c κs = let s = c .before in gap-asked (s .pre .1 .0) (s .pre .1 .1 .0)
+
+none-fails-requires : tie.Need-none-fails-requires
+none-fails-requires c κs =
+    let s = c .before .before in
+    let t = s .pre .1 .0 in
+    let usable = gap-usable t (s .pre .1 .1 .0) (c .gap-of .ensures) in
+    (s .pre .0, (record { usable = omega (arith, usable); small-extra = omega arith; small = omega (arith, t .horizon-small) }, s .pre .1 .1 .1))
+
+returns : tie.Need-returns
+returns c =
+    let s = c .before .before .before in
+    none-passing (asked s) (s .args .horizon) (s .args .loss) (s .args .reserve) (s .pre .1 .0 .slot-some) (c .before .gap-of .ensures)
+    (c .none-fails .ensures)
+
+pub passes-gaining-spec : {M : Type 1} → statement M
+passes-gaining-spec = tie.close (tie.spec gap-of-requires none-fails-requires returns)
