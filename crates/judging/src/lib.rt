@@ -28,7 +28,8 @@ pub fn judged(
 {
     let mut loads = [0u64; 3 * TaskSet::MOST_TASKS];
     let own = charge_server(header, cache, figures, places, k, horizon, &mut loads);
+    let masked = header.masked_ticks() as u64;
     let slot = header.slot as u64;
     let lost = loss(header, cache);
-    verdict::judge::verdict(&loads, k, slot, lost, reserve, own)
+    verdict::judge::verdict(&loads, k, masked, slot, lost, reserve, own)
 }

@@ -13,10 +13,13 @@ use Rattle.demand.specs.Lawful.{Lawful}
 use Rattle.demand.specs.Passes.{Passes}
 use Rattle.demand.proofs.Demand.{jobs-full}
 use Rattle.demand.proofs.Supply.{supply-all}
-use Rattle.demand.proofs.Claims.{alone-passes}
-use Rattle.verdict.proofs.Horizons.{own-lawful}
+use Rattle.masking.specs.Masking.{latest}
+use Rattle.masking.proofs.MaskedLaws.{masked-above}
+use Rattle.masking.proofs.Claims.{alone-passes}
+use Rattle.verdict.proofs.Horizons.{own-lawful, own-due}
 use Rattle.verdict.proofs.Verdict.{passing-passes, passes-passing}
 use Rattle.tasks.specs.declared.set.Header.{Header}
+use Rattle.tasks.specs.Set.{maskedTicks}
 use Rattle.loads.specs.Charge.{cacheOf, chargedIn, serverLoads, serverLoss, Member}
 use Rattle.members.specs.Server.{serverDemand, serverHorizon, passesWith, fits, totalOf}
 use Rattle.members.proofs.HorizonLaws.{own-divides}
@@ -39,9 +42,13 @@ module _ (h : Header) (ms : List Load) (ok : Every (Member h) ms) where
   server-within H some s v = le-of-dvd some (server-divides H s v)
 
   module _ (slot : 1 ≤ h .slot) where
-    -- and under its own horizon
+    -- its demand is lawful under its own horizon
     pub server-lawful : Lawful (serverDemand h ms) (serverHorizon h ms)
-    server-lawful = own-lawful (serverLoads h ms) (h .slot) (loads-sound h ms ok) slot
+    server-lawful = own-lawful (maskedTicks h) (serverLoads h ms) (h .slot) (loads-sound h ms ok) slot
+
+    -- no deadline lies past it
+    pub server-due : latest (serverLoads h ms) ≤ serverHorizon h ms
+    server-due = own-due (serverLoads h ms) (h .slot) (loads-sound h ms ok) slot
 
     -- the test with a reserve is whether demand ≤ supply at every length
     pub with-passes : (R : ℕ) → passesWith h ms R ≡ true → Passes (serverDemand h ms) (h .slot) (serverLoss h ms) R
@@ -67,6 +74,7 @@ module _ (h : Header) (ms : List Load) (ok : Every (Member h) ms) where
         (λ e. absurd (omega (
           arith,
           fits-passes e H some,
+          masked-above (maskedTicks h) (serverLoads h ms) H,
           supply-all (h .slot) (serverLoss h ms) (h .slot) H refl,
           total-demand H (serverLoads h ms) (loads-sound h ms ok) (loads-period h ms (λ (p : ℕ). p ∣ H) v),
         )))
@@ -76,4 +84,4 @@ pub alone-fits : (h : Header) (l : Load) → Member h l → 1 ≤ h .slot → Me
 unfolding serverLoads cacheOf
 alone-fits h l m slot meets =
     passes-fits h (l ∷ []) (m, tt) slot
-    (alone-passes (chargedIn h (h .cpmdo) l) (h .slot) (serverLoss h (l ∷ [])) (charged-sound h (h .cpmdo) l m) meets)
+    (alone-passes (maskedTicks h) (chargedIn h (h .cpmdo) l) (h .slot) (serverLoss h (l ∷ [])) (charged-sound h (h .cpmdo) l m) meets)

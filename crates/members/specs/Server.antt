@@ -5,17 +5,17 @@ use mathlib.Core.List.{List, [], _∷_}
 use mathlib.Core.Bool.{Bool}
 use lib.ListN.{length}
 use Rattle.demand.specs.Load.{Load, Sound, Every, loadsOf}
-use Rattle.demand.specs.Demand.{demand}
+use Rattle.masking.specs.Masking.{maskedDemand}
 use Rattle.verdict.specs.Verdict.{ownHorizon, passing, verdictOf}
 use Rattle.verdict.specs.Reserve.{smallestReserve}
 use Rattle.verdict.specs.declared.answer.Verdict.{Verdict}
 use Rattle.tasks.specs.declared.set.Header.{Header}
-use Rattle.tasks.specs.Set.{mostTasks, longestHorizon}
+use Rattle.tasks.specs.Set.{mostTasks, longestHorizon, maskedTicks}
 use Rattle.loads.specs.Charge.{serverLoads, serverLoss, Member}
 
--- the demand of a server
+-- the demand of a server, where interrupts can be held off
 abbrev pub serverDemand : Header → (members : List Load) → ℕ → ℕ
-serverDemand h members = demand (serverLoads h members)
+serverDemand h members = maskedDemand (maskedTicks h) (serverLoads h members)
 
 -- the least common multiple of S and the members' periods
 abbrev pub serverHorizon : Header → (members : List Load) → ℕ

@@ -17,6 +17,7 @@ use Rattle.wholes.specs.declared.Multiple.the-variants.{Within, Past}
 use Rattle.wholes.proofs.WithinLaws.{within-is}
 use Rattle.charging.specs.Charging.{entryLoss}
 use Rattle.demand.specs.Load.{Load, Loaded, loadAt, loadsOf}
+use Rattle.masking.specs.Masking.{Maskable}
 use Rattle.verdict.specs.Verdict.{ownHorizon, Testable}
 use Rattle.tasks.specs.declared.set.Header.{Header}
 use Rattle.tasks.specs.Set.{mostTasks}
@@ -24,7 +25,7 @@ use Rattle.loads.specs.Charge.{numbersOf, cacheOf, chargedIn, serverLoads, serv
 use Rattle.loads.proofs.NumberLaws.{numbers-length, loads-stored, taken-length}
 use Rattle.loads.proofs.ChargeLaws.{loads-many, loads-sound, loads-small, loss-small}
 use Rattle.members.specs.Server.{Timed, serverHorizon, Filed}
-use Rattle.members.proofs.ServerLaws.{server-within}
+use Rattle.members.proofs.ServerLaws.{server-within, server-due}
 use Rattle.members.proofs.FiledLaws.{Below, placed-at, placed-members, placed-periods}
 use Rattle.served.specs.Served.{Served}
 
@@ -130,6 +131,13 @@ module _ {h : Header} {cache : ℕ} {figures places : List ℕ} {k H : ℕ} (s :
       there = omega (arith, as-long);
       slot = s .slot;
       sound = rw left-loads (loads-sound h ms (s .members));
+    }
+
+    -- their deadlines are within its horizon, so that the test may be asked where interrupts can be held off
+    pub left-maskable : {own : ℕ} (B : ℕ) → own ≡ serverHorizon h ms → B < 2 ^ 36 → Maskable B (loadsOf out k) own
+    left-maskable B e small = record {
+      masked-small = small;
+      due = rw (left-loads, e) (server-due h ms (s .members) (s .slot));
     }
 
     left-horizon : within H (ownHorizon (h .slot) (loadsOf out k)) ≡ Within (serverHorizon h ms)

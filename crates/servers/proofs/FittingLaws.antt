@@ -12,7 +12,9 @@ use borrow.Author.Tests.{ne-eqb}
 use Rattle.demand.specs.Load.{Load, Sound, Every}
 use Rattle.demand.specs.Demand.{demand}
 use Rattle.demand.proofs.Claims.{loads-lawful}
+use Rattle.masking.proofs.MaskedLaws.{masked-above}
 use Rattle.tasks.specs.declared.set.Header.{Header}
+use Rattle.tasks.specs.Set.{maskedTicks}
 use Rattle.places.specs.Places.{keep, chosen}
 use Rattle.places.proofs.PlacesLaws.{in-joined, in-apart, in-some}
 use Rattle.loads.specs.Charge.{Member, serverLoads}
@@ -153,4 +155,5 @@ fitting-asks h figures placement q members w first there =
     let ms = chosen figures placement q in
     let f = w .parted .none-empty q first there in
     let some = in-some figures placement (f .0) q (w .parted .one-each) (f .1) (f .2) in
-    some-demand (serverLoads h ms) (loads-sound h ms (every-chosen (Member h) figures placement q members)) (omega (arith, some, loads-many h ms))
+    let asks = some-demand (serverLoads h ms) (loads-sound h ms (every-chosen (Member h) figures placement q members)) (omega (arith, some, loads-many h ms)) in
+    (asks .0, omega (arith, asks .1, masked-above (maskedTicks h) (serverLoads h ms) (asks .0)))

@@ -8,7 +8,9 @@ use Rattle.charging.specs.Charging.{effectiveDeadline, effectiveCost, entryLoss
 use Rattle.demand.specs.Demand.{jobs, demand}
 use Rattle.demand.specs.Supply.{supplyPast, supply}
 use Rattle.search.specs.Search.{firstUpTo, firstAfter}
+use Rattle.masking.specs.Masking.{soonestOf, soonest, latest, gainAt, gaining, gainOf, maskedDemand}
 use Rattle.verdict.specs.Verdict.{failing, ownHorizon, firstFailing, verdictAt, verdictOf, passing}
+use Rattle.tasks.specs.declared.set.Optional.the-variants.{Absent}
 use Rattle.places.specs.Places.{chosen}
 use Rattle.loads.specs.Charge.{cacheOf, chargedIn, serverLoads, serverLoss}
 use Rattle.members.specs.Server.{passesWith, fits}
@@ -19,8 +21,8 @@ use Rattle.taking.specs.Takes.{takes}
 -- a task that server 1 cannot take goes to 2, and a later one that it can take goes back to 1
 pub goes-back :
     placementOf
-    (record { processors = 2; slot = 10; relj = 0; relo = 0; ctswo = 0; resd = 0; cpmdo = 0 })
+    (record { processors = 2; slot = 10; relj = 0; relo = 0; ctswo = 0; resd = 0; cpmdo = 0; masked = Absent })
     (record { cost = 6; deadline = 10; period = 10 } ∷ record { cost = 6; deadline = 10; period = 10 } ∷ record { cost = 4; deadline = 10; period = 10 } ∷ [])
     ≡ 1 ∷ 2 ∷ 1 ∷ []
-unfolding placementOf placeBy fit join takes serversIn chosen fits passesWith serverLoads serverLoss cacheOf chargedIn effectiveDeadline effectiveCost entryLoss passing verdictOf verdictAt firstFailing firstUpTo firstAfter failing ownHorizon leastMultipleOf leastMultiple commonMeasure measureIn demand jobs supply supplyPast
+unfolding placementOf placeBy fit join takes serversIn chosen fits passesWith serverLoads serverLoss cacheOf chargedIn effectiveDeadline effectiveCost entryLoss passing verdictOf verdictAt firstFailing firstUpTo firstAfter failing ownHorizon leastMultipleOf leastMultiple commonMeasure measureIn maskedDemand gaining gainOf gainAt soonest soonestOf latest demand jobs supply supplyPast
 goes-back = refl

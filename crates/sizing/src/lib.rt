@@ -33,8 +33,9 @@ pub fn reserve_of(
     let count = places_of(placement, n, q, &mut places);
     let mut loads = [0u64; 3 * TaskSet::MOST_TASKS];
     let own = charge_server(header, cache, figures, &places, count, horizon, &mut loads);
+    let masked = header.masked_ticks() as u64;
     let slot = header.slot as u64;
-    verdict::reserve::smallest_reserve(&loads, count, slot, loss(header, cache), own)
+    verdict::reserve::smallest_reserve(&loads, count, masked, slot, loss(header, cache), own)
 }
 
 // The reserves of servers 1 to count, in server order.

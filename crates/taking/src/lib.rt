@@ -50,6 +50,7 @@ pub fn takes_task(
     let mut loads = [0u64; 3 * TaskSet::MOST_TASKS];
     let cache = header.cpmdo as u64;
     let own = charge_server(header, cache, figures, &places, n, horizon, &mut loads);
+    let masked = header.masked_ticks() as u64;
     let slot = header.slot as u64;
-    verdict::judge::passes(&loads, n, slot, 0, slot, own)
+    verdict::judge::passes(&loads, n, masked, slot, 0, slot, own)
 }

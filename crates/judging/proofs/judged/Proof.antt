@@ -7,11 +7,11 @@ use borrow.Author.Needs.{needs}
 use native.Mathlib.Omega.{arith}
 use lib.ListN.{take}
 use Rattle.demand.specs.Load.{Load, Loaded, loadsOf}
-use Rattle.demand.specs.Demand.{demand}
+use Rattle.masking.specs.Masking.{maskedDemand}
 use Rattle.verdict.specs.Verdict.{verdictOf}
 use Rattle.loads.specs.Charge.{serverLoads, serverLoss, membersAt, Overheads}
 use Rattle.members.specs.Server.{serverDemand, verdictFor}
-use Rattle.served.proofs.ServedLaws.{small-cache, own-loss, own-room, may-test, left-loads, left-loaded}
+use Rattle.served.proofs.ServedLaws.{small-cache, own-loss, own-room, may-test, left-loads, left-loaded, left-maskable}
 use Rattle.judging.proofs.judged.Statement.{statement}
 use Rattle.judging.proofs.judged.Tie as tie
 
@@ -44,16 +44,16 @@ charge-server-requires c κs =
 
 loss-requires : tie.Need-loss-requires
 loss-requires c κs =
-    let s = start (c .before .before) in
+    let s = start (c .before .before .before) in
     omega (arith, small-cache (s .pre .0) (overheads s))
 
 -- the entry loss is the server's
-lost : (c : tie.After-loss) → c .loss .result ≡ serverLoss (start (c .before .before .before) .args .header) (members (start (c .before .before .before)))
-lost c = own-loss (start (c .before .before .before) .pre .0) (c .loss .ensures)
+lost : (c : tie.After-loss) → c .loss .result ≡ serverLoss (start (c .before .before .before .before) .args .header) (members (start (c .before .before .before .before)))
+lost c = own-loss (start (c .before .before .before .before) .pre .0) (c .loss .ensures)
 
 verdict-requires : tie.Need-verdict-requires
 verdict-requires c κs =
-    let at = c .before .before .before .before in
+    let at = c .before .before .before .before .before in
     let s = start at in
     let l = lost (c .before) in
     let t = may-test (s .pre .0) (overheads s) (c .before .loss .result) (at .charge-server .ensures .0) (omega (arith, l)) in (
@@ -65,18 +65,22 @@ verdict-requires c κs =
           loss-small = omega (arith, t .loss-small);
           horizon-small = omega (arith, t .slot-small, t .horizon-small);
         },
-        rw l (s .pre .1),
+        (
+          rw l (s .pre .1),
+          left-maskable (s .pre .0) _ (own-room (s .pre .0) refl) (at .charge-server .ensures .1) _ (at .charge-server .ensures .0)
+              (omega (arith, c .before .before .before .masked-ticks .ok)),
+        ),
       ),
     )
 
 returns : tie.Need-returns
 unfolding verdictFor
 returns c =
-    let at = c .before .before .before .before .before in
+    let at = c .before .before .before .before .before .before in
     let s = start at in
     let h = s .args .header in
     c .verdict .ensures ∙
-    ap (λ (ls : List Load). verdictOf (demand ls) (at .charge-server .result) (h .slot) (c .before .before .loss .result) (s .args .reserve)) (own-loads at) ∙
+    ap₂ (λ (B : ℕ) (ls : List Load). verdictOf (maskedDemand B ls) (at .charge-server .result) (h .slot) (c .before .before .loss .result) (s .args .reserve)) (c .before .before .before .before .masked-ticks .ensures) (own-loads at) ∙
     ap₂ (λ (H L : ℕ). verdictOf (serverDemand h (members s)) H (h .slot) L (s .args .reserve)) (at .charge-server .ensures .0) (lost (c .before .before))
 
 pub judged-spec : {M : Type 1} → statement M
@@ -85,6 +89,8 @@ judged-spec =
     (tie.spec
     (λ c. search needs)
     charge-server-requires
+    (λ c κs. search needs)
+    (λ c. search needs)
     (λ c. search needs)
     loss-requires
     (λ c. search needs)

@@ -1,6 +1,6 @@
 -- `charge` meets its contract. The loop's invariant: the loads of the places passed are stored, the rest is as it was.
 -- The measure is what is left of n. Assumes nothing.
-use Prim.Native.Nat.{ℕ, _+_, _*_, _-_, _≤_, _<_}
+use Prim.Native.Nat.{ℕ, _+_, _*_, _-_, _^_, _≤_, _<_}
 use mathlib.Core.Path.{_≡_, refl, sym, ap, _∙_}
 use borrow.Author.Needs.{needs}
 use native.Mathlib.Omega.{arith}
@@ -33,6 +33,10 @@ module _ (c : tie.After-shared-slice-known3 Inv-loop μ-loop) where
 
   room : 3 * c .before .before .loop .i + 3 ≤ length (start .args .loads .now)
   room = omega (arith, start .pre .room, c .before .loop-test .taken)
+
+  -- the place of a load's last number, in bytes, is a number of the machine
+  small : 8 * (3 * c .before .before .loop .i + 2) < 2 ^ 64
+  small = omega (arith, room)
 
 loop-holds : tie.Need-loop-holds Inv-loop μ-loop
 unfolding numbersOf
@@ -87,10 +91,10 @@ charged-deadline-requires : tie.Need-charged-deadline-requires Inv-loop μ-loop
 charged-deadline-requires c κs = omega (arith, member (c .before .before .before .before .before .before) .early)
 
 add-loads : tie.Need-add-loads Inv-loop μ-loop
-add-loads c = omega (arith, room (c .before .before .before .before .before .before .before))
+add-loads c = omega (arith, small (c .before .before .before .before .before .before .before))
 
 mul-loads-2 : tie.Need-mul-loads-2 Inv-loop μ-loop
-mul-loads-2 c = omega (arith, room (c .before .before .before .before .before .before .before))
+mul-loads-2 c = omega (arith, small (c .before .before .before .before .before .before .before))
 
 slice-write-loads-2 : tie.Need-slice-write-loads-2 Inv-loop μ-loop
 slice-write-loads-2 c =
@@ -107,10 +111,10 @@ shared-slice-read-loads : tie.Need-shared-slice-read-loads Inv-loop μ-loop
 shared-slice-read-loads c = omega (arith, there (c .before .before .before .before .before .before .before .before))
 
 add-loads-3 : tie.Need-add-loads-3 Inv-loop μ-loop
-add-loads-3 c = omega (arith, room (c .before .before .before .before .before .before .before .before))
+add-loads-3 c = omega (arith, small (c .before .before .before .before .before .before .before .before))
 
 mul-loads-4 : tie.Need-mul-loads-4 Inv-loop μ-loop
-mul-loads-4 c = omega (arith, room (c .before .before .before .before .before .before .before .before))
+mul-loads-4 c = omega (arith, small (c .before .before .before .before .before .before .before .before))
 
 slice-write-loads-3 : tie.Need-slice-write-loads-3 Inv-loop μ-loop
 slice-write-loads-3 c =

@@ -7,13 +7,13 @@ use native.Mathlib.Omega.{arith}
 use lib.ListN.{take}
 use Rattle.charging.specs.Charging.{entryLoss}
 use Rattle.demand.specs.Load.{Load, Loaded, loadsOf}
-use Rattle.demand.specs.Demand.{demand}
+use Rattle.masking.specs.Masking.{maskedDemand}
 use Rattle.verdict.specs.Reserve.{smallestReserve}
 use Rattle.places.specs.Places.{chosen}
 use Rattle.loads.specs.Charge.{serverLoads, membersAt, Overheads}
 use Rattle.members.specs.Server.{serverDemand, serverHorizon, reserveFor}
 use Rattle.served.specs.Served.{Served}
-use Rattle.served.proofs.ServedLaws.{own-loss, own-room, may-test, left-loads, left-loaded}
+use Rattle.served.proofs.ServedLaws.{own-loss, own-room, may-test, left-loads, left-loaded, left-maskable}
 use Rattle.taking.proofs.ChargedLaws.{Standing, standing-found, standing-served}
 use Rattle.sizing.proofs.reserve_of.Statement.{statement}
 use Rattle.sizing.proofs.reserve_of.Tie as tie
@@ -67,27 +67,34 @@ charge-server-requires c κs =
 smallest-reserve-requires : tie.Need-smallest-reserve-requires
 unfolding entryLoss
 smallest-reserve-requires c κs =
-    let at = c .before .before .before .before in
+    let at = c .before .before .before .before .before in
     let s = from at in
     let o = overheads s in
-    let t = may-test (served (at-places at)) o 0 (at .charge-server .ensures .0) (omega arith) in (
+    let w = served (at-places at) in
+    let t = may-test w o 0 (at .charge-server .ensures .0) (omega arith) in (
       own-loaded at,
-      record {
-        slot-some = t .slot-some;
-        slot-small = t .slot-small;
-        loss-small = omega (arith, c .loss .ensures, o .delay, o .cache, s .pre .0 .short);
-        horizon-small = omega (arith, t .slot-small, t .horizon-small);
-      },
+      (
+        record {
+          slot-some = t .slot-some;
+          slot-small = t .slot-small;
+          loss-small = omega (arith, c .loss .ensures, o .delay, o .cache, s .pre .0 .short);
+          horizon-small = omega (arith, t .slot-small, t .horizon-small);
+        },
+        left-maskable w _ (own-room w refl) (at .charge-server .ensures .1) _ (at .charge-server .ensures .0)
+            (omega (arith, c .before .before .before .masked-ticks .ok)),
+      ),
     )
 
 returns : tie.Need-returns
 unfolding reserveFor
 returns c =
-    let at = c .before .before .before .before .before in
+    let at = c .before .before .before .before .before .before in
     let h = from at .args .header in
     let ms = members at in
     c .smallest-reserve .ensures ∙
-    ap₂ (λ (ls : List Load) (H : ℕ). smallestReserve (demand ls) H (h .slot) (c .before .loss .result)) (own-loads at) (at .charge-server .ensures .0) ∙
+    ap₂ (λ (B : ℕ) (ls : List Load). smallestReserve (maskedDemand B ls) (at .charge-server .result) (h .slot) (c .before .loss .result))
+    (c .before .before .before .before .masked-ticks .ensures) (own-loads at) ∙
+    ap (λ (H : ℕ). smallestReserve (serverDemand h ms) H (h .slot) (c .before .loss .result)) (at .charge-server .ensures .0) ∙
     ap (smallestReserve (serverDemand h ms) (serverHorizon h ms) (h .slot)) (own-loss (served (at-places at)) (c .before .loss .ensures)) ∙
     ap (reserveFor h) (standing (at-places at) .is)
 
@@ -101,6 +108,8 @@ reserve-of-spec =
     (λ c. search needs)
     (λ c. search needs)
     charge-server-requires
+    (λ c κs. search needs)
+    (λ c. search needs)
     (λ c. search needs)
     (λ c. search needs)
     (λ c κs. search needs)

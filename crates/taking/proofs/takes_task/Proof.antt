@@ -8,14 +8,14 @@ use borrow.Author.Needs.{needs}
 use native.Mathlib.Omega.{arith}
 use lib.ListN.{take, set}
 use Rattle.demand.specs.Load.{Load, Loaded, loadAt, loadsOf}
-use Rattle.demand.specs.Demand.{demand}
+use Rattle.masking.specs.Masking.{maskedDemand}
 use Rattle.verdict.specs.Verdict.{passing}
 use Rattle.tasks.specs.Set.{mostTasks}
 use Rattle.places.specs.Places.{chosen}
 use Rattle.loads.specs.Charge.{serverLoads, membersAt, Overheads}
-use Rattle.members.specs.Server.{fits}
+use Rattle.members.specs.Server.{serverDemand, fits}
 use Rattle.served.specs.Served.{Served}
-use Rattle.served.proofs.ServedLaws.{own-room, may-test, left-loads, left-loaded}
+use Rattle.served.proofs.ServedLaws.{own-room, may-test, left-loads, left-loaded, left-maskable}
 use Rattle.taking.specs.Takes.{takes}
 use Rattle.taking.proofs.ChargedLaws.{Standing, standing-joined, standing-served, place-free, fits-whole}
 use Rattle.taking.proofs.takes_task.Statement.{statement}
@@ -91,8 +91,9 @@ charge-server-requires c κs =
 
 passes-requires : tie.Need-passes-requires
 passes-requires c κs =
-    let at = c .before .before .before in
-    let t = may-test (served (at-places at)) (overheads (from at)) 0 (at .charge-server .ensures .0) (omega arith) in (
+    let at = c .before .before .before .before in
+    let s = served (at-places at) in
+    let t = may-test s (overheads (from at)) 0 (at .charge-server .ensures .0) (omega arith) in (
       own-loaded at,
       (
         record {
@@ -101,17 +102,22 @@ passes-requires c κs =
           loss-small = omega arith;
           horizon-small = omega (arith, t .slot-small, t .horizon-small);
         },
-        inr refl,
+        (
+          inr refl,
+          left-maskable s _ (own-room s refl) (at .charge-server .ensures .1) _ (at .charge-server .ensures .0) (omega (arith, c .before .before .masked-ticks .ok)),
+        ),
       ),
     )
 
 returns : tie.Need-returns
 unfolding takes
 returns c =
-    let at = c .before .before .before .before in
+    let at = c .before .before .before .before .before in
     let h = from at .args .header in
     c .passes .ensures ∙
-    ap₂ (λ (ls : List Load) (H : ℕ). passing (demand ls) H (h .slot) 0 (h .slot)) (own-loads at) (at .charge-server .ensures .0) ∙
+    ap₂ (λ (B : ℕ) (ls : List Load). passing (maskedDemand B ls) (at .charge-server .result) (h .slot) 0 (h .slot))
+    (c .before .before .before .masked-ticks .ensures) (own-loads at) ∙
+    ap (λ (H : ℕ). passing (serverDemand h (members at)) H (h .slot) 0 (h .slot)) (at .charge-server .ensures .0) ∙
     fits-whole h (members at) (served (at-places at) .members) (from at .pre .0 .slot) ∙
     ap (fits h) (standing (at-places at) .is)
 
@@ -128,6 +134,8 @@ takes-task-spec =
     (λ c. search needs)
     (λ c. search needs)
     charge-server-requires
+    (λ c κs. search needs)
+    (λ c. search needs)
     (λ c. search needs)
     (λ c. search needs)
     passes-requires
