@@ -8,7 +8,7 @@ use Rattle.planfile.specs.Tool.{answered}
 use Rattle.quoted.specs.Quoted.{bytesOf}
 use Rattle.examples.specs.Asked.{rowsIn, RowsRefuse}
 use Rattle.examples.specs.Asked.Answer.{text}
-use Rattle.examples.specs.Examples.{AtoL, fileK}
+use Rattle.examples.specs.Examples.{AtoL, Masked, fileK}
 use Rattle.examples.proofs.Computing.{computing}
 use Rattle.examples.proofs.RowLaws.{refused-prints}
 use Rattle.examples.proofs.RowLaws as rows
@@ -32,3 +32,7 @@ K-prints = refused-prints (bytesOf fileK) K-refused ∙ nine
 pub a-to-l : AtoL
 unfolding computing
 a-to-l = (refl, (refl, (refl, (refl, (refl, (refl, (refl, (refl, (refl, (refl, (refl, (refl, (refl, (refl, (refl, (refl, (refl, (refl, (refl, (refl, (ap text K-prints, (refl, (refl, tt)))))))))))))))))))))))
+
+pub masked : Masked
+unfolding computing
+masked = (refl, (refl, (refl, (refl, (refl, (refl, (refl, (refl, (refl, (refl, tt))))))))))

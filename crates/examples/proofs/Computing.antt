@@ -10,10 +10,10 @@ use Rattle.framesizes.specs.Overflow.{lineOverflows, someTooLarge}
 use Rattle.framelines.specs.Lines.{joined}
 use Rattle.tasks.specs.Set.{setOf}
 use Rattle.tasks.specs.Search.{some, firstFrom}
-use Rattle.taskask.specs.Ask.{countRow, twiceRow, headerOverflows, taskOverflows, askRow}
+use Rattle.taskask.specs.Ask.{countRow, twiceRow, headerOverflows, taskOverflows, maskedOverflows, askRow}
 use Rattle.taskrows.specs.Rows.{boardRow, rangeRow, figuresOutcome}
 use Rattle.refusals.specs.First.{till}
-use Rattle.taskfile.specs.File.{past, tasksAmong, lineRow, orderRow, countLineRow, twiceLineRow, lineOutcome, headerAt, taskAt}
+use Rattle.taskfile.specs.File.{past, tasksAmong, lineRow, orderRow, countLineRow, twiceLineRow, lineOutcome, headerAt, taskAt, maskedAt, fileHeader}
 use Rattle.taskread.specs.Read.{fileSet, readOutcome, readOf}
 use Rattle.wholes.specs.Ceiling.{ceilingOf}
 use Rattle.wholes.specs.Measure.{measureIn, commonMeasure}
@@ -22,6 +22,7 @@ use Rattle.charging.specs.Charging.{effectiveDeadline, effectiveCost, entryLoss
 use Rattle.demand.specs.Demand.{jobs, demand}
 use Rattle.demand.specs.Passes.{fake}
 use Rattle.demand.specs.Supply.{gap, supplyPast, supply}
+use Rattle.masking.specs.Masking.{soonestOf, soonest, latest, gainAt, gaining, gainOf, maskedDemand}
 use Rattle.verdict.specs.Reserve.{enough, smallestReserve}
 use Rattle.search.specs.Search.{lastUpTo, firstUpTo, firstAfter, short}
 use Rattle.steps.specs.Stepping.{steps}
@@ -61,5 +62,5 @@ use Rattle.planfile.specs.Tool.{answered}
 use Rattle.askfile.specs.OfFile.{whoIn, passIn}
 
 unfoldable pub computing : Unit {0}
-unfolding legal valueOf digitOf allLegal numberFrom hex kindOf widthsOf sum line after closed same formed fieldOf fields lineOf setOf some firstFrom countRow twiceRow boardRow rangeRow figuresOutcome headerOverflows taskOverflows lineOverflows someTooLarge askRow past tasksAmong lineRow orderRow countLineRow twiceLineRow lineOutcome till headerAt taskAt fileSet readOutcome readOf ceilingOf measureIn commonMeasure leastMultiple leastMultipleOf effectiveDeadline effectiveCost entryLoss jobs demand fake gap supplyPast supply enough smallestReserve lastUpTo firstUpTo firstAfter short steps lesser leastUpTo slack failing ownHorizon firstFailing closest readingAt verdictAt verdictOf passing placesFrom chosen cacheOf chargedIn serverLoads serverLoss passesWith fits reserveFor verdictFor serversIn takes join fit placeBy placementOf reservesOf covers covererUpTo standAt phase ringTicks wholes wholeFrom whoOf firstReserve setFigures slotRow tightRow horizonOf horizonRow chargedOutcome upTo laidOut reservesWith planWith setPlacement setReserves planMade alike sameFigures sameServer sameServers sameProcessors agrees needed fullRow planOutcome planOf makes allowed isProcessor isServer whoRuns doesPass joined serverFigures placedFigures processorFigures planLine serverLine placedLine processorLine planText refusalText plannedSet filedOf answered whoIn passIn
+unfolding legal valueOf digitOf allLegal numberFrom hex kindOf widthsOf sum line after closed same formed fieldOf fields lineOf setOf some firstFrom countRow twiceRow boardRow rangeRow figuresOutcome headerOverflows taskOverflows maskedOverflows lineOverflows someTooLarge askRow past tasksAmong lineRow orderRow countLineRow twiceLineRow lineOutcome till headerAt taskAt maskedAt fileHeader fileSet readOutcome readOf ceilingOf measureIn commonMeasure leastMultiple leastMultipleOf effectiveDeadline effectiveCost entryLoss jobs demand soonestOf soonest latest gainAt gaining gainOf maskedDemand fake gap supplyPast supply enough smallestReserve lastUpTo firstUpTo firstAfter short steps lesser leastUpTo slack failing ownHorizon firstFailing closest readingAt verdictAt verdictOf passing placesFrom chosen cacheOf chargedIn serverLoads serverLoss passesWith fits reserveFor verdictFor serversIn takes join fit placeBy placementOf reservesOf covers covererUpTo standAt phase ringTicks wholes wholeFrom whoOf firstReserve setFigures slotRow tightRow horizonOf horizonRow chargedOutcome upTo laidOut reservesWith planWith setPlacement setReserves planMade alike sameFigures sameServer sameServers sameProcessors agrees needed fullRow planOutcome planOf makes allowed isProcessor isServer whoRuns doesPass joined serverFigures placedFigures processorFigures planLine serverLine placedLine processorLine planText refusalText plannedSet filedOf answered whoIn passIn
 computing = tt

@@ -1,4 +1,5 @@
--- Examples A to L of document 01: one list of what is asked and what is given, and one statement, that each row holds.
+-- Examples A to L of document 01, and M of document 02, Req 04: lists of what is asked and what is given, and one statement for each,
+-- that every row holds.
 -- It is proved in proofs/Claims.antt.
 use Prim.Native.Nat.{ℕ}
 use Prim.Native.String.{String}
@@ -135,3 +136,39 @@ Every (r ∷ rs) = (answerOf (r .asked) ≡ r .given) × Every rs
 
 abbrev pub AtoL : Type 0
 AtoL = Every examples
+
+-- m 2, S 10, B 5, tasks 1/13/20 and 1/14/20
+abbrev pub fileM : String
+fileM = "010200000A00000000000000000000\n050005\n020100000100000D000014\n020200000100000E000014\n"
+
+-- the same with B 0 in the line, and without the line
+abbrev pub fileM0 : String
+fileM0 = "010200000A00000000000000000000\n050000\n020100000100000D000014\n020200000100000E000014\n"
+
+abbrev pub fileUnmasked : String
+fileUnmasked = "010200000A00000000000000000000\n020100000100000D000014\n020200000100000E000014\n"
+
+-- the plan of either: R = 2
+abbrev pub planUnmasked : String
+planUnmasked = "1100010100000A00000008\n12010000020000000002\n130101\n130201\n140101000002\n"
+
+abbrev pub maskedExamples : List Example
+maskedExamples =
+    -- R = 6: at length 13 the demand is 6, with nothing to spare
+    row (prints fileM) (lines "1100010100000A00000004\n12010000060000000002\n130101\n130201\n140101000006\n")
+    ∷ row (passes fileM 1 6) (passesAt 13 6 6)
+    -- R = 4 fails there; the fake-task sum is 12 there and passes
+    ∷ row (passes fileM 1 4) (failsAt 13 6 4)
+    ∷ row (sums fileM 1 4 13) (ticks 12)
+    -- a line of 0 ticks, and no line
+    ∷ row (prints fileM0) (lines planUnmasked)
+    ∷ row (prints fileUnmasked) (lines planUnmasked)
+    -- a 05 line at line 1, a second one, one a digit short, and no task behind it
+    ∷ row (prints "050005\n010200000A00000000000000000000\n020100000100000D000014\n") (lines "1F0201\n")
+    ∷ row (prints "010200000A00000000000000000000\n050005\n050005\n020100000100000D000014\n") (lines "1F0203\n")
+    ∷ row (prints "010200000A00000000000000000000\n05005\n020100000100000D000014\n") (lines "1F0102\n")
+    ∷ row (prints "010200000A00000000000000000000\n050005\n") (lines "1F0303\n")
+    ∷ []
+
+abbrev pub Masked : Type 0
+Masked = Every maskedExamples

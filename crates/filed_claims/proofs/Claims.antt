@@ -9,15 +9,15 @@ use Rattle.refusals.specs.declared.Outcome.{Outcome}
 use Rattle.wholes.proofs.Claims.{multiple-of-means}
 use Rattle.demand.specs.Load.{Load, Sound, Every}
 use Rattle.demand.specs.Passes.{Passes}
-use Rattle.demand.proofs.Claims.{loads-lawful}
-use Rattle.steps.proofs.Claims.{steps-at-deadlines}
+use Rattle.masking.proofs.MaskedLaws.{masked-in, masked-outside, masked-equal, masked-lawful}
+use Rattle.verdict.specs.Reserve.{Smallest}
 use Rattle.verdict.specs.declared.answer.Verdict.{Verdict}
 use Rattle.verdict.proofs.Horizons.{own-some, own-periods}
 use Rattle.verdict.proofs.Tells.{passes-told, told-within}
 use Rattle.tasks.specs.declared.set.TaskSet.{TaskSet}
-use Rattle.tasks.specs.Set.{mostTasks, zeroTask}
-use Rattle.loads.specs.Charge.{figuresOf, serverLoads, Member}
-use Rattle.loads.proofs.ChargeLaws.{loads-sound, loads-period}
+use Rattle.tasks.specs.Set.{mostTasks, maskedTicks, zeroTask}
+use Rattle.loads.specs.Charge.{figuresOf, Member}
+use Rattle.loads.proofs.ChargeLaws.{loads-many, loads-sound, loads-period}
 use Rattle.servers.specs.Placement.{placementOf}
 use Rattle.members.proofs.FiledLaws.{every-chosen}
 use Rattle.setfigures.specs.Figures.{setFigures}
@@ -36,11 +36,12 @@ use Rattle.plan_claims.specs.Claims.{membersIn, allowedIn}
 use Rattle.plan_claims.proofs.Claims.{plan-checked, who-answers, pass-answers}
 use Rattle.planfile_claims.proofs.Claims.{text-tells-plan, nothing-cut-off}
 use Rattle.promises.proofs.Claims.{accepted-stands, plan-is-rota, printed-rota}
-use Rattle.filed_claims.specs.Claims.{setIn, planIn, demandIn, lossIn, PlacedFirst, ReportSmallest, HorizonEnough, ClosestAt, yesAt, FileFull, FileFirstFit, FileSmallest, FileHorizon, FileChecked, FileStands, FileIsRota, FilePrintedRota, FileQuestions, FileClosest, FileCutsNothing, FileTellsPlan, RoomNeverShows}
+use Rattle.filed_claims.specs.Claims.{setIn, planIn, demandIn, lossIn, loadsIn, PlacedFirst, ReportSmallest, HorizonEnough, ClosestAt, yesAt, FileFull, FileFirstFit, FileSmallest, FileReport, FileMasked, FileHorizon, FileChecked, FileStands, FileIsRota, FilePrintedRota, FileQuestions, FileClosest, FileCutsNothing, FileTellsPlan, RoomNeverShows}
 use Rattle.filed_claims.proofs.FiledLaws.{filed-full, filed-made, filed-printed, filed-who, filed-pass}
 use Rattle.filed_claims.proofs.FirstLaws.{row-goes}
 use Rattle.filed_claims.proofs.ReportLaws.{by-report}
-use Rattle.filed_claims.proofs.StepLaws.{steps-pass}
+use Rattle.filed_claims.proofs.StepLaws.{steps-pass, masked-step, none-closer, earlier-wider}
+use Rattle.filed_claims.proofs.MaskedLaws.{masked-alone, unmasked-rises}
 use Rattle.filed_claims.proofs.ShownLaws.{text-same, set-written-same, plan-text-same, plan-written-same}
 
 -- a plan that the planner makes of a set that has all its places
@@ -62,16 +63,21 @@ module _ (set : TaskSet) (plan : Plan) (full : length (set .tasks) ≡ mostTasks
       (omega (arith, figures-length set (fits set full (known .clear)))) (plan .placement) (set .count) (omega arith) placed-same
 
   -- what holds of every figure holds of those of a server
-  sound : (q : ℕ) → Every Sound (serverLoads (set .header) (membersIn set plan q))
+  sound : (q : ℕ) → Every Sound (loadsIn set plan q)
   sound q =
       loads-sound (set .header) (membersIn set plan q)
       (every-chosen (Member (set .header)) (setFigures set) (take (set .count) (plan .placement)) q (members set full (known .clear)))
 
-  -- its reserves are the smallest by the report's test
-  smallest : (q : ℕ) → 1 ≤ q → q ≤ plan .servers → ReportSmallest (demandIn set plan q) (set .header .slot) (lossIn set plan q) (serverAt plan q .reserve)
-  smallest q some there =
+  -- its reserves are the smallest
+  smallest : (q : ℕ) → 1 ≤ q → q ≤ plan .servers → Smallest (demandIn set plan q) (set .header .slot) (lossIn set plan q) (serverAt plan q .reserve)
+  smallest q some there = plan-checked set plan full made .reserved .smallest q some there
+
+  -- where B is 0 they are by the report's test
+  report : maskedTicks (set .header) ≡ 0 → (q : ℕ) → 1 ≤ q → q ≤ plan .servers →
+      ReportSmallest (demandIn set plan q) (set .header .slot) (lossIn set plan q) (serverAt plan q .reserve)
+  report unmasked q some there =
       by-report (demandIn set plan q) (set .header .slot) (lossIn set plan q) (serverAt plan q .reserve)
-      (loads-lawful .rising (serverLoads (set .header) (membersIn set plan q)) (sound q)) (plan-checked set plan full made .reserved .smallest q some there)
+      (unmasked-rises (maskedTicks (set .header)) (loadsIn set plan q) unmasked (sound q)) (smallest q some there)
 
   -- the set's horizon is a multiple of the periods of a server
   horizon-some : 1 ≤ horizonOf set
@@ -80,7 +86,7 @@ module _ (set : TaskSet) (plan : Plan) (full : length (set .tasks) ≡ mostTasks
   periods : Every (λ (l : Load). l .period ∣ horizonOf set) (setFigures set)
   periods = rw (← horizon-of-figures set) (own-periods (setFigures set) (set .header .slot))
 
-  divides : (q : ℕ) → Every (λ (l : Load). l .period ∣ horizonOf set) (serverLoads (set .header) (membersIn set plan q))
+  divides : (q : ℕ) → Every (λ (l : Load). l .period ∣ horizonOf set) (loadsIn set plan q)
   divides q =
       loads-period (set .header) (membersIn set plan q) (λ (p : ℕ). p ∣ horizonOf set)
       (every-chosen (λ (l : Load). l .period ∣ horizonOf set) (setFigures set) (take (set .count) (plan .placement)) q periods)
@@ -92,7 +98,7 @@ module _ (set : TaskSet) (plan : Plan) (full : length (set .tasks) ≡ mostTasks
     multiple = multiple-of-means .is (set .header .slot) _;
     short = horizon-short set (rows-clear set full (known .clear) .horizon);
     decides = λ q R some there.
-        let d = steps-pass (serverLoads (set .header) (membersIn set plan q)) (set .header .slot) (lossIn set plan q) R (horizonOf set) slot horizon-some (sound q) (divides q) in
+        let d = steps-pass (maskedTicks (set .header)) (loadsIn set plan q) (set .header .slot) (lossIn set plan q) R (horizonOf set) slot horizon-some (sound q) (divides q) in
         (λ passes t p h step. d .0 passes t p (omega (arith, h)) step, λ at-steps. d .1 (λ t p h step. at-steps t p (omega (arith, h)) step));
   }
 
@@ -100,18 +106,20 @@ module _ (set : TaskSet) (plan : Plan) (full : length (set .tasks) ≡ mostTasks
   close : (q R : ℕ) → isServer plan q ≡ true → allowedIn set plan q R ≡ true → Passes (demandIn set plan q) (set .header .slot) (lossIn set plan q) R →
       (t : ℕ) × ClosestAt set plan q R t × (doesPass set plan q R ≡ yesAt set plan q R t)
   close q R server allowed passes =
-      let ls = serverLoads (set .header) (membersIn set plan q) in
+      let ls = loadsIn set plan q in
+      let B = maskedTicks (set .header) in
+      let S = set .header .slot in
+      let L = lossIn set plan q in
       let answers = pass-answers set plan q R full made server allowed in
-      let told = passes-told (demandIn set plan q) (set .header .slot) (lossIn set plan q) R (doesPass set plan q R .verdict) (answers .tells) passes in
+      let told = passes-told (demandIn set plan q) S L R (doesPass set plan q R .verdict) (answers .tells) passes in
       let t = told .0 in
       let c = told .1 in (
         t,
         record {
-          step = steps-at-deadlines ls t (sound q) .0 (c .steps);
-          within = told-within (demandIn set plan q) (horizonOf set) (set .header .slot) (lossIn set plan q) R t
-              (loads-lawful .lawful ls (horizonOf set) (sound q) horizon-some (divides q)) slot passes c;
-          least = λ x st. c .least x (steps-at-deadlines ls x (sound q) .1 st);
-          first = λ x st. c .first x (steps-at-deadlines ls x (sound q) .1 st);
+          step = masked-step B ls (sound q) t (c .steps);
+          within = told-within (demandIn set plan q) (horizonOf set) S L R t (masked-lawful B ls (horizonOf set) (sound q) horizon-some (divides q)) slot passes c;
+          least = none-closer B ls (sound q) S L R t slot c;
+          first = earlier-wider B ls (sound q) S L R t slot c;
         },
         ap₂ (λ (o : Outcome) (v : Verdict). record { outcome = o; verdict = v }) (answers .done) (told .2),
       )
@@ -124,6 +132,21 @@ file-first-fit text ok = placed-first (setIn text) (planIn text) (filed-full tex
 
 pub file-smallest : FileSmallest
 file-smallest text ok = smallest (setIn text) (planIn text) (filed-full text) (filed-made text ok)
+
+pub file-report : FileReport
+file-report text ok = report (setIn text) (planIn text) (filed-full text) (filed-made text ok)
+
+pub file-masked : FileMasked
+file-masked text ok q some there =
+    let h = setIn text .header in
+    let ms = membersIn (setIn text) (planIn text) q in
+    let ls = loadsIn (setIn text) (planIn text) q in
+    record {
+      inside = masked-in (maskedTicks h) ls;
+      outside = masked-outside (maskedTicks h) ls;
+      one = λ e t. masked-alone (maskedTicks h) ls t (loads-many h ms ∙ e);
+      equal = λ d e t. masked-equal (maskedTicks h) ls t d e;
+    }
 
 pub file-horizon : FileHorizon
 file-horizon text ok = enough (setIn text) (planIn text) (filed-full text) (filed-made text ok)

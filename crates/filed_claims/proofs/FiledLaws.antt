@@ -13,7 +13,7 @@ use Rattle.tasks.specs.declared.set.Header.{Header}
 use Rattle.tasks.specs.declared.set.Task.{Task}
 use Rattle.tasks.specs.declared.set.TaskSet.{TaskSet}
 use Rattle.tasks.specs.Set.{mostTasks, zeroTask, setOf}
-use Rattle.taskfile.specs.File.{headerAt, fileTasks}
+use Rattle.taskfile.specs.File.{fileHeader, fileTasks}
 use Rattle.taskread.specs.Read.{fileSet, answer, readOutcome, readOf}
 use Rattle.tasks_claims.proofs.Accepted.{read-accepted}
 use Rattle.ring.specs.declared.clock.Tick.{Tick}
@@ -48,7 +48,7 @@ answer-whole (Refused r) header ts few = length-replicate mostTasks zeroTask
 -- that of what is read
 read-whole : (text : List ℕ) → Whole (readOf text .set)
 unfolding readOf fileSet
-read-whole text = answer-whole (readOutcome text) (headerAt text) (fileTasks text) (λ e. read-accepted text e .most)
+read-whole text = answer-whole (readOutcome text) (fileHeader text) (fileTasks text) (λ e. read-accepted text e .most)
 
 handed-whole : (o : Outcome) (file : FileAnswer) → Whole (file .set) → Whole (unless refusedFile o file .set)
 handed-whole Done file w = w

@@ -2,5 +2,6 @@ pub mod FiledLaws
 pub mod FirstLaws
 pub mod ReportLaws
 pub mod StepLaws
+pub mod MaskedLaws
 pub mod ShownLaws
 pub mod Claims

@@ -9,14 +9,17 @@ use mathlib.Core.List.{List, map}
 use lib.ListN.{length, getD, take}
 use Rattle.refusals.specs.declared.Outcome.the-variants.{Done}
 use Rattle.wholes.specs.Multiple.{LeastMultipleOf}
-use Rattle.demand.specs.Load.{Load}
+use Rattle.demand.specs.Load.{Load, Every}
+use Rattle.demand.specs.Demand.{demand}
 use Rattle.demand.specs.Supply.{Allowed, supply}
 use Rattle.demand.specs.Passes.{Passes, FakePasses}
 use Rattle.demand.specs.Steps.{Step}
+use Rattle.masking.specs.Masking.{soonest, latest}
+use Rattle.verdict.specs.Reserve.{Smallest}
 use Rattle.verdict.specs.declared.answer.Verdict.the-variants.{Yes}
 use Rattle.tasks.specs.declared.set.Task.{Task}
 use Rattle.tasks.specs.declared.set.TaskSet.{TaskSet}
-use Rattle.tasks.specs.Set.{mostTasks, longestHorizon, members, zeroTask}
+use Rattle.tasks.specs.Set.{mostTasks, longestHorizon, maskedTicks, members, zeroTask}
 use Rattle.tasktext.specs.Text.{textOf}
 use Rattle.taskwrite.specs.Write.{writeOf}
 use Rattle.ring.specs.declared.clock.Tick.{Tick}
@@ -101,18 +104,46 @@ pub record ReportSmallest (g : ℕ → ℕ) (S L R : ℕ) : Type 0 where
   pub passes : ReportPasses g S L R
   pub none-smaller : (R′ : ℕ) → Allowed S L R′ → R′ < R → FakePasses g S L R′ → ⊥
 
--- Each reserve is the smallest one that passes the report's own test, or a whole processor.
+-- Each reserve is allowed, with it the server's demand is at most its supply at every length, and no smaller allowed reserve passes.
 abbrev pub FileSmallest : Type 0
 FileSmallest =
     (text : List ℕ) → FileAccepted text → (q : ℕ) → 1 ≤ q → q ≤ planIn text .servers →
+    Smallest (demandIn (setIn text) (planIn text) q) (setIn text .header .slot) (lossIn (setIn text) (planIn text) q) (serverAt (planIn text) q .reserve)
+
+-- Where interrupts are never held off, B = 0, each is the smallest one that passes the report's own test, or a whole processor.
+abbrev pub FileReport : Type 0
+FileReport =
+    (text : List ℕ) → FileAccepted text → maskedTicks (setIn text .header) ≡ 0 → (q : ℕ) → 1 ≤ q → q ≤ planIn text .servers →
     ReportSmallest (demandIn (setIn text) (planIn text) q) (setIn text .header .slot) (lossIn (setIn text) (planIn text) q) (serverAt (planIn text) q .reserve)
+
+-- ---- masked interrupts
+
+-- the charged loads of server q, in the plan's own figures: their deadlines are its tasks' d
+abbrev pub loadsIn : TaskSet → Plan → (q : ℕ) → List Load
+loadsIn set plan q = serverLoads (set .header) (membersIn set plan q)
+
+-- a server gains B at each length from its smallest d up to, but not including, its largest d, and nothing elsewhere; so a server of
+-- one task, or of tasks of one d, gains nothing
+pub record MaskedIn (set : TaskSet) (plan : Plan) (q : ℕ) : Type 0 where
+  pub inside : (t : ℕ) → soonest (loadsIn set plan q) ≤ t → t < latest (loadsIn set plan q) →
+      demandIn set plan q t ≡ demand (loadsIn set plan q) t + maskedTicks (set .header)
+  pub outside : (t : ℕ) → (t < soonest (loadsIn set plan q)) ⊎ (latest (loadsIn set plan q) ≤ t) →
+      demandIn set plan q t ≡ demand (loadsIn set plan q) t
+  pub one : length (membersIn set plan q) ≡ 1 → (t : ℕ) → demandIn set plan q t ≡ demand (loadsIn set plan q) t
+  pub equal : (d : ℕ) → Every (λ (l : Load). l .deadline ≡ d) (loadsIn set plan q) → (t : ℕ) →
+      demandIn set plan q t ≡ demand (loadsIn set plan q) t
+
+-- So it is with each server of a file.
+abbrev pub FileMasked : Type 0
+FileMasked =
+    (text : List ℕ) → FileAccepted text → (q : ℕ) → 1 ≤ q → q ≤ planIn text .servers → MaskedIn (setIn text) (planIn text) q
 
 -- ---- the horizon
 
--- demand is at most supply at the lengths from 1 to H where the demand of server q steps
+-- demand is at most supply at the lengths from 1 to H at which a deadline of server q falls
 abbrev pub StepsPass : TaskSet → Plan → (q R : ℕ) → Type 0
 StepsPass set plan q R =
-    (t : ℕ) → 1 ≤ t → t ≤ horizonOf set → Step (serverLoads (set .header) (membersIn set plan q)) t →
+    (t : ℕ) → 1 ≤ t → t ≤ horizonOf set → Step (loadsIn set plan q) t →
     demandIn set plan q t ≤ supply (set .header .slot) (lossIn set plan q) R t
 
 -- H is the least common multiple of S and every T, at most 10,000,000, and up to it the steps decide for each server and any R
@@ -160,9 +191,9 @@ FileQuestions = (text : List ℕ) → FileAccepted text → QuestionsTell text
 
 -- ---- how close a server that passes comes
 
--- x is a length where the demand of server q steps: d + j·T of one of its charged loads
+-- x is a length at which a deadline of server q falls, where its demand can step: d + j·T of one of its charged loads
 abbrev pub StepIn : TaskSet → Plan → (q x : ℕ) → Type 0
-StepIn set plan q x = Step (serverLoads (set .header) (membersIn set plan q)) x
+StepIn set plan q x = Step (loadsIn set plan q) x
 
 -- the supply of server q with the reserve R, and its ticks to spare: supply less demand. Beside Passes that is not cut off at 0.
 abbrev pub supplyIn : TaskSet → Plan → (q R : ℕ) → ℕ → ℕ

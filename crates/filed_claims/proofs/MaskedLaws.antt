@@ -1,0 +1,22 @@
+-- What a server gains where interrupts can be held off: nothing with one task, and a demand that never falls where B is 0.
+-- Assumes nothing.
+use Prim.Native.Nat.{ℕ, _≤_}
+use native.Mathlib.Omega.{arith}
+use mathlib.Core.Path.{_≡_}
+use mathlib.Core.List.{List, [], _∷_}
+use lib.ListN.{length}
+use Rattle.demand.specs.Load.{Load, Sound, Every}
+use Rattle.demand.specs.Demand.{demand}
+use Rattle.demand.specs.Lawful.{Rising}
+use Rattle.demand.proofs.Claims.{loads-lawful}
+use Rattle.masking.specs.Masking.{maskedDemand}
+use Rattle.masking.proofs.MaskedLaws.{masked-one, masked-none}
+
+pub masked-alone : (B : ℕ) (ls : List Load) (t : ℕ) → length ls ≡ 1 → maskedDemand B ls t ≡ demand ls t
+masked-alone B [] t e = absurd (omega arith)
+masked-alone B (l ∷ []) t e = masked-one B l t
+masked-alone B (l ∷ k ∷ ls) t e = absurd (omega arith)
+
+pub unmasked-rises : (B : ℕ) (ls : List Load) → B ≡ 0 → Every Sound ls → Rising (maskedDemand B ls)
+unmasked-rises B ls e sound t u h =
+    rw e (omega (arith, masked-none ls t, masked-none ls u, loads-lawful .rising ls sound t u h))
