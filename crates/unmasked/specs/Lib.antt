@@ -1,0 +1,4 @@
+pub mod Reading
+pub mod Planning
+pub mod Answers
+pub mod Claims
