@@ -61,7 +61,7 @@ fn wild(random: &mut Random) -> Set {
         ctswo: random.one(&[0, 0, 0, 1, 9]),
         resd: random.one(&[0, 0, 0, 1, 9, 65535]),
         cpmdo: random.one(&[0, 0, 0, 1, 9]),
-        tasks: vec![],
+        ..Set::default()
     };
     for i in 0..random.one(&[0, 1, 2, 3, 8, 24, 63, 64, 65, 70]) {
         let t = random.one(&[10, 20, 100, 1000, 10_000, 78_125, 100_000, 1_000_000, 1_000_001]);

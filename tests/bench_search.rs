@@ -9,7 +9,7 @@ use std::time::Instant;
 
 extern "C" {
     fn probe_last_short(loads: *const u64, loads_len: usize, n: usize, slot: u64, gap: u64, hi: u64) -> u64;
-    fn probe_closest(loads: *const u64, loads_len: usize, n: usize, slot: u64, gap: u64, hi: u64) -> u64;
+    fn probe_closest(loads: *const u64, loads_len: usize, n: usize, masked: u64, slot: u64, gap: u64, hi: u64) -> u64;
 }
 
 // The loads stand in one row of numbers, as the search takes them: cost, deadline, period.
@@ -133,7 +133,7 @@ impl Server {
     fn proved_close(&self) -> u64 {
         unsafe {
             probe_closest(
-                self.loads.as_ptr(), self.loads.len(), self.loads.len() / 3, self.slot, self.gap, self.horizon,
+                self.loads.as_ptr(), self.loads.len(), self.loads.len() / 3, 0, self.slot, self.gap, self.horizon,
             )
         }
     }

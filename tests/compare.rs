@@ -5,7 +5,7 @@ mod files;
 mod oracle;
 mod random;
 
-use files::{damaged, good};
+use files::{damaged, good, masked, masked_anywhere};
 use oracle::{Set, Task};
 use random::Random;
 
@@ -41,8 +41,18 @@ fn same_plan(file: &[u8]) {
     assert_eq!(String::from_utf8_lossy(&got), expected, "for the file\n{}", String::from_utf8_lossy(file));
 }
 
+// The number of a file's refusal, 0 for a plan.
+fn refusal(file: &[u8]) -> usize {
+    let text = String::from_utf8(plan_text(file)).unwrap();
+    if text.starts_with("1F") {
+        usize::from_str_radix(&text[2..4], 16).unwrap()
+    } else {
+        0
+    }
+}
+
 fn examples() {
-    for name in ["a", "b", "c", "d", "e", "f", "g", "h1", "h2", "i", "j", "k"] {
+    for name in ["a", "b", "c", "d", "e", "f", "g", "h1", "h2", "i", "j", "k", "m"] {
         let file = std::fs::read(format!("examples/{}.tasks", name)).unwrap();
         let plan = std::fs::read(format!("examples/{}.plan", name)).unwrap();
         assert_eq!(plan_text(&file), plan, "example {}", name);
@@ -61,6 +71,77 @@ fn good_files() {
     assert!(accepted > 1000, "only {} files had a plan", accepted);
 }
 
+fn masked_files() {
+    let mut random = Random(31);
+    let (mut accepted, mut moved) = (0, 0);
+    for _ in 0..4000 {
+        let set = masked(&mut random);
+        let file = oracle::file(&set).into_bytes();
+        same_plan(&file);
+        let plan = plan_text(&file);
+        accepted += (plan[..2] == *b"11") as u32;
+        moved += (plan != plan_text(oracle::file(&Set { masked: None, ..set }).as_bytes())) as u32;
+    }
+    assert!(accepted > 1000, "only {} files had a plan", accepted);
+    assert!(moved > 500, "only {} files had another plan without their 05 line", moved);
+}
+
+fn masked_lines() {
+    let mut random = Random(32);
+    let mut seen = [0u32; 13];
+    for i in 0..20000 {
+        let set = if i % 2 == 0 { good(&mut random) } else { masked(&mut random) };
+        let mut file = oracle::file(&set).into_bytes();
+        masked_anywhere(&mut random, &mut file);
+        if i % 3 == 0 {
+            damaged(&mut random, &mut file);
+        }
+        if i % 7 == 0 {
+            file.truncate(random.within(0, 60) as usize);
+        }
+        same_plan(&file);
+        seen[refusal(&file)] += 1;
+    }
+    for number in [0, 1, 2, 3] {
+        assert!(seen[number] > 10, "hardly a file met refusal {}: {:?}", number, seen);
+    }
+}
+
+// Small plans, each server with each allowed reserve: every length up to three horizons is looked at.
+fn masked_lengths() {
+    let mut random = Random(33);
+    let (mut asked, mut inside) = (0, 0);
+    while asked < 600 {
+        let horizon = random.one(&[24, 40, 60]);
+        let divisors: Vec<u64> = (2..=horizon).filter(|d| horizon % d == 0).collect();
+        let s = random.one(&divisors[..3]);
+        let mut set = Set { m: 64, s, relj: random.within(0, 1), resd: random.within(0, 1), masked: Some(random.within(0, 6)), ..Set::default() };
+        for id in 0..random.within(1, 6) {
+            let t = random.one(&divisors).max(s);
+            let d = random.within(s, t);
+            set.tasks.push(Task { id, c: random.within(1, (d / 3).max(1)), d, t });
+        }
+        let plan = match oracle::plan(&set) {
+            Ok(plan) => plan,
+            Err(_) => continue,
+        };
+        asked += 1;
+        let file = oracle::file(&set).into_bytes();
+        same_plan(&file);
+        for (q, own) in plan.reserves.iter().enumerate() {
+            let loads = plan.members_loads(q + 1);
+            let ends = (loads.iter().map(|l| l.d).min().unwrap(), loads.iter().map(|l| l.d).max().unwrap());
+            for r in (plan.loss + 1..set.s).chain([set.s]) {
+                let expected = oracle::verdict_walked(&loads, plan.b, set.s, plan.loss, r);
+                assert_eq!(pass(&file, q as u64 + 1, r), (0, expected), "server {} reserve {}\n{}", q + 1, r, oracle::file(&set));
+                assert_eq!(expected[0] == 1, r >= *own, "server {} reserve {}\n{}", q + 1, r, oracle::file(&set));
+                inside += (plan.b > 0 && ends.0 <= expected[1] && expected[1] < ends.1) as u32;
+            }
+        }
+    }
+    assert!(inside > 300, "only {} answers named a length that gains", inside);
+}
+
 fn damaged_files() {
     let mut random = Random(12);
     let mut seen = [0u32; 13];
@@ -68,27 +149,25 @@ fn damaged_files() {
         let mut file = oracle::file(&good(&mut random)).into_bytes();
         damaged(&mut random, &mut file);
         same_plan(&file);
-        let text = plan_text(&file);
-        if text[..2] == *b"1F" {
-            seen[usize::from_str_radix(std::str::from_utf8(&text[2..4]).unwrap(), 16).unwrap()] += 1;
-        }
+        seen[refusal(&file)] += 1;
     }
     for number in [1, 2, 4, 6, 7] {
         assert!(seen[number] > 0, "no file met refusal {}: {:?}", number, seen);
     }
 }
 
-// Past the last task that fits, whatever follows, the answer is that of the file's first 1,534 bytes.
+// Past the last task that fits, whatever follows, the answer is that of the file's first 1,541 bytes.
 fn long_files() {
     let mut random = Random(13);
-    for count in [63, 64, 65, 66, 100] {
+    for (count, line) in [63, 64, 65, 66, 100].iter().flat_map(|count| [(*count, None), (*count, Some(3))]) {
         let mut set = good(&mut random);
+        set.masked = line;
         set.m = 64;
         set.tasks = (0..count).map(|i| Task { id: i % 256, c: 1, d: 100, t: 100 }).collect();
         set.s = 10;
         let file = oracle::file(&set).into_bytes();
         same_plan(&file);
-        assert_eq!(plan_text(&file), plan_text(&file[..file.len().min(1534)]));
+        assert_eq!(plan_text(&file), plan_text(&file[..file.len().min(1541)]));
     }
 }
 
@@ -158,7 +237,7 @@ fn does_pass() {
                 let expected = if q == 0 || q > plan.reserves.len() || !allowed {
                     (11 * 256, [0xA5; 4])
                 } else {
-                    (0, oracle::verdict(&plan.members_loads(q), set.s, plan.loss, r))
+                    (0, oracle::verdict(&plan.members_loads(q), plan.b, set.s, plan.loss, r))
                 };
                 assert_eq!(pass(&file, q as u64, r), expected, "server {} reserve {}\n{}", q, r, oracle::file(&set));
             }
@@ -173,7 +252,8 @@ fn long_horizons() {
     for i in 0..100 {
         let horizon = [9_979_200, 9_990_000, 10_000_000][i % 3];
         let periods: Vec<u64> = (20_000..=1_000_000).filter(|d| horizon % d == 0).collect();
-        let mut set = Set { m: 64, s: random.one(&[40, 80, 400]), resd: random.within(0, 3), ..Set::default() };
+        let b = random.one(&[0, 100, 10_000]);
+        let mut set = Set { m: 64, s: random.one(&[40, 80, 400]), resd: random.within(0, 3), masked: Some(b), ..Set::default() };
         for id in 0..random.within(2, 16) {
             let t = random.one(&periods);
             let d = random.within(t / 2, t);
@@ -188,7 +268,7 @@ fn long_horizons() {
             let mut reserves = vec![own - 1, *own, own + 1, set.s];
             reserves.extend((0..8).map(|_| random.within(1, set.s)));
             for r in reserves.into_iter().filter(|r| *r == set.s || (plan.loss < *r && *r < set.s)) {
-                let expected = oracle::verdict(&loads, set.s, plan.loss, r);
+                let expected = oracle::verdict(&loads, plan.b, set.s, plan.loss, r);
                 assert_eq!(pass(&file, q as u64 + 1, r), (0, expected), "server {} reserve {}\n{}", q + 1, r, oracle::file(&set));
                 later += (expected[0] == 1 && expected[1] > loads.iter().map(|l| l.d).min().unwrap()) as u32;
             }
@@ -232,6 +312,9 @@ fn main() {
     counted::run(&[
         ("examples", examples),
         ("good files", good_files),
+        ("files with a 05 line", masked_files),
+        ("05 lines everywhere", masked_lines),
+        ("does it pass with a 05 line, at every length", masked_lengths),
         ("damaged files", damaged_files),
         ("long files", long_files),
         ("short buffers", short_buffers),

@@ -19,7 +19,7 @@ pub fn good(random: &mut Random) -> Set {
         ctswo: overhead(random, 1),
         resd: overhead(random, 2),
         cpmdo: overhead(random, 1),
-        tasks: vec![],
+        ..Set::default()
     };
     let mut ids: Vec<u64> = (0..=255).collect();
     for _ in 0..random.within(1, 24) {
@@ -31,6 +31,28 @@ pub fn good(random: &mut Random) -> Set {
         set.tasks.push(Task { id, c, d, t });
     }
     set
+}
+
+// The same with a 05 line: mostly a few ticks, none among them, now and then many.
+pub fn masked(random: &mut Random) -> Set {
+    let mut set = good(random);
+    set.masked = Some(match random.next() % 8 {
+        0 => 0,
+        1 => random.within(0, 200),
+        2 => random.within(0, 65_535),
+        _ => random.within(1, 12),
+    });
+    set
+}
+
+// 05 lines put in at any line, some of them a digit short or long.
+pub fn masked_anywhere(random: &mut Random, file: &mut Vec<u8>) {
+    for _ in 0..random.within(1, 3) {
+        let lines: Vec<usize> = (0..=file.len()).filter(|at| *at == 0 || file[*at - 1] == b'\n').collect();
+        let at = lines[random.within(0, lines.len().min(6) as u64 - 1) as usize];
+        let line = format!("05{:0width$X}\n", random.within(0, 255), width = [4, 4, 4, 4, 3, 5][random.within(0, 5) as usize]);
+        file.splice(at..at, line.into_bytes());
+    }
 }
 
 pub fn damaged(random: &mut Random, file: &mut Vec<u8>) {

@@ -4,7 +4,7 @@ mod files;
 mod oracle;
 mod random;
 
-use files::good;
+use files::{good, masked};
 use oracle::{Plan, Refusal, Set, Task};
 use random::Random;
 use std::sync::atomic::{AtomicUsize, Ordering};
@@ -19,8 +19,9 @@ extern "C" {
     fn handed_write_switches(set: *const u64, set_len: usize, plan: *const u64, plan_len: usize, out: *mut u8, out_len: usize, length: *mut usize) -> u64;
 }
 
-// a set's numbers, and a plan's
-const SET: usize = 8 + 4 * 64;
+// where a set's tasks start among its numbers, how many these are, and a plan's
+const FIRST: usize = 10;
+const SET: usize = FIRST + 4 * 64;
 const PLAN: usize = 5 + 68 * 64 + 64 + 2 * 64;
 const JUNK: u64 = 0xA5A5_A5A5_A5A5_A5A5;
 
@@ -88,8 +89,9 @@ fn bits(i: usize) -> u32 {
         0 => 64,
         1 => 8,
         2 => 32,
-        3..=7 => 16,
-        _ if i % 4 == 0 => 8,
+        3..=7 | 9 => 16,
+        8 => 64,
+        _ if (i - FIRST) % 4 == 0 => 8,
         _ => 32,
     }
 }
@@ -174,12 +176,13 @@ fn passes(set: &Set, plan: &Plan, q: u64, r: u64) -> Option<[u64; 4]> {
     if q < 1 || q > plan.reserves.len() as u64 || !allowed {
         return None;
     }
-    Some(oracle::verdict(&plan.members_loads(q as usize), set.s, plan.loss, r))
+    Some(oracle::verdict(&plan.members_loads(q as usize), plan.b, set.s, plan.loss, r))
 }
 
 // A set as numbers, its unused room at zero.
 fn numbers_of(set: &Set) -> Vec<u64> {
     let mut numbers = vec![set.tasks.len() as u64, set.m, set.s, set.relj, set.relo, set.ctswo, set.resd, set.cpmdo];
+    numbers.extend([set.masked.is_some() as u64, set.b()]);
     set.tasks.iter().for_each(|t| numbers.extend([t.id, t.c, t.d, t.t]));
     numbers.resize(numbers.len().max(SET), 0);
     numbers
@@ -194,7 +197,7 @@ fn junk(random: &mut Random, at: usize) -> u64 {
 // A set with a plan, of at least so many tasks.
 fn planned(random: &mut Random, tasks: usize) -> (Set, Case) {
     for _ in 0..1000 {
-        let set = good(random);
+        let set = if random.next() % 2 == 0 { good(random) } else { masked(random) };
         let case = Case::of(numbers_of(&set));
         if set.tasks.len() >= tasks && case.plan.is_ok() {
             return (set, case);
@@ -211,7 +214,7 @@ fn full(random: &mut Random) -> Set {
 
 fn examples() {
     let mut random = Random(21);
-    for name in ["a", "b", "c", "d", "e", "f", "g", "h1", "h2", "i", "j", "k"] {
+    for name in ["a", "b", "c", "d", "e", "f", "g", "h1", "h2", "i", "j", "k", "m"] {
         let set = oracle::read(&std::fs::read(format!("examples/{}.tasks", name)).unwrap()).unwrap();
         Case::of(numbers_of(&set)).all(&mut random);
     }
@@ -221,7 +224,8 @@ fn good_sets() {
     let mut random = Random(22);
     let mut accepted = 0;
     for _ in 0..500 {
-        let case = Case::of(numbers_of(&good(&mut random)));
+        let set = if random.next() % 2 == 0 { good(&mut random) } else { masked(&mut random) };
+        let case = Case::of(numbers_of(&set));
         case.all(&mut random);
         accepted += case.plan.is_ok() as u32;
     }
@@ -271,7 +275,7 @@ fn repeated_ids() {
             for j in 0..i {
                 let mut numbers = whole.clone();
                 numbers[0] = count as u64;
-                numbers[8 + 4 * i] = numbers[8 + 4 * j];
+                numbers[FIRST + 4 * i] = numbers[FIRST + 4 * j];
                 let case = Case::of(numbers);
                 assert_eq!(case.set.is_err(), i < count);
                 if i < 8 || j == 0 || i == j + 1 || random.next() % 16 == 0 {
@@ -351,7 +355,7 @@ fn unused_room() {
     for _ in 0..300 {
         let (set, clean) = planned(&mut random, 1);
         let mut numbers = clean.numbers.clone();
-        for at in 8 + 4 * set.tasks.len()..SET {
+        for at in FIRST + 4 * set.tasks.len()..SET {
             numbers[at] = junk(&mut random, at);
         }
         let case = Case::of(numbers);
@@ -360,7 +364,7 @@ fn unused_room() {
         let plan: Vec<u64> = case.figures.iter().map(|n| n.unwrap_or(random.next())).collect();
         case.with(&plan, &mut random);
         clean.with(&plan, &mut random);
-        Case::of(clean.numbers[..8 + 4 * set.tasks.len()].to_vec()).all(&mut random);
+        Case::of(clean.numbers[..FIRST + 4 * set.tasks.len()].to_vec()).all(&mut random);
     }
 }
 
@@ -399,10 +403,11 @@ fn other_plans() {
     for _ in 0..200 {
         let (mut set, case) = planned(&mut random, 2);
         case.with(&last.made(), &mut random);
-        match random.next() % 4 {
+        match random.next() % 5 {
             0 => set.m = random.within(1, 64),
             1 => set.tasks[1].c += 1,
             2 => set.cpmdo += 1,
+            3 => set.masked = Some(set.b() + random.within(0, 2)),
             _ => set.tasks.reverse(),
         }
         let other = Case::of(numbers_of(&set));
@@ -428,7 +433,7 @@ fn short_and_wide() {
     for length in (0..200).chain(PLAN - 200..PLAN) {
         case.checked(&made[..length]);
     }
-    for at in 1..SET {
+    for at in (1..SET).filter(|at| bits(*at) < 64) {
         for high in [1, random.next(), u64::MAX] {
             let mut numbers = case.numbers.clone();
             numbers[at] += high << bits(at);

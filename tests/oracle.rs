@@ -19,7 +19,15 @@ pub struct Set {
     pub ctswo: u64,
     pub resd: u64,
     pub cpmdo: u64,
+    pub masked: Option<u64>,
     pub tasks: Vec<Task>,
+}
+
+impl Set {
+    // The ticks for which a job can hold interrupts off.
+    pub fn b(&self) -> u64 {
+        self.masked.unwrap_or(0)
+    }
 }
 
 pub type Refusal = (u8, usize);
@@ -46,6 +54,7 @@ fn hex_fields(line: &[u8], widths: &[usize]) -> Option<Vec<u64>> {
 enum Line {
     Header(Vec<u64>),
     Task(Vec<u64>),
+    Masked(u64),
     Malformed,
 }
 
@@ -61,6 +70,11 @@ fn classify(line: &[u8], closed: bool) -> Line {
     if line.starts_with(b"02") {
         if let Some(f) = hex_fields(line, &[2, 6, 6, 6]) {
             return Line::Task(f);
+        }
+    }
+    if line.starts_with(b"05") {
+        if let Some(f) = hex_fields(line, &[4]) {
+            return Line::Masked(f[0]);
         }
     }
     Line::Malformed
@@ -79,9 +93,11 @@ pub fn read(text: &[u8]) -> Result<Set, Refusal> {
         match (classify(line, *closed), number) {
             (Line::Malformed, _) => return Err((1, number)),
             (Line::Header(f), 1) => {
-                set = Set { m: f[0], s: f[1], relj: f[2], relo: f[3], ctswo: f[4], resd: f[5], cpmdo: f[6], tasks: vec![] };
+                set = Set { m: f[0], s: f[1], relj: f[2], relo: f[3], ctswo: f[4], resd: f[5], cpmdo: f[6], ..Set::default() };
             }
             (Line::Header(_), _) => return Err((2, number)),
+            (Line::Masked(b), 2) => set.masked = Some(b),
+            (Line::Masked(_), _) => return Err((2, number)),
             (Line::Task(_), 1) => return Err((2, 1)),
             (Line::Task(f), _) => {
                 if set.tasks.len() == 64 {
@@ -98,7 +114,7 @@ pub fn read(text: &[u8]) -> Result<Set, Refusal> {
         return Err((2, 1));
     }
     if set.tasks.is_empty() {
-        return Err((3, 2));
+        return Err((3, lines.len() + 1));
     }
     match figures(&set) {
         Some(refusal) => Err(refusal),
@@ -141,8 +157,11 @@ pub fn lcm(s: u64, periods: impl Iterator<Item = u64>) -> u128 {
     h
 }
 
-pub fn demand(loads: &[Load], t: u64) -> u64 {
-    loads.iter().map(|l| if t < l.d { 0 } else { l.c * ((t - l.d) / l.t + 1) }).sum()
+// The loads' own, and B ticks more from the smallest d up to, not including, the largest.
+pub fn demand(loads: &[Load], b: u64, t: u64) -> u64 {
+    let own: u64 = loads.iter().map(|l| if t < l.d { 0 } else { l.c * ((t - l.d) / l.t + 1) }).sum();
+    let waiting = loads.iter().any(|l| l.d <= t) && loads.iter().any(|l| t < l.d);
+    own + if waiting { b } else { 0 }
 }
 
 pub fn supply(s: u64, l: u64, r: u64, t: u64) -> u64 {
@@ -154,13 +173,13 @@ pub fn supply(s: u64, l: u64, r: u64, t: u64) -> u64 {
 }
 
 // The smallest failing length, by looking at every step of every load up to the horizon.
-pub fn first_failing(loads: &[Load], s: u64, l: u64, r: u64) -> Option<u64> {
+pub fn first_failing(loads: &[Load], b: u64, s: u64, l: u64, r: u64) -> Option<u64> {
     let h = lcm(s, loads.iter().map(|x| x.t)) as u64;
     let mut worst: Option<u64> = None;
     for load in loads {
         let mut t = load.d;
         while t <= h && worst.map_or(true, |w| t < w) {
-            if demand(loads, t) > supply(s, l, r, t) {
+            if demand(loads, b, t) > supply(s, l, r, t) {
                 worst = Some(t);
             }
             t += load.t;
@@ -170,19 +189,35 @@ pub fn first_failing(loads: &[Load], s: u64, l: u64, r: u64) -> Option<u64> {
 }
 
 // The smallest length with the least to spare, by looking at every step of every load up to three horizons.
-pub fn closest(loads: &[Load], s: u64, l: u64, r: u64) -> u64 {
+pub fn closest(loads: &[Load], b: u64, s: u64, l: u64, r: u64) -> u64 {
     let h = lcm(s, loads.iter().map(|x| x.t)) as u64;
     let steps = loads.iter().flat_map(|load| (load.d..=3 * h).step_by(load.t as usize));
-    steps.map(|t| (supply(s, l, r, t) - demand(loads, t), t)).min().unwrap().1
+    steps.map(|t| (supply(s, l, r, t) - demand(loads, b, t), t)).min().unwrap().1
 }
 
 // 1 for yes, 0 for no; the length that it is said of, the demand and the supply there.
-pub fn verdict(loads: &[Load], s: u64, l: u64, r: u64) -> [u64; 4] {
-    let (yes, t) = match first_failing(loads, s, l, r) {
-        None => (1, closest(loads, s, l, r)),
+pub fn verdict(loads: &[Load], b: u64, s: u64, l: u64, r: u64) -> [u64; 4] {
+    let (yes, t) = match first_failing(loads, b, s, l, r) {
+        None => (1, closest(loads, b, s, l, r)),
         Some(t) => (0, t),
     };
-    [yes, t, demand(loads, t), supply(s, l, r, t)]
+    [yes, t, demand(loads, b, t), supply(s, l, r, t)]
+}
+
+// The same by looking at every length up to three horizons: a step is where the demand is more than a tick before.
+pub fn verdict_walked(loads: &[Load], b: u64, s: u64, l: u64, r: u64) -> [u64; 4] {
+    let h = lcm(s, loads.iter().map(|x| x.t)) as u64;
+    let mut least: Option<[u64; 4]> = None;
+    for t in 1..=3 * h {
+        let (asked, given) = (demand(loads, b, t), supply(s, l, r, t));
+        if asked > given {
+            return [0, t, asked, given];
+        }
+        if asked > demand(loads, b, t - 1) && least.map_or(true, |[_, _, w, v]| given - asked < v - w) {
+            least = Some([1, t, asked, given]);
+        }
+    }
+    least.unwrap()
 }
 
 #[derive(Clone, Debug)]
@@ -197,6 +232,7 @@ pub struct Plan {
     pub wholes: Vec<usize>,
     pub loads: Vec<Load>,
     pub loss: u64,
+    pub b: u64,
 }
 
 impl Plan {
@@ -227,7 +263,7 @@ pub fn plan(set: &Set) -> Result<Plan, Refusal> {
         let fits = |held: &Vec<usize>| {
             let mut together: Vec<Load> = held.iter().map(|j| loads[*j]).collect();
             together.push(loads[i]);
-            first_failing(&together, set.s, loss, set.s).is_none()
+            first_failing(&together, set.b(), set.s, loss, set.s).is_none()
         };
         match members.iter().position(fits) {
             Some(q) => {
@@ -244,7 +280,7 @@ pub fn plan(set: &Set) -> Result<Plan, Refusal> {
         .iter()
         .map(|held| {
             let own: Vec<Load> = held.iter().map(|j| loads[*j]).collect();
-            smallest_reserve(&own, set.s, loss)
+            smallest_reserve(&own, set.b(), set.s, loss)
         })
         .collect();
     let mut ring: Vec<usize> = Vec::new();
@@ -267,13 +303,13 @@ pub fn plan(set: &Set) -> Result<Plan, Refusal> {
     if r + whole > set.m as usize {
         return Err((10, r + whole));
     }
-    Ok(Plan { whole, r, reserves, starts, members, placed, ring, wholes, loads, loss })
+    Ok(Plan { whole, r, reserves, starts, members, placed, ring, wholes, loads, loss, b: set.b() })
 }
 
 // Upwards from the least allowed reserve, one by one, until the server passes.
-pub fn smallest_reserve(loads: &[Load], s: u64, loss: u64) -> u64 {
+pub fn smallest_reserve(loads: &[Load], b: u64, s: u64, loss: u64) -> u64 {
     let mut reserve = loss + 1;
-    while reserve < s && first_failing(loads, s, loss, reserve).is_some() {
+    while reserve < s && first_failing(loads, b, s, loss, reserve).is_some() {
         reserve += 1;
     }
     reserve.max(loss + 1).min(s)
@@ -347,13 +383,17 @@ pub fn file(set: &Set) -> String {
         "01{:02X}{:06X}{:04X}{:04X}{:04X}{:04X}{:04X}\n",
         set.m, set.s, set.relj, set.relo, set.ctswo, set.resd, set.cpmdo
     );
+    if let Some(b) = set.masked {
+        out += &format!("05{:04X}\n", b);
+    }
     for t in &set.tasks {
         out += &format!("02{:02X}{:06X}{:06X}{:06X}\n", t.id, t.c, t.d, t.t);
     }
     out
 }
 
-// A set that a caller hands in as numbers: its count, the seven figures of the header, then id, C, D and T of 64 places.
+// A set that a caller hands in as numbers: its count, the seven figures of the header, whether there is a 05 line and its B, then
+// id, C, D and T of 64 places.
 // Row 11: a count that is not 1 to 64, an id that repeats, or a figure with more digits than its field.
 pub fn handed(numbers: &[u64]) -> Result<Set, Refusal> {
     let count = numbers[0];
@@ -362,7 +402,7 @@ pub fn handed(numbers: &[u64]) -> Result<Set, Refusal> {
     }
     let digits = |values: &[u64], widths: &[usize]| values.iter().zip(widths).any(|(v, w)| format!("{:X}", v).len() > *w);
     let header = &numbers[1..8];
-    let tasks: Vec<&[u64]> = numbers[8..].chunks(4).take(count as usize).collect();
+    let tasks: Vec<&[u64]> = numbers[10..].chunks(4).take(count as usize).collect();
     let ids: std::collections::HashSet<u64> = tasks.iter().map(|t| t[0]).collect();
     if ids.len() < tasks.len() || digits(header, &[2, 6, 4, 4, 4, 4, 4]) || tasks.iter().any(|t| digits(t, &[2, 6, 6, 6])) {
         return Err((11, 0));
@@ -375,6 +415,7 @@ pub fn handed(numbers: &[u64]) -> Result<Set, Refusal> {
         ctswo: header[4],
         resd: header[5],
         cpmdo: header[6],
+        masked: if numbers[8] == 0 { None } else { Some(numbers[9]) },
         tasks: tasks.iter().map(|t| Task { id: t[0], c: t[1], d: t[2], t: t[3] }).collect(),
     })
 }
