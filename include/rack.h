@@ -5,7 +5,7 @@
  * memory is read or written only within its length, and what is written must not overlap what is read or what else
  * is written.
  *
- * A task file is the text of document 01: one 01 line, then 02 lines, in hexadecimal. */
+ * A task file is the text of documents 01 and 02: one 01 line, a 05 line or none, then 02 lines, in hexadecimal. */
 #ifndef RACK_H
 #define RACK_H
 
@@ -22,7 +22,7 @@ extern "C" {
 #define RACK_STACK_BYTES 32768
 
 /* Of a task file no more than this is looked at, which is more than any good file has: a caller need not read on. */
-#define RACK_TASKS_BYTES 1534
+#define RACK_TASKS_BYTES 1541
 
 /* The longest text that rack_plan stores. */
 #define RACK_PLAN_BYTES 2647
