@@ -1,2 +1,3 @@
 pub mod JoinLaws
 pub mod TotalLaws
+pub mod SoonestLaws

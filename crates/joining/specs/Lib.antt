@@ -1,2 +1,4 @@
 pub mod Join
+pub mod Kept
 pub mod Totals
+pub mod Soonest

@@ -1,6 +1,10 @@
 // One step of placing by first fit: the server for a task.
-// What it means stands in specs/Join.antt and specs/Totals.antt. The server of each task stands in a slice, of which the first i are
-// placed.
+// What it means stands in specs/Join.antt, specs/Totals.antt and specs/Soonest.antt. The server of each task stands in a slice, of which
+// the first i are placed.
+pub mod soonest; // soonest.rt: the smallest deadline of a server
+
+use soonest::masked_out;
+use taking::due;
 use taking::share;
 use taking::takes_task;
 use tasks::set::Header;
@@ -12,15 +16,17 @@ ghost use Rattle.tasks.specs.Set.{mostTasks};
 ghost use Rattle.members.specs.Server.{Filed};
 ghost use Rattle.taking.specs.Takes.{takes};
 ghost use Rattle.joining.specs.Join.{firstFit, join};
+ghost use Rattle.joining.specs.Soonest.{Soonest};
 ghost use Rattle.joining.specs.Totals.{Totals};
 
 // One step of placing: the lowest-numbered server above lo that takes task i, otherwise a new one. A server whose total leaves no room
-// for the task's share cannot take it, and its members are not looked at.
+// for the task's share, or that B alone keeps it out of, cannot take it, and its members are not looked at.
 pub fn server_for(
     header: Header,
     figures: &[u64],
     placement: &[u64],
     totals: &[u64],
+    soonest: &[u64],
     i: usize,
     lo: u64,
     count: u64,
@@ -29,6 +35,7 @@ pub fn server_for(
     requires { ⌜ Filed header (now figures) (i + 1) horizon ⌝ }
     requires { ⌜ (i ≤ length (now placement)) × (count ≤ mostTasks) ⌝ }
     requires { ⌜ Totals header horizon (loadsOf (now figures) i) (take i (now placement)) (now totals) ⌝ }
+    requires { ⌜ Soonest header (loadsOf (now figures) i) (take i (now placement)) (now soonest) ⌝ }
     ensures { λ r. ⌜ r ≡ join firstFit (takes header (loadsOf (now (figures .entry)) i) (take i (now (placement .entry))) (loadAt (now (figures .entry)) i)) lo count ⌝ }
 {
     let own = share(header, figures, i, horizon);
@@ -36,13 +43,17 @@ pub fn server_for(
         return count + 1;
     }
     let room = horizon - own;
+    let d = due(header, figures, i);
+    let masked = header.masked_ticks() as u64;
     let mut q = lo;
     while q < count {
         let before = q as usize;
         q += 1;
         if totals[before] <= room {
-            if takes_task(header, figures, placement, i, q, horizon) {
-                return q;
+            if !masked_out(d, soonest[before], masked) {
+                if takes_task(header, figures, placement, i, q, horizon) {
+                    return q;
+                }
             }
         }
     }

@@ -1,17 +1,19 @@
--- Laws of the demand of loads where interrupts can be held off: where it gains, that it is lawful, where it rises, when nothing is gained.
+-- Laws of the demand of loads where interrupts can be held off: where it gains, that it is lawful, where it rises, when nothing is gained,
+-- and when B alone is too much.
 -- Assumes nothing.
 use Prim.Native.Nat.{ℕ, suc, _+_, _≤_, _<_, _∣_}
 use mathlib.Core.Path.{_≡_, refl, subst, _∙_}
 use mathlib.Core.List.{List, [], _∷_}
 use mathlib.Core.Logic.{_⊎_, inl, inr, ⊎-elim}
-use native.Mathlib.Nat.{le-trans, le-of-dvd}
+use native.Mathlib.Nat.{le-refl, le-trans, le-of-dvd}
 use native.Mathlib.Omega.{arith}
 use Rattle.laws.proofs.Orders.{le-or-lt, eq-or-ne}
 use Rattle.demand.specs.Load.{Load, Sound, Every}
 use Rattle.demand.specs.Demand.{demand}
 use Rattle.demand.specs.Lawful.{RisesAt, Lawful}
 use Rattle.demand.specs.Steps.{StepOf, Some, Step}
-use Rattle.demand.proofs.Demand.{demand-nil, demand-zero, demand-turn}
+use Rattle.demand.proofs.Claims.{loads-lawful}
+use Rattle.demand.proofs.Demand.{demand-nil, demand-cons, demand-zero, demand-turn}
 use Rattle.demand.proofs.Steps.{rises-at}
 use Rattle.masking.specs.Masking.{soonestOf, soonest, latest, gainAt, gaining, gainOf, maskedDemand}
 use Rattle.masking.proofs.EndsLaws as ends
@@ -141,3 +143,24 @@ masked-steps B (l ∷ ls) e t =
     (λ (stays : demand (l ∷ ls) (suc t) ≤ demand (l ∷ ls) t). inr (omega (arith, gain-rises B (l ∷ ls) t n)))
     (rises-at (l ∷ ls) e t))
     (eq-or-ne (soonest (l ∷ ls)) (suc t))
+
+-- ---- B alone is too much
+
+-- loads of which one is due at a length ask for something there
+asked-at : (x : ℕ) (ls : List Load) → Every Sound ls → Some (λ (l : Load). l .deadline ≡ x) ls → 1 ≤ demand ls x
+asked-at x (l ∷ ls) e s =
+    ⊎-elim
+    (λ (d : l .deadline ≡ x). subst (λ (t : ℕ). 1 ≤ demand (l ∷ ls) t) d (loads-lawful .some l ls (e .0)))
+    (λ r. omega (arith, demand-cons l ls x, asked-at x ls (e .1) r))
+    s
+
+-- where there is a gain and the smallest deadline is at most B, more than that length is asked of it
+pub masked-short : (B : ℕ) (ls : List Load) → Every Sound ls → soonest ls < latest ls → soonest ls ≤ B →
+    (1 ≤ soonest ls) × (soonest ls < maskedDemand B ls (soonest ls))
+unfolding soonest
+masked-short B [] e gain small = absurd (omega (arith, ends.latest-below 0 [] tt))
+masked-short B (l ∷ ls) e gain small =
+    let m = soonest (l ∷ ls) in (
+      ends.soonest-some l ls e,
+      omega (arith, masked-in B (l ∷ ls) m (le-refl m) gain, asked-at m (l ∷ ls) e (ends.soonest-found m (l .deadline) ls refl)),
+    )

@@ -13,8 +13,8 @@ use Rattle.demand.specs.Lawful.{Lawful}
 use Rattle.demand.specs.Passes.{Passes}
 use Rattle.demand.proofs.Demand.{jobs-full}
 use Rattle.demand.proofs.Supply.{supply-all}
-use Rattle.masking.specs.Masking.{latest}
-use Rattle.masking.proofs.MaskedLaws.{masked-above}
+use Rattle.masking.specs.Masking.{soonest, latest}
+use Rattle.masking.proofs.MaskedLaws.{masked-above, masked-short}
 use Rattle.masking.proofs.Claims.{alone-passes}
 use Rattle.verdict.proofs.Horizons.{own-lawful, own-due}
 use Rattle.verdict.proofs.Verdict.{passing-passes, passes-passing}
@@ -78,6 +78,14 @@ module _ (h : Header) (ms : List Load) (ok : Every (Member h) ms) where
           supply-all (h .slot) (serverLoss h ms) (h .slot) H refl,
           total-demand H (serverLoads h ms) (loads-sound h ms ok) (loads-period h ms (λ (p : ℕ). p ∣ H) v),
         )))
+
+    -- nor does a demand that gains at a length of at most B
+    pub masked-fails : soonest (serverLoads h ms) < latest (serverLoads h ms) → soonest (serverLoads h ms) ≤ maskedTicks h → fits h ms ≡ false
+    masked-fails gain small =
+        let at = soonest (serverLoads h ms) in
+        let short = masked-short (maskedTicks h) (serverLoads h ms) (loads-sound h ms ok) gain small in
+        never-true (fits h ms)
+        (λ e. absurd (omega (arith, fits-passes e at (short .0), supply-all (h .slot) (serverLoss h ms) (h .slot) at refl, short .1)))
 
 -- a task alone whose charged cost is no more than its charged deadline fits
 pub alone-fits : (h : Header) (l : Load) → Member h l → 1 ≤ h .slot → Meets (chargedIn h (h .cpmdo) l) → fits h (l ∷ []) ≡ true

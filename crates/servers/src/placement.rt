@@ -1,6 +1,8 @@
 // Placing by first fit in file order: the servers of all tasks.
 // What they mean stands in specs/Placement.antt.
 use joining::server_for;
+use joining::soonest::soonest_with;
+use taking::due;
 use taking::share;
 use tasks::set::Header;
 use tasks::set::TaskSet;
@@ -23,12 +25,24 @@ pub fn place(header: Header, figures: &[u64], n: usize, horizon: u64) -> Placed
     let mut count: u64 = 0;
     let mut placement = [0u64; TaskSet::MOST_TASKS];
     let mut totals = [0u64; TaskSet::MOST_TASKS];
+    let mut soonest = [0u64; TaskSet::MOST_TASKS];
     let mut i: usize = 0;
     while i < n {
-        let q = server_for(header, figures, &placement, &totals, i, 0, count, horizon);
+        let q = server_for(
+            header,
+            figures,
+            &placement,
+            &totals,
+            &soonest,
+            i,
+            0,
+            count,
+            horizon,
+        );
         let at = q as usize - 1;
         placement[i] = q;
         totals[at] += share(header, figures, i, horizon);
+        soonest[at] = soonest_with(soonest[at], due(header, figures, i));
         if count < q {
             count = q;
         }

@@ -1,6 +1,6 @@
 -- A server's members at their places among a file's tasks, as the code finds them: they may be charged as a server, and whether they
 -- fit is the test that is asked with no entry loss.
-use Prim.Native.Nat.{ℕ, zero, suc, _+_, _≤_, _<_}
+use Prim.Native.Nat.{ℕ, zero, suc, _+_, _*_, _≤_, _<_}
 use native.Mathlib.Omega.{arith}
 use mathlib.Core.Path.{_≡_, refl, sym, ap, ap₂, subst, _∙_}
 use mathlib.Core.Bool.{Bool, true, false}
@@ -16,7 +16,7 @@ use Rattle.digits.proofs.Stored.{stored-byte, stored-length}
 use Rattle.demand.specs.Load.{Load, Every, loadAt, loadsOf}
 use Rattle.demand.specs.Lawful.{Lawful}
 use Rattle.demand.specs.Passes.{Passes}
-use Rattle.demand.proofs.Demand.{loads-length, every-snoc, every-front, every-last}
+use Rattle.demand.proofs.Demand.{loads-length, every-snoc, every-front, every-last, every-at}
 use Rattle.demand.proofs.Supply.{supply-all}
 use Rattle.verdict.specs.Verdict.{passing}
 use Rattle.verdict.proofs.Verdict.{passing-passes, passes-passing}
@@ -171,6 +171,10 @@ fits-whole h members ok some =
     same-whole (serverDemand h members) (serverHorizon h members) (h .slot) 0 (serverLoss h members) (server-lawful h members ok some) some
 
 -- ---- a server with a task more
+
+-- the last task of a file has its figures there, and may be charged
+pub filed-last : {h : Header} {figures : List ℕ} {H : ℕ} (i : ℕ) → Filed h figures (i + 1) H → (3 * i + 3 ≤ length figures) × Member h (loadAt figures i)
+filed-last {h} {figures} i file = (omega (arith, file .there), every-at figures (Member h) (i + 1) (omega arith) (file .members))
 
 -- the members of a server with the task
 pub members-with : (h : Header) (done : List Load) (placement : List ℕ) (l : Load) → Every (Member h) (done ++ (l ∷ [])) →

@@ -1,2 +1,3 @@
 pub mod Takes
 pub mod Totals
+pub mod Soonest

@@ -1,16 +1,18 @@
-// Whether a server takes a task, and what the task asks of the horizon.
-// What they mean stands in specs/Takes.antt and specs/Totals.antt. The server of each task stands in a slice, of which the first i are
-// placed.
+// Whether a server takes a task, what the task asks of the horizon, and its deadline.
+// What they mean stands in specs/Takes.antt, specs/Totals.antt and specs/Soonest.antt. The server of each task stands in a slice, of
+// which the first i are placed.
 use places::places_of;
 use served::charge_server;
 use tasks::set::Header;
 use tasks::set::TaskSet;
 ghost use mathlib.Core.Path.{_≡_};
 ghost use mathlib.Core.List.{[], _∷_};
-ghost use Prim.Native.Nat.{_+_, _≤_};
+ghost use Prim.Native.Nat.{_+_, _*_, _≤_};
 ghost use lib.ListN.{length, take};
 ghost use Rattle.demand.specs.Load.{loadAt, loadsOf};
+ghost use Rattle.loads.specs.Charge.{Member};
 ghost use Rattle.members.specs.Server.{Filed};
+ghost use Rattle.taking.specs.Soonest.{soonestIn};
 ghost use Rattle.taking.specs.Takes.{takes};
 ghost use Rattle.taking.specs.Totals.{totalIn};
 
@@ -27,6 +29,14 @@ pub fn share(header: Header, figures: &[u64], i: usize, horizon: u64) -> u64
         header.cpmdo as u64,
     );
     cost * (horizon / figures[at + 2])
+}
+
+// The effective deadline of task i: the smallest of a server that it has alone.
+pub fn due(header: Header, figures: &[u64], i: usize) -> u64
+    requires { ⌜ (3 * i + 3 ≤ length (now figures)) × Member header (loadAt (now figures) i) ⌝ }
+    ensures { λ r. ⌜ r ≡ soonestIn header (loadAt (now (figures .entry)) i ∷ []) ⌝ }
+{
+    charging::charged_deadline(figures[3 * i + 1], header.relj as u64)
 }
 
 // Server q passes with task i added: its members and the task behind them, charged, by their own horizon. A whole processor has no

@@ -7,17 +7,17 @@ use native.Mathlib.Nat.{div-le-self, mul-le-mul}
 use native.Mathlib.Omega.{arith}
 use Rattle.demand.specs.Load.{Load, loadAt}
 use Rattle.charging.specs.Charging.{effectiveCost}
-use Rattle.demand.proofs.Demand.{every-at}
 use Rattle.tasks.specs.declared.set.Header.{Header}
 use Rattle.loads.specs.Charge.{cacheOf, chargedIn, serverLoads, Member}
 use Rattle.members.specs.Server.{totalOf}
 use Rattle.taking.specs.Totals.{totalIn}
+use Rattle.taking.proofs.ChargedLaws.{filed-last}
 use Rattle.taking.proofs.share.Statement.{statement}
 use Rattle.taking.proofs.share.Tie as tie
 
 -- the task may be charged
 member : (c : tie.Start) → Member (c .args .header) (loadAt (c .args .figures .now) (c .args .i))
-member c = every-at (c .args .figures .now) (Member (c .args .header)) (c .args .i + 1) (omega arith) (c .pre .members)
+member c = filed-last (c .args .i) (c .pre) .1
 
 -- the share of one task is its total
 alone : (h : Header) (H : ℕ) (l : Load) → effectiveCost (l .cost) (h .relo) (h .ctswo) (h .cpmdo) * (H / l .period) ≡ totalIn h H (l ∷ [])

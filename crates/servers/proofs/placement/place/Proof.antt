@@ -1,6 +1,7 @@
--- `place` meets its contract. The loop's invariant: the first i tasks are placed, the servers are counted, and their totals are kept.
+-- `place` meets its contract. The loop's invariant: the first i tasks are placed, the servers are counted, and their totals and smallest
+-- deadlines are kept.
 -- The measure is what is left of n. Assumes nothing.
-use Prim.Native.Nat.{ℕ, suc, _+_, _-_, _≤_, _<_, max}
+use Prim.Native.Nat.{ℕ, _+_, _-_, _≤_, _<_, max}
 use mathlib.Core.Path.{_≡_, refl, sym, ap, subst, _∙_}
 use mathlib.Core.Logic.{⊎-elim}
 use mathlib.Core.List.{List}
@@ -10,21 +11,25 @@ use lib.ListN.{set, take, getD}
 use Rattle.demand.specs.Load.{Load, loadAt, loadsOf}
 use Rattle.demand.proofs.Demand.{loads-next}
 use Rattle.tasks.specs.Set.{mostTasks}
+use Rattle.members.specs.Server.{Filed}
 use Rattle.members.proofs.FiledLaws.{filed-first}
 use Rattle.places.specs.Places.{chosen}
 use Rattle.servers.specs.Placement.{fit, placementOf, placed}
 use Rattle.taking.specs.Totals.{totalIn}
+use Rattle.taking.proofs.ChargedLaws.{filed-last}
+use Rattle.joining.specs.Soonest.{soonestWith}
+use Rattle.servers.proofs.KeptLaws.{kept-at}
 use Rattle.servers.proofs.TotalLaws.{joined-total}
-use Rattle.servers.proofs.SoFarLaws.{SoFar, so-far-none, so-far-room, so-far-few, so-far-totals, so-far-fit, so-far-takes, so-far-range, so-far-next, so-far-placed}
+use Rattle.servers.proofs.SoFarLaws.{SoFar, so-far-none, so-far-room, so-far-few, so-far-totals, so-far-soonest, so-far-fit, so-far-takes, so-far-range, so-far-next, so-far-placed}
 use Rattle.servers.proofs.placement.place.Statement.{statement}
 use Rattle.servers.proofs.placement.place.Tie as tie
 
 abbrev Inv-loop : tie.InvT-loop
-Inv-loop header figures n horizon count₀ placement₀ totals₀ i₀ count placement totals i =
-    (i ≤ n) × SoFar header horizon (loadsOf figures i) i placement totals count
+Inv-loop header figures n horizon count₀ placement₀ totals₀ soonest₀ i₀ count placement totals soonest i =
+    (i ≤ n) × SoFar header horizon (loadsOf figures i) i placement totals soonest count
 
 abbrev μ-loop : tie.MeasureT-loop
-μ-loop header figures n horizon count₀ placement₀ totals₀ i₀ count placement totals i = n - i
+μ-loop header figures n horizon count₀ placement₀ totals₀ soonest₀ i₀ count placement totals soonest i = n - i
 
 loop-holds : tie.Need-loop-holds Inv-loop μ-loop
 unfolding loadsOf
@@ -36,90 +41,121 @@ slice-aggregate-server-for c = sym (so-far-room (c .before .before .loop .inv .1
 slice-aggregate-server-for-2 : tie.Need-slice-aggregate-server-for-2 Inv-loop μ-loop
 slice-aggregate-server-for-2 c = sym (c .before .before .before .loop .inv .1 .totals-are .room)
 
+slice-aggregate-server-for-3 : tie.Need-slice-aggregate-server-for-3 Inv-loop μ-loop
+slice-aggregate-server-for-3 c = sym (c .before .before .before .before .loop .inv .1 .soonest-are .room)
+
+-- the tasks up to the next are a file
+module _ (c : tie.In-loop Inv-loop μ-loop) where
+  abbrev start : tie.Start Inv-loop μ-loop
+  start = c .before .before .before
+
+  file : Filed (start .args .header) (start .args .figures .now) (c .before .loop .i + 1) (start .args .horizon)
+  file = filed-first (c .before .loop .i + 1) (omega (arith, c .loop-test .taken)) (start .pre)
+
+  below : c .before .loop .i < mostTasks
+  below = omega (arith, c .loop-test .taken, start .pre .few)
+
 server-for-requires : tie.Need-server-for-requires Inv-loop μ-loop
 server-for-requires c κs =
-    let at = c .before .before .before .loop in
-    let w = at .inv .1 in
-    let test = c .before .before .loop-test in
-    (filed-first (at .i + 1) (omega (arith, test .taken)) (c .before .before .before .before .before .pre), ((omega (arith, w .few, so-far-room w), omega (arith, w .few, so-far-few w)), so-far-totals w))
+    let turn = c .before .before .before in
+    let w = turn .before .loop .inv .1 in
+    (file turn, ((omega (arith, w .few, so-far-room w), omega (arith, w .few, so-far-few w)), (so-far-totals w, so-far-soonest w)))
 
 -- the next task, and the server that the step answers for it
 module _ (c : tie.After-server-for Inv-loop μ-loop) where
-  abbrev start : tie.Start Inv-loop μ-loop
-  start = c .before .before .before .before .before .before
+  abbrev turn : tie.In-loop Inv-loop μ-loop
+  turn = c .before .before .before .before
 
   abbrev next : Load
-  next = loadAt (start .args .figures .now) (c .before .before .before .before .loop .i)
+  next = loadAt (start turn .args .figures .now) (turn .before .loop .i)
 
-  picked : c .server-for .result ≡ fit (start .args .header) (loadsOf (start .args .figures .now) (c .before .before .before .before .loop .i)) (take (c .before .before .before .before .loop .i) (c .before .before .before .before .loop .placement)) next
-  picked = so-far-fit (c .before .before .before .before .loop .inv .1) next (c .server-for .result) (c .server-for .ensures)
+  picked : c .server-for .result ≡ fit (start turn .args .header) (loadsOf (start turn .args .figures .now) (turn .before .loop .i)) (take (turn .before .loop .i) (turn .before .loop .placement)) next
+  picked = so-far-fit (turn .before .loop .inv .1) next (c .server-for .result) (c .server-for .ensures)
 
-  range : (1 ≤ c .server-for .result) × (c .server-for .result ≤ c .before .before .before .before .loop .i + 1)
-  range = so-far-range (c .before .before .before .before .loop .inv .1) next (c .server-for .result) picked
+  range : (1 ≤ c .server-for .result) × (c .server-for .result ≤ turn .before .loop .i + 1)
+  range = so-far-range (turn .before .loop .inv .1) next (c .server-for .result) picked
 
-  below : c .before .before .before .before .loop .i < mostTasks
-  below = omega (arith, c .before .before .before .loop-test .taken, start .pre .few)
+  -- its place in the rows
+  in-row : c .server-for .result - 1 < mostTasks
+  in-row = omega (arith, range .0, range .1, below turn)
 
 sub-at : tie.Need-sub-at Inv-loop μ-loop
 sub-at c = omega (arith, range c .0)
 
 mul-placement : tie.Need-mul-placement Inv-loop μ-loop
-mul-placement c = omega (arith, below c)
+mul-placement c = omega (arith, below (turn c))
 
 array-write-placement : tie.Need-array-write-placement Inv-loop μ-loop
-array-write-placement c = omega (arith, below c)
+array-write-placement c = omega (arith, below (turn c))
 
 share-requires : tie.Need-share-requires Inv-loop μ-loop
-share-requires c κs = filed-first (c .before .before .before .before .loop .i + 1) (omega (arith, c .before .before .before .loop-test .taken)) (start c .pre)
+share-requires c κs = file (turn c)
 
 mul-totals : tie.Need-mul-totals Inv-loop μ-loop
-mul-totals c = omega (arith, range (c .before) .1, below (c .before))
+mul-totals c = omega (arith, in-row (c .before))
 
 array-read-totals : tie.Need-array-read-totals Inv-loop μ-loop
-array-read-totals c = omega (arith, range (c .before) .0, range (c .before) .1, below (c .before))
+array-read-totals c = omega (arith, in-row (c .before))
 
 add-totals : tie.Need-add-totals Inv-loop μ-loop
 add-totals c =
-    let s = start (c .before) in
-    let at = c .before .before .before .before .before .loop in
-    let w = at .inv .1 in
+    let at = turn (c .before) in
+    let s = start at in
+    let w = at .before .loop .inv .1 in
     let q = c .before .server-for .result in
-    let file = filed-first (at .i + 1) (omega (arith, c .before .before .before .before .loop-test .taken)) (s .pre) in
-    let done = loadsOf (s .args .figures .now) (at .i) in
-    let front = take (at .i) (at .placement) in
-    let here : suc (q - 1) ≡ q = omega (arith, range (c .before) .0) in
-    let total : getD (at .totals) (q - 1) 0 ≡ totalIn (s .args .header) (s .args .horizon) (chosen done front q) =
-    so-far-totals w .each (q - 1) (omega (arith, range (c .before) .1, below (c .before))) ∙ ap (λ (x : ℕ). totalIn (s .args .header) (s .args .horizon) (chosen done front x)) here in
+    let done = loadsOf (s .args .figures .now) (at .before .loop .i) in
+    let front = take (at .before .loop .i) (at .before .loop .placement) in
+    let total : getD (at .before .loop .totals) (q - 1) 0 ≡ totalIn (s .args .header) (s .args .horizon) (chosen done front q) =
+    kept-at (so-far-totals w) (range (c .before) .0) (omega (arith, in-row (c .before))) refl in
     omega (
       arith,
       total,
       c .share .ensures,
       c .share .ok,
-      file .short,
-      joined-total (s .args .header) (s .args .horizon) done front (next (c .before)) q (file .slot) (file .some)
-          (rw (sym (loads-next (s .args .figures .now) (at .i))) (file .members)) (rw (sym (loads-next (s .args .figures .now) (at .i))) (file .of-periods))
+      file at .short,
+      joined-total (s .args .header) (s .args .horizon) done front (next (c .before)) q (file at .slot) (file at .some)
+          (rw (sym (loads-next (s .args .figures .now) (at .before .loop .i))) (file at .members))
+          (rw (sym (loads-next (s .args .figures .now) (at .before .loop .i))) (file at .of-periods))
           (so-far-takes w (next (c .before)) q (picked (c .before))),
     )
 
 array-write-totals : tie.Need-array-write-totals Inv-loop μ-loop
-array-write-totals c = omega (arith, range (c .before) .0, range (c .before) .1, below (c .before))
+array-write-totals c = omega (arith, in-row (c .before))
+
+mul-soonest-with : tie.Need-mul-soonest-with Inv-loop μ-loop
+mul-soonest-with c = omega (arith, in-row (c .before))
+
+array-read-soonest-with : tie.Need-array-read-soonest-with Inv-loop μ-loop
+array-read-soonest-with c = omega (arith, in-row (c .before))
+
+due-requires : tie.Need-due-requires Inv-loop μ-loop
+due-requires c κs = let at = turn (c .before) in filed-last (at .before .loop .i) (file at)
+
+mul-soonest : tie.Need-mul-soonest Inv-loop μ-loop
+mul-soonest c = omega (arith, in-row (c .before .before .before))
+
+array-write-soonest : tie.Need-array-write-soonest Inv-loop μ-loop
+array-write-soonest c = omega (arith, in-row (c .before .before .before))
 
 -- the servers are counted again
-recounted : (c : tie.Joined1 Inv-loop μ-loop) → c .if1 .count ≡ max (c .before .before .before .before .before .before .loop .count) (c .before .before .server-for .result)
+recounted : (c : tie.Joined1 Inv-loop μ-loop) → c .if1 .count ≡ max (turn (c .before .before .before .before) .before .loop .count) (c .before .before .before .before .server-for .result)
 recounted c = ⊎-elim (λ w. omega (arith, w .0 .taken, w .1)) (λ w. omega (arith, w .0 .left, w .1)) (c .if1 .came)
 
 loop-again : tie.Need-loop-again Inv-loop μ-loop
 loop-again c =
-    let picks = c .before .before in
-    let s = start picks in
-    let at = c .before .before .before .before .before .before .loop in
+    let picks = c .before .before .before .before in
+    let s = start (turn picks) in
+    let at = turn picks .before .loop in
     let q = picks .server-for .result in
-    let more = getD (at .totals) (q - 1) 0 + c .before .share .result in (
-      omega (arith, c .before .before .before .before .before .loop-test .taken),
-      subst (λ (ls : List Load). SoFar (s .args .header) (s .args .horizon) ls (at .i + 1) (set (at .placement) (at .i) q) (set (at .totals) (q - 1) more) (c .if1 .count))
+    let total = getD (at .totals) (q - 1) 0 + c .before .before .before .share .result in
+    let least = c .before .soonest-with .result in (
+      omega (arith, turn picks .loop-test .taken),
+      subst (λ (ls : List Load). SoFar (s .args .header) (s .args .horizon) ls (at .i + 1) (set (at .placement) (at .i) q) (set (at .totals) (q - 1) total) (set (at .soonest) (q - 1) least) (c .if1 .count))
           (sym (loads-next (s .args .figures .now) (at .i)))
-          (so-far-next (at .inv .1) (next picks) q (q - 1) (c .if1 .count) more (below picks) (picked picks) refl (recounted c)
-          (ap (λ (x : ℕ). getD (at .totals) (q - 1) 0 + x) (c .before .share .ensures))),
+          (so-far-next (at .inv .1) (next picks) q (q - 1) (c .if1 .count) total least (below (turn picks))
+          (filed-first (at .i) (omega (arith, turn picks .loop-test .taken)) (s .pre) .members) (picked picks) refl (recounted c)
+          (ap (λ (x : ℕ). getD (at .totals) (q - 1) 0 + x) (c .before .before .before .share .ensures))
+          (c .before .soonest-with .ensures ∙ ap (soonestWith (getD (at .soonest) (q - 1) 0)) (c .before .before .due .ensures))),
     )
 
 returns : tie.Need-returns Inv-loop μ-loop
@@ -138,6 +174,7 @@ place-spec =
     loop-holds
     slice-aggregate-server-for
     slice-aggregate-server-for-2
+    slice-aggregate-server-for-3
     server-for-requires
     sub-at
     mul-placement
@@ -147,6 +184,12 @@ place-spec =
     array-read-totals
     add-totals
     array-write-totals
+    mul-soonest-with
+    array-read-soonest-with
+    due-requires
+    (λ c κs. search needs)
+    mul-soonest
+    array-write-soonest
     (λ c. search needs)
     (λ c. search needs)
     loop-again
