@@ -5,7 +5,7 @@ use mathlib.Core.List.{List, [], _∷_, _++_}
 use lib.ListN.{length, getD, take, replicate}
 use Rattle.frames.specs.declared.table.Row.{Row}
 use Rattle.frames.specs.declared.table.Frame.{Frame}
-use Rattle.frames.specs.declared.table.Frame.the-variants.{Header, Task, Masked, Plan, Server, Placed, Processor, Refused, Switch}
+use Rattle.frames.specs.declared.table.Frame.the-variants.{Header, Task, Masked, Interrupt, Plan, Server, Placed, Processor, Refused, Switch}
 
 -- the byte LF, which closes a line
 abbrev pub LF : ℕ
@@ -15,12 +15,13 @@ LF = 10
 abbrev pub Shape : Type 0
 Shape = List ℕ × List ℕ
 
--- the rows of the table: 01, 02, 05, 11, 12, 13, 14, 1F, 21
+-- the rows of the table: 01, 02, 05, 07, 11, 12, 13, 14, 1F, 21
 abbrev pub rows : List Shape
 rows =
     (48 ∷ 49 ∷ [], 2 ∷ 6 ∷ 4 ∷ 4 ∷ 4 ∷ 4 ∷ 4 ∷ [])
     ∷ (48 ∷ 50 ∷ [], 2 ∷ 6 ∷ 6 ∷ 6 ∷ [])
     ∷ (48 ∷ 53 ∷ [], 4 ∷ [])
+    ∷ (48 ∷ 55 ∷ [], 2 ∷ 6 ∷ 6 ∷ 6 ∷ 4 ∷ [])
     ∷ (49 ∷ 49 ∷ [], 2 ∷ 2 ∷ 2 ∷ 6 ∷ 8 ∷ [])
     ∷ (49 ∷ 50 ∷ [], 2 ∷ 6 ∷ 8 ∷ 2 ∷ [])
     ∷ (49 ∷ 51 ∷ [], 2 ∷ 2 ∷ [])
@@ -31,19 +32,20 @@ rows =
 
 -- the frames in the table's order
 abbrev pub allFrames : List Frame
-allFrames = Header ∷ Task ∷ Masked ∷ Plan ∷ Server ∷ Placed ∷ Processor ∷ Refused ∷ Switch ∷ []
+allFrames = Header ∷ Task ∷ Masked ∷ Interrupt ∷ Plan ∷ Server ∷ Placed ∷ Processor ∷ Refused ∷ Switch ∷ []
 
 -- the index of a frame in the table
 abbrev pub indexOf : Frame → ℕ
 indexOf Header = 0
 indexOf Task = 1
 indexOf Masked = 2
-indexOf Plan = 3
-indexOf Server = 4
-indexOf Placed = 5
-indexOf Processor = 6
-indexOf Refused = 7
-indexOf Switch = 8
+indexOf Interrupt = 3
+indexOf Plan = 4
+indexOf Server = 5
+indexOf Placed = 6
+indexOf Processor = 7
+indexOf Refused = 8
+indexOf Switch = 9
 
 unfoldable pub kindOf : Frame → List ℕ
 kindOf frame = getD rows (indexOf frame) ([], []) .0

@@ -8,6 +8,7 @@ pub enum Frame {
     Header,
     Task,
     Masked,
+    Interrupt,
     Plan,
     Server,
     Placed,
@@ -17,7 +18,7 @@ pub enum Frame {
 }
 
 // The number of kinds, and the most fields that one of them has.
-pub const KINDS: usize = 9;
+pub const KINDS: usize = 10;
 
 pub const MOST_FIELDS: usize = 7;
 
@@ -33,6 +34,7 @@ pub const FRAMES: [Frame; KINDS] = [
     Frame::Header,
     Frame::Task,
     Frame::Masked,
+    Frame::Interrupt,
     Frame::Plan,
     Frame::Server,
     Frame::Placed,
@@ -60,6 +62,13 @@ const MASKED: Row = Row {
     fields: 1,
     widths: [4, 0, 0, 0, 0, 0, 0],
     starts: [2, 6, 6, 6, 6, 6, 6, 6],
+};
+
+const INTERRUPT: Row = Row {
+    kind: *b"07",
+    fields: 5,
+    widths: [2, 6, 6, 6, 4, 0, 0],
+    starts: [2, 4, 10, 16, 22, 26, 26, 26],
 };
 
 const PLAN: Row = Row {
@@ -108,6 +117,7 @@ pub const TABLE: [Row; KINDS] = [
     HEADER,
     TASK,
     MASKED,
+    INTERRUPT,
     PLAN,
     SERVER,
     PLACED,
@@ -124,6 +134,7 @@ pub fn row_of(frame: Frame) -> Row
         Frame::Header => HEADER,
         Frame::Task => TASK,
         Frame::Masked => MASKED,
+        Frame::Interrupt => INTERRUPT,
         Frame::Plan => PLAN,
         Frame::Server => SERVER,
         Frame::Placed => PLACED,

@@ -51,7 +51,7 @@ module _ {A : Type 0} (f : ℕ → A) where
   up-length (suc n) = omega (arith, length-append (upTo f n) (f (suc n) ∷ []), up-length n)
 
   -- f (n + 1) comes next
-  up-more : (n : ℕ) → upTo f (n + 1) ≡ upTo f n ++ (f (n + 1) ∷ [])
+  pub up-more : (n : ℕ) → upTo f (n + 1) ≡ upTo f n ++ (f (n + 1) ∷ [])
   unfolding upTo
   up-more n = rw (add-one n)
 

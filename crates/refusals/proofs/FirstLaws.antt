@@ -25,6 +25,11 @@ pub first-done : (a b : Outcome) → firstOf a b ≡ Done → (a ≡ Done) × (b
 first-done Done b e = (refl, e)
 first-done (Refused r) b e = done-refused (sym e)
 
+-- nothing refuses behind it
+pub first-none : (a : Outcome) → firstOf a Done ≡ a
+first-none Done = refl
+first-none (Refused r) = refl
+
 -- in what order several are taken two by two does not matter
 pub first-assoc : (a b c : Outcome) → firstOf (firstOf a b) c ≡ firstOf a (firstOf b c)
 first-assoc Done b c = refl

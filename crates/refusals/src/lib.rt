@@ -1,4 +1,4 @@
-// The refusals of document 01 as one enum, each with what its place needs.
+// The refusals of documents 01 and 02 as one enum, each with what its place needs.
 // `Outcome` answers for what is done or refused, `Written` for a text of so many bytes at a buffer's start.
 ghost use mathlib.Core.Path.{_≡_};
 ghost use Rattle.refusals.specs.Refused.{numberOf, placeOf};
@@ -16,6 +16,7 @@ pub enum Refusal {
     Full(u8),
     Ask,
     Room,
+    Alone(u8),
 }
 
 pub enum Outcome {
@@ -44,6 +45,7 @@ pub fn number(refusal: Refusal) -> u64
         Refusal::Full(_) => 10,
         Refusal::Ask => 11,
         Refusal::Room => 12,
+        Refusal::Alone(_) => 13,
     }
 }
 
@@ -63,5 +65,6 @@ pub fn place(refusal: Refusal) -> u8
         Refusal::Full(k) => k,
         Refusal::Ask => 0,
         Refusal::Room => 0,
+        Refusal::Alone(k) => k,
     }
 }

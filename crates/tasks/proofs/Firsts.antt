@@ -5,14 +5,13 @@ use mathlib.Core.List.{List, [], _∷_}
 use mathlib.Core.Bool.{Bool, true, false, cond}
 use mathlib.Core.Path.{_≡_, refl}
 use lib.ListN.{length}
-use Rattle.tasks.specs.declared.set.Task.{Task}
 use Rattle.refusals.specs.declared.Refusal.{Refusal}
 use Rattle.refusals.specs.declared.Outcome.the-variants.{Done, Refused}
 use Rattle.tasks.specs.Search.{firstFrom, atTask}
 
-module _ (p : Task → Bool) where
+module _ {A : Type 0} (p : A → Bool) where
   -- the first is one of them, or 0
-  pub first-within : (k : ℕ) (ts : List Task) → firstFrom p k ts ≤ k + length ts
+  pub first-within : (k : ℕ) (ts : List A) → firstFrom p k ts ≤ k + length ts
   unfolding firstFrom
   first-within k [] = omega arith
   first-within k (t ∷ ts) = picked (p t) (first-within (suc k) ts)

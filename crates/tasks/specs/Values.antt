@@ -1,9 +1,10 @@
--- The figures of a header and of a task, in the order of their lines' fields.
--- Document 01, "Field widths in digits".
+-- The figures of a header, of a task and of an interrupt, in the order of their lines' fields.
+-- Document 01, "Field widths in digits"; document 02, Req 08.
 use Prim.Native.Nat.{ℕ}
 use mathlib.Core.List.{List, [], _∷_}
 use Rattle.tasks.specs.declared.set.Header.{Header}
 use Rattle.tasks.specs.declared.set.Task.{Task}
+use Rattle.tasks.specs.declared.set.Interrupt.{Interrupt}
 
 abbrev pub headerValues : Header → List ℕ
 headerValues h =
@@ -11,3 +12,6 @@ headerValues h =
 
 abbrev pub taskValues : Task → List ℕ
 taskValues t = t .id ∷ t .cost ∷ t .deadline ∷ t .period ∷ []
+
+abbrev pub interruptValues : Interrupt → List ℕ
+interruptValues i = i .processor ∷ i .cost ∷ i .deadline ∷ i .period ∷ i .jitter ∷ []

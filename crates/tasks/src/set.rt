@@ -1,7 +1,7 @@
-// The task set: the board's figures and the tasks in file order, with the limits of document 01 as its constants.
+// The task set: the board's figures, the tasks and the interrupts, each in file order, with the limits of documents 01 and 02 as its constants.
 // A set may also be built by a caller, so its types hold more than a file's fields do.
 ghost use mathlib.Core.Path.{_≡_};
-ghost use Rattle.tasks.specs.Set.{zeroSet, maskedTicks, withMasked};
+ghost use Rattle.tasks.specs.Set.{zeroSet, noInterrupts, maskedTicks, withMasked};
 
 // The figure of an optional line, or that there is no such line.
 pub enum Optional {
@@ -28,14 +28,31 @@ pub struct Task {
     pub period: u32,
 }
 
+// The figures of an 07 line: an interrupt's processor, cost, deadline, period and jitter.
+pub struct Interrupt {
+    pub cost: u32,
+    pub deadline: u32,
+    pub period: u32,
+    pub jitter: u16,
+    pub processor: u8,
+}
+
+pub struct Interrupts {
+    pub count: usize,
+    pub each: [Interrupt; TaskSet::MOST_INTERRUPTS],
+}
+
 pub struct TaskSet {
     pub header: Header,
     pub count: usize,
     pub tasks: [Task; TaskSet::MOST_TASKS],
+    pub interrupts: Interrupts,
 }
 
 impl TaskSet {
     pub const MOST_TASKS: usize = 64;
+
+    pub const MOST_INTERRUPTS: usize = 32;
 
     pub const MOST_PROCESSORS: u8 = 64;
 
@@ -65,6 +82,24 @@ impl TaskSet {
                 deadline: 0,
                 period: 0,
             }; TaskSet::MOST_TASKS],
+            interrupts: Interrupts::none(),
+        }
+    }
+}
+
+impl Interrupts {
+    pub fn none() -> Interrupts
+        ensures { λ r. ⌜ r ≡ noInterrupts ⌝ }
+    {
+        Interrupts {
+            count: 0,
+            each: [Interrupt {
+                processor: 0,
+                cost: 0,
+                deadline: 0,
+                period: 0,
+                jitter: 0,
+            }; TaskSet::MOST_INTERRUPTS],
         }
     }
 }

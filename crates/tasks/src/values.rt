@@ -1,8 +1,9 @@
-// The figures of a header and of a task as the values of their lines' fields.
+// The figures of a header, of a task and of an interrupt as the values of their lines' fields.
 use crate::set::Header;
+use crate::set::Interrupt;
 use crate::set::Task;
 ghost use mathlib.Core.Path.{_≡_};
-ghost use Rattle.tasks.specs.Values.{headerValues, taskValues};
+ghost use Rattle.tasks.specs.Values.{headerValues, taskValues, interruptValues};
 
 pub fn header_values(header: Header) -> [u64; 7]
     ensures { λ r. ⌜ r ≡ headerValues header ⌝ }
@@ -26,5 +27,17 @@ pub fn task_values(task: Task) -> [u64; 4]
         task.cost as u64,
         task.deadline as u64,
         task.period as u64,
+    ]
+}
+
+pub fn interrupt_values(interrupt: Interrupt) -> [u64; 5]
+    ensures { λ r. ⌜ r ≡ interruptValues interrupt ⌝ }
+{
+    [
+        interrupt.processor as u64,
+        interrupt.cost as u64,
+        interrupt.deadline as u64,
+        interrupt.period as u64,
+        interrupt.jitter as u64,
     ]
 }

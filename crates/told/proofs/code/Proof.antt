@@ -1,4 +1,4 @@
--- `told::code` meets its contract: a refusal's number is at most 12, and its place a byte. Assumes nothing.
+-- `told::code` meets its contract: a refusal's number is at most 13, and its place a byte. Assumes nothing.
 use Prim.Native.Nat.{_≤_, _<_}
 use native.Mathlib.Omega.{arith}
 use Rattle.told.proofs.ToldLaws.{number-row}
@@ -6,8 +6,8 @@ use borrow.Author.Needs.{needs}
 use Rattle.told.proofs.code.Statement.{statement}
 use Rattle.told.proofs.code.Tie as tie
 
--- a number of at most 12 and a place of one byte
-small : (c : tie.After-place) → (c .before .number .result ≤ 12) × (c .place .result < 256)
+-- a number of at most 13 and a place of one byte
+small : (c : tie.After-place) → (c .before .number .result ≤ 13) × (c .place .result < 256)
 small c = (omega (arith, number-row (c .before .before .args .refusal) .1, c .before .number .ensures), omega (arith, c .place .ok))
 
 mul-result : tie.Need-mul-result

@@ -42,10 +42,15 @@ returns-9 : tie.Need-returns-9
 unfolding kindOf widthsOf sum front rowOf
 returns-9 c = sym (ap rowOf (c .enum-told9 .given .1))
 
+returns-10 : tie.Need-returns-10
+unfolding kindOf widthsOf sum front rowOf
+returns-10 c = sym (ap rowOf (c .enum-told10 .given .1))
+
 pub row-of-spec : {M : Type 1} → statement M
 row-of-spec =
     tie.close
     (tie.spec
+    (λ c. search needs)
     (λ c. search needs)
     (λ c. search needs)
     (λ c. search needs)
@@ -63,4 +68,5 @@ row-of-spec =
     returns-6
     returns-7
     returns-8
-    returns-9)
+    returns-9
+    returns-10)
