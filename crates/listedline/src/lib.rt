@@ -15,7 +15,7 @@ ghost use Rattle.frameread.specs.Line.{formed};
 ghost use Rattle.frames.specs.declared.table.Frame.{Frame};
 ghost use Rattle.tasks.specs.Search.{some};
 ghost use Rattle.taskfile.specs.File.{lineOutcome, taskAt, tasksAmong};
-ghost use Rattle.taskfile.specs.Taken.{Taken, idsOf};
+ghost use Rattle.taskfile.specs.Taken.{Tasked, idsOf};
 ghost use Rattle.listedline.specs.Answer.{taskOr, ofTask};
 
 pub enum TaskLine {
@@ -59,9 +59,9 @@ fn holds_id(ids: &[u8], id: u8) -> bool
     false
 }
 
-// An 02 line, behind so many lines whose tasks have these ids.
+// An 02 line, behind so many lines whose tasks have these ids, with no 07 line among them.
 pub fn listed_line(text: &[u8], at: usize, lines: usize, ids: &[u8]) -> TaskLine
-    requires { ⌜ Taken (now text) lines at ⌝ }
+    requires { ⌜ Tasked (now text) lines at ⌝ }
     requires { ⌜ now ids ≡ idsOf (tasksAmong (now text) lines) ⌝ }
     requires { ⌜ formed Frame.Task (drop at (now text)) ≡ true ⌝ }
     ensures { λ r. ⌜ r ≡ taskOr (lineOutcome (now (text .entry)) (lines + 1)) (taskAt (drop at (now (text .entry)))) ⌝ }

@@ -3,16 +3,19 @@
 use frames::table::Frame;
 use framesizes::overflows;
 use tasks::set::Header;
+use tasks::set::Interrupt;
+use tasks::set::Interrupts;
 use tasks::set::Optional;
 use tasks::set::Task;
 use tasks::set::TaskSet;
 use tasks::values::header_values;
+use tasks::values::interrupt_values;
 use tasks::values::task_values;
 ghost use mathlib.Core.Path.{_≡_};
 ghost use Prim.Native.Nat.{_≤_};
-ghost use Rattle.tasks.specs.Set.{members, mostTasks};
+ghost use Rattle.tasks.specs.Set.{members, counted, mostTasks, mostInterrupts};
 ghost use Rattle.tasks.specs.Search.{some};
-ghost use Rattle.taskask.specs.Ask.{countRow, twiceRow, headerOverflows, taskOverflows, maskedOverflows, askRow};
+ghost use Rattle.taskask.specs.Ask.{countRow, twiceRow, headerOverflows, taskOverflows, maskedOverflows, interruptOverflows, askRow};
 
 // 3 COUNT.
 pub fn breaks_count(set: TaskSet) -> bool
@@ -21,7 +24,11 @@ pub fn breaks_count(set: TaskSet) -> bool
     if set.count == 0 {
         return true;
     }
-    TaskSet::MOST_TASKS < set.count
+    if TaskSet::MOST_TASKS < set.count {
+        return true;
+    }
+    let interrupts = set.interrupts;
+    TaskSet::MOST_INTERRUPTS < interrupts.count
 }
 
 // 4 TWICE. Each task's id is compared with those behind it.
@@ -88,6 +95,30 @@ fn masked_overflows(masked: Optional) -> bool
     overflows(Frame::Masked, &values)
 }
 
+// A figure of the interrupt is too large for its field.
+fn interrupt_overflows(interrupt: Interrupt) -> bool
+    ensures { λ r. ⌜ r ≡ interruptOverflows interrupt ⌝ }
+{
+    let values = interrupt_values(interrupt);
+    overflows(Frame::Interrupt, &values)
+}
+
+fn interrupts_overflow(interrupts: Interrupts) -> bool
+    requires { ⌜ interrupts .count ≤ mostInterrupts ⌝ }
+    ensures { λ r. ⌜ r ≡ some interruptOverflows (counted interrupts) ⌝ }
+{
+    let count = interrupts.count;
+    let mut k = 0;
+    while k < count {
+        let interrupt = interrupts.each[k];
+        if interrupt_overflows(interrupt) {
+            return true;
+        }
+        k += 1;
+    }
+    false
+}
+
 // 11 ASK of a set.
 pub fn asks(set: TaskSet) -> bool
     ensures { λ r. ⌜ r ≡ askRow set ⌝ }
@@ -106,5 +137,8 @@ pub fn asks(set: TaskSet) -> bool
         return true;
     }
     let masked = header.masked;
-    masked_overflows(masked)
+    if masked_overflows(masked) {
+        return true;
+    }
+    interrupts_overflow(set.interrupts)
 }

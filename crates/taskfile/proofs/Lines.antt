@@ -4,8 +4,9 @@ use Prim.Native.Nat.{ℕ, zero, suc, _+_, _≤_, _<_}
 use native.Mathlib.Omega.{arith}
 use native.Mathlib.Decide.{decLt}
 use mathlib.Core.List.{List, [], _∷_}
-use mathlib.Core.Bool.{Bool, true, false, not, cond, and-false}
-use mathlib.Core.Path.{_≡_, refl, sym, _∙_}
+use mathlib.Core.Bool.{Bool, true, false, not, cond, and-false, or-false}
+use mathlib.Core.Logic.{_⊎_, inl, inr}
+use mathlib.Core.Path.{_≡_, refl, sym, _∙_, ap}
 use lib.ListN.{length}
 use lib.Dec.{eqb}
 use borrow.Author.Tests.{eq-eqb, ne-eqb, not-false}
@@ -16,12 +17,13 @@ use Rattle.refusals.specs.declared.Refusal.{Refusal}
 use Rattle.refusals.specs.declared.Refusal.the-variants.{Line, Order, Count, Twice}
 use Rattle.refusals.specs.declared.Outcome.the-variants.{Done, Refused}
 use Rattle.refusals.specs.First.{firstOf, when, till}
-use Rattle.tasks.specs.Set.{mostTasks, hasId}
+use Rattle.tasks.specs.declared.set.Interrupt.{Interrupt}
+use Rattle.tasks.specs.Set.{mostTasks, mostInterrupts, hasId}
 use Rattle.tasks.specs.Search.{some}
-use Rattle.taskfile.specs.File.{past, empty, fileKinds, admitted, lineRow, orderRow, countLineRow, twiceLineRow, lineOutcome, openingLines, taskAt, tasksAmong, fileTasks}
+use Rattle.taskfile.specs.File.{past, empty, fileKinds, admitted, lineRow, orderRow, countLineRow, twiceLineRow, lineOutcome, openingLines, taskAt, tasksAmong, fileTasks, interruptsAmong}
 use Rattle.frameread.proofs.KindLaws.{not-formed}
 use Rattle.tasks.proofs.SearchLaws.{some-nowhere}
-use Rattle.refusals.proofs.FirstLaws.{done-refused, first-done, when-done, till-done, done-till}
+use Rattle.refusals.proofs.FirstLaws.{done-refused, first-done, first-none, when-done, till-done, done-till}
 use Rattle.taskfile.proofs.Past.{absent-later, absent-past}
 use Rattle.taskfile.proofs.AmongLaws.{task-counts}
 
@@ -41,13 +43,13 @@ masked-no-header text f = not-formed Frame.Masked Frame.Header refl text f
 pub masked-no-task : (text : List ℕ) → formed Frame.Masked text ≡ true → formed Frame.Task text ≡ false
 masked-no-task text f = not-formed Frame.Masked Frame.Task refl text f
 
--- a text that starts with no kind of line, and with none of the three that a task file admits
+-- a text that starts with no kind of line, and with none of the four that a task file admits
 pub admits-none : (rest : List ℕ) → ((kind : Frame) → formed kind rest ≡ false) → admitted rest ≡ false
 admits-none rest none = some-nowhere (λ (kind : Frame). formed kind rest) Frame.Header fileKinds (λ j lt. none _)
 
-pub neither : (rest : List ℕ) → formed Frame.Header rest ≡ false → formed Frame.Task rest ≡ false → formed Frame.Masked rest ≡ false → admitted rest ≡ false
+pub neither : (rest : List ℕ) → formed Frame.Header rest ≡ false → formed Frame.Task rest ≡ false → formed Frame.Masked rest ≡ false → formed Frame.Interrupt rest ≡ false → admitted rest ≡ false
 unfolding some
-neither rest header task masked = rw (header, task, masked)
+neither rest header task masked interrupt = rw (header, task, masked, interrupt)
 
 -- a text that starts with a line is not empty
 pub formed-there : (frame : Frame) (rest : List ℕ) → formed frame rest ≡ true → empty rest ≡ false
@@ -127,9 +129,9 @@ first-missing = refl
 -- that is an 01 line
 pub first-header : (text : List ℕ) → formed Frame.Header text ≡ true → lineOutcome text 1 ≡ Done
 unfolding lineOutcome lineRow orderRow countLineRow twiceLineRow past some
-first-header text header = rw (header, header-no-task text header, formed-there Frame.Header text header)
+first-header text header = rw (header, header-no-task text header, not-formed Frame.Header Frame.Interrupt refl text header, formed-there Frame.Header text header)
 
--- that is an 02 or a 05 line
+-- that is an 02, a 05 or an 07 line
 pub first-task : (text : List ℕ) → formed Frame.Task text ≡ true → lineOutcome text 1 ≡ Refused (Order 1)
 unfolding lineOutcome lineRow orderRow past some
 first-task text task = rw (task-no-header text task, task, and-false (not (empty text)))
@@ -137,6 +139,11 @@ first-task text task = rw (task-no-header text task, task, and-false (not (empty
 pub first-masked : (text : List ℕ) → formed Frame.Masked text ≡ true → lineOutcome text 1 ≡ Refused (Order 1)
 unfolding lineOutcome lineRow orderRow past some
 first-masked text masked = rw (masked-no-header text masked, masked-no-task text masked, masked, and-false (not (empty text)))
+
+pub first-interrupt : (text : List ℕ) → formed Frame.Interrupt text ≡ true → lineOutcome text 1 ≡ Refused (Order 1)
+unfolding lineOutcome lineRow orderRow past some
+first-interrupt text interrupt =
+    rw (not-formed Frame.Interrupt Frame.Header refl text interrupt, not-formed Frame.Interrupt Frame.Task refl text interrupt, not-formed Frame.Interrupt Frame.Masked refl text interrupt, interrupt, and-false (not (empty text)))
 
 -- that is none of them
 pub first-other : (text : List ℕ) → empty text ≡ false → admitted text ≡ false → lineOutcome text 1 ≡ Refused (Line 1)
@@ -149,7 +156,7 @@ first-other text there other = rw (there, other)
 pub second-masked : (text : List ℕ) → formed Frame.Masked (past 1 text) ≡ true → lineOutcome text 2 ≡ Done
 unfolding lineOutcome lineRow orderRow countLineRow twiceLineRow some
 second-masked text masked =
-    rw (masked-no-header (past 1 text) masked, masked-no-task (past 1 text) masked, masked, formed-there Frame.Masked (past 1 text) masked)
+    rw (masked-no-header (past 1 text) masked, masked-no-task (past 1 text) masked, not-formed Frame.Masked Frame.Interrupt refl (past 1 text) masked, masked, formed-there Frame.Masked (past 1 text) masked)
     (simp and-false)
 
 -- ---- any line
@@ -179,25 +186,39 @@ later-masked text zero opened masked = absurd (omega (arith, some-opening text))
 later-masked text (suc zero) opened masked = absurd (omega (arith, opening-two text masked))
 later-masked text (suc (suc n)) opened masked = third-masked text (suc (suc n)) (omega arith) masked
 
--- that is an 02 line: refused as a 65th, or as one whose id repeats, or clear
-pub later-task : (text : List ℕ) (n : ℕ) → 1 ≤ n → formed Frame.Task (past n text) ≡ true → lineOutcome text (suc n) ≡ firstOf (when (eqb (length (tasksAmong text n)) mostTasks) (Count (suc n))) (when (some (hasId (taskAt (past n text) .id)) (tasksAmong text n)) (Twice (suc n)))
+-- that is an 02 line, with no 07 line before it: refused as a 65th, or as one whose id repeats, or clear
+pub later-task : (text : List ℕ) (n : ℕ) → 1 ≤ n → interruptsAmong text n ≡ [] → formed Frame.Task (past n text) ≡ true → lineOutcome text (suc n) ≡ firstOf (when (eqb (length (tasksAmong text n)) mostTasks) (Count (suc n))) (when (some (hasId (taskAt (past n text) .id)) (tasksAmong text n)) (Twice (suc n)))
 unfolding lineOutcome lineRow orderRow countLineRow twiceLineRow some
-later-task text n after-first task =
+later-task text n after-first none task =
     let there : eqb (length (fileTasks text)) 0 ≡ false = ne-eqb (length (fileTasks text)) 0 (λ h. omega (arith, task-counts text n task)) in
-    rw (task-no-header (past n text) task, task-no-masked (past n text) task, task, ne-eqb (suc n) 1 (λ h. omega arith), there)
-    (simp and-false)
+    rw (task-no-header (past n text) task, task-no-masked (past n text) task, not-formed Frame.Task Frame.Interrupt refl (past n text) task, task, none, ne-eqb (suc n) 1 (λ h. omega arith), there)
+    (simp (and-false, or-false))
+
+-- that is an 02 line behind an 07 line
+pub late-task : (text : List ℕ) (n : ℕ) → 1 ≤ n → 1 ≤ length (interruptsAmong text n) → formed Frame.Task (past n text) ≡ true → lineOutcome text (suc n) ≡ Refused (Order (suc n))
+unfolding lineOutcome lineRow orderRow some
+late-task text n after-first late task =
+    rw (task-no-header (past n text) task, task-no-masked (past n text) task, task, ne-eqb (suc n) 1 (λ h. omega arith), ne-eqb (length (interruptsAmong text n)) 0 (λ h. omega arith), and-false (not (empty (past n text))))
+
+-- that is an 07 line: refused as a 33rd, or clear
+pub later-interrupt : (text : List ℕ) (n : ℕ) → 1 ≤ n → formed Frame.Interrupt (past n text) ≡ true → lineOutcome text (suc n) ≡ when (eqb (length (interruptsAmong text n)) mostInterrupts) (Count (suc n))
+unfolding lineOutcome lineRow orderRow countLineRow twiceLineRow some
+later-interrupt text n after-first interrupt =
+    rw (not-formed Frame.Interrupt Frame.Header refl (past n text) interrupt, not-formed Frame.Interrupt Frame.Task refl (past n text) interrupt, not-formed Frame.Interrupt Frame.Masked refl (past n text) interrupt, interrupt, formed-there Frame.Interrupt (past n text) interrupt, ne-eqb (suc n) 1 (λ h. omega arith))
+    (simp (and-false, first-none))
 
 -- ---- a line that is clear
 
--- behind the lines before the tasks it is an 02 line, if it is there
-pub clear-task : (text : List ℕ) (n : ℕ) → openingLines text ≤ n → empty (past n text) ≡ false → lineOutcome text (suc n) ≡ Done → formed Frame.Task (past n text) ≡ true
-clear-task text n opened there clear = go (formed Frame.Header (past n text)) (formed Frame.Task (past n text)) (formed Frame.Masked (past n text)) refl refl refl
+-- behind the lines before the tasks it is an 02 or an 07 line, if it is there
+pub clear-kind : (text : List ℕ) (n : ℕ) → openingLines text ≤ n → empty (past n text) ≡ false → lineOutcome text (suc n) ≡ Done → (formed Frame.Task (past n text) ≡ true) ⊎ (formed Frame.Interrupt (past n text) ≡ true)
+clear-kind text n opened there clear = go (formed Frame.Header (past n text)) (formed Frame.Task (past n text)) (formed Frame.Masked (past n text)) (formed Frame.Interrupt (past n text)) refl refl refl refl
   where
-    go : (h t m : Bool) → formed Frame.Header (past n text) ≡ h → formed Frame.Task (past n text) ≡ t → formed Frame.Masked (past n text) ≡ m → t ≡ true
-    go h true m eh et em = refl
-    go true false m eh et em = done-refused (sym clear ∙ later-header text n (omega (arith, some-opening text)) eh)
-    go false false true eh et em = done-refused (sym clear ∙ later-masked text n opened em)
-    go false false false eh et em = done-refused (sym clear ∙ line-other text n there (neither (past n text) eh et em))
+    go : (h t m i : Bool) → formed Frame.Header (past n text) ≡ h → formed Frame.Task (past n text) ≡ t → formed Frame.Masked (past n text) ≡ m → formed Frame.Interrupt (past n text) ≡ i → (t ≡ true) ⊎ (i ≡ true)
+    go h true m i eh et em ei = inl refl
+    go h false m true eh et em ei = inr refl
+    go true false m false eh et em ei = done-refused (sym clear ∙ later-header text n (omega (arith, some-opening text)) eh)
+    go false false true false eh et em ei = done-refused (sym clear ∙ later-masked text n opened em)
+    go false false false false eh et em ei = done-refused (sym clear ∙ line-other text n there (neither (past n text) eh et em ei))
 
 -- it does not break row 2
 order-clear : (text : List ℕ) (k : ℕ) → lineOutcome text k ≡ Done → orderRow text k ≡ false
@@ -206,6 +227,14 @@ order-clear text k clear =
     let order = when (orderRow text k) (Order k) in
     let later = firstOf (when (countLineRow text k) (Count k)) (when (twiceLineRow text k) (Twice k)) in
     when-done (orderRow text k) (Order k) (first-done order later (first-done (when (lineRow text k) (Line k)) (firstOf order later) clear .1) .0)
+
+-- before a clear 02 line there is no 07 line
+pub clear-none : (text : List ℕ) (n : ℕ) → 1 ≤ n → formed Frame.Task (past n text) ≡ true → lineOutcome text (suc n) ≡ Done → interruptsAmong text n ≡ []
+clear-none text n some task clear = by-list (interruptsAmong text n) refl
+  where
+    by-list : (is : List Interrupt) → interruptsAmong text n ≡ is → is ≡ []
+    by-list [] e = refl
+    by-list (i ∷ is) e = done-refused (sym clear ∙ late-task text n some (omega (arith, ap length e)) task)
 
 -- line 1 is an 01 line
 pub clear-header : (text : List ℕ) → lineOutcome text 1 ≡ Done → formed Frame.Header text ≡ true
@@ -231,5 +260,11 @@ clear-there text (suc n) none clear =
 -- an 02 line is no 65th
 pub clear-room : (text : List ℕ) (n : ℕ) → 1 ≤ n → formed Frame.Task (past n text) ≡ true → lineOutcome text (suc n) ≡ Done → length (tasksAmong text n) ≡ mostTasks → ⊥
 clear-room text n some task clear full =
-    let refused : lineOutcome text (suc n) ≡ Refused (Count (suc n)) = rw (eq-eqb (length (tasksAmong text n)) mostTasks full) at (later-task text n some task) in
+    let refused : lineOutcome text (suc n) ≡ Refused (Count (suc n)) = rw (eq-eqb (length (tasksAmong text n)) mostTasks full) at (later-task text n some (clear-none text n some task clear) task) in
+    done-refused (sym clear ∙ refused)
+
+-- an 07 line is no 33rd
+pub clear-fewer : (text : List ℕ) (n : ℕ) → 1 ≤ n → formed Frame.Interrupt (past n text) ≡ true → lineOutcome text (suc n) ≡ Done → length (interruptsAmong text n) ≡ mostInterrupts → ⊥
+clear-fewer text n some interrupt clear full =
+    let refused : lineOutcome text (suc n) ≡ Refused (Count (suc n)) = rw (eq-eqb (length (interruptsAmong text n)) mostInterrupts full) at (later-interrupt text n some interrupt) in
     done-refused (sym clear ∙ refused)

@@ -1,4 +1,4 @@
--- The lines of a task file before its tasks: where they end, that they are clear and hold no task.
+-- The lines of a task file before its tasks: where they end, that they are clear and hold no task and no interrupt.
 -- Assumes nothing.
 use Prim.Native.Nat.{ℕ, _+_, _≤_}
 use native.Mathlib.Omega.{arith}
@@ -8,16 +8,17 @@ use mathlib.Core.Bool.{Bool, true, false, cond}
 use mathlib.Core.Path.{_≡_, refl, sym, _∙_, ap}
 use lib.ListN.{length, drop}
 use Rattle.frameread.specs.Line.{formed}
+use Rattle.frameread.proofs.KindLaws.{not-formed}
 use Rattle.frames.specs.Table.{lengthOf}
 use Rattle.frames.specs.declared.table.Frame.{Frame}
 use Rattle.refusals.specs.declared.Outcome.the-variants.{Done}
 use Rattle.refusals.specs.First.{till}
 use Rattle.refusals.proofs.FirstLaws.{till-suc}
-use Rattle.taskfile.specs.File.{past, lineOutcome, openingLines, openingBytes, tasksAmong}
+use Rattle.taskfile.specs.File.{past, lineOutcome, openingLines, openingBytes, taskAt, interruptAt, among, tasksAmong, interruptsAmong}
 use Rattle.taskfile.specs.Taken.{Taken}
 use Rattle.taskfile.proofs.Past.{past-formed}
 use Rattle.taskfile.proofs.AmongLaws.{among-none, among-other}
-use Rattle.taskfile.proofs.Lines.{header-no-task, masked-no-task, first-header, second-masked, opening-one, opening-two}
+use Rattle.taskfile.proofs.Lines.{first-header, second-masked, opening-one, opening-two}
 
 -- the bytes of these lines, by whether line 2 is a 05 line
 pub opening-bytes : (text : List ℕ) {b : Bool} → formed Frame.Masked (past 1 text) ≡ b → openingBytes text ≡ lengthOf Frame.Header + 1 + cond b (lengthOf Frame.Masked + 1) 0
@@ -36,51 +37,70 @@ module _ (text : List ℕ) (header : formed Frame.Header text ≡ true) where
   pub within-header : lengthOf Frame.Header + 1 ≤ length text
   within-header = rw (zero-add (lengthOf Frame.Header + 1)) at (past-first .1)
 
-  -- line 1 holds no task
-  among-header : tasksAmong text 1 ≡ []
+  -- line 1 holds neither a task nor an interrupt
+  among-header : {A : Type 0} (kind : Frame) (figures : List ℕ → A) → formed kind text ≡ false → among kind figures text 1 ≡ []
   unfolding past
-  among-header = among-other text 0 (header-no-task text header) ∙ among-none text
+  among-header kind figures other = among-other kind figures text 0 other ∙ among-none kind figures text
 
   till-header : till (lineOutcome text) 1 ≡ Done
   unfolding till
   till-header = first-header text header
 
-  -- these lines are clear, the next one starts behind their bytes, and they hold no task
-  opening-laws : Taken text (openingLines text) (openingBytes text) × (tasksAmong text (openingLines text) ≡ [])
+  no-task : tasksAmong text 1 ≡ []
+  no-task = among-header Frame.Task taskAt (not-formed Frame.Header Frame.Task refl text header)
+
+  no-interrupt : interruptsAmong text 1 ≡ []
+  no-interrupt = among-header Frame.Interrupt interruptAt (not-formed Frame.Header Frame.Interrupt refl text header)
+
+  -- these lines are clear, the next one starts behind their bytes, and they hold no task and no interrupt
+  record Opened (k at : ℕ) : Type 0 where
+    taken : Taken text k at
+    tasks : tasksAmong text k ≡ []
+    interrupts : interruptsAmong text k ≡ []
+
+  opening-laws : Opened (openingLines text) (openingBytes text)
   opening-laws = by-kind (formed Frame.Masked (past 1 text)) refl
     where
-      by-kind : (b : Bool) → formed Frame.Masked (past 1 text) ≡ b → Taken text (openingLines text) (openingBytes text) × (tasksAmong text (openingLines text) ≡ [])
+      by-kind : (b : Bool) → formed Frame.Masked (past 1 text) ≡ b → Opened (openingLines text) (openingBytes text)
       by-kind false e =
-          let none : length (tasksAmong text 1) ≡ 0 = ap length among-header in
-          rw (opening-one text e, opening-bytes text e, add-zero (lengthOf Frame.Header + 1)) (
-            record {
+          rw (opening-one text e, opening-bytes text e, add-zero (lengthOf Frame.Header + 1))
+          (record {
+            taken = record {
               opened = omega (arith, opening-one text e);
               within = within-header;
               rest = past-header;
               clear = till-header;
               lines = omega arith;
-              few = omega (arith, none);
-            },
-            among-header,
-          )
+              few = omega (arith, ap length no-task);
+              fewer = omega (arith, ap length no-interrupt);
+            };
+            tasks = no-task;
+            interrupts = no-interrupt;
+          })
       by-kind true e =
           let passed = past-formed Frame.Masked text 1 (lengthOf Frame.Header + 1) past-header within-header (ap (formed Frame.Masked) (sym past-header) ∙ e) in
-          let among : tasksAmong text 2 ≡ [] = among-other text 1 (masked-no-task (past 1 text) e) ∙ among-header in
-          let none : length (tasksAmong text 2) ≡ 0 = ap length among in
-          rw (opening-two text e, opening-bytes text e) (
-            record {
+          let task : tasksAmong text 2 ≡ [] = among-other Frame.Task taskAt text 1 (not-formed Frame.Masked Frame.Task refl (past 1 text) e) ∙ no-task in
+          let interrupt : interruptsAmong text 2 ≡ [] = among-other Frame.Interrupt interruptAt text 1 (not-formed Frame.Masked Frame.Interrupt refl (past 1 text) e) ∙ no-interrupt in
+          rw (opening-two text e, opening-bytes text e)
+          (record {
+            taken = record {
               opened = omega (arith, opening-two text e);
               within = passed .1;
               rest = passed .0;
               clear = till-suc (lineOutcome text) 1 ∙ rw till-header (second-masked text e);
               lines = omega arith;
-              few = omega (arith, none);
-            },
-            among,
-          )
+              few = omega (arith, ap length task);
+              fewer = omega (arith, ap length interrupt);
+            };
+            tasks = task;
+            interrupts = interrupt;
+          })
 
   pub taken-opening : Taken text (openingLines text) (openingBytes text)
-  taken-opening = opening-laws .0
+  taken-opening = opening-laws .taken
 
   pub among-opening : tasksAmong text (openingLines text) ≡ []
-  among-opening = opening-laws .1
+  among-opening = opening-laws .tasks
+
+  pub none-opening : interruptsAmong text (openingLines text) ≡ []
+  none-opening = opening-laws .interrupts

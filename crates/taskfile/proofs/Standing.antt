@@ -18,15 +18,15 @@ use Rattle.frames.proofs.Tables.{at-index}
 use Rattle.frameread.proofs.KindLaws.{not-formed}
 use Rattle.frames.specs.declared.table.Frame.{Frame}
 use Rattle.refusals.specs.declared.Refusal.the-variants.{Line, Order, Count, Twice}
-use Rattle.refusals.specs.declared.Outcome.the-variants.{Refused}
+use Rattle.refusals.specs.declared.Outcome.the-variants.{Done, Refused}
 use Rattle.refusals.specs.First.{firstOf, when}
 use Rattle.frameread.proofs.Formed.{field-below}
 use Rattle.tasks.specs.declared.set.Task.{Task}
-use Rattle.tasks.specs.Set.{mostTasks, hasId}
+use Rattle.tasks.specs.Set.{mostTasks, mostInterrupts, hasId}
 use Rattle.tasks.specs.Search.{some}
-use Rattle.taskfile.specs.File.{empty, admitted, lineOutcome, tasksAmong, taskAt}
-use Rattle.taskfile.specs.Taken.{Taken, idsOf}
-use Rattle.taskfile.proofs.Lines.{neither, some-opening, line-other, later-header, later-masked, later-task}
+use Rattle.taskfile.specs.File.{empty, admitted, lineOutcome, tasksAmong, interruptsAmong, taskAt}
+use Rattle.taskfile.specs.Taken.{Taken, Tasked, BehindTasks, idsOf}
+use Rattle.taskfile.proofs.Lines.{neither, some-opening, line-other, later-header, later-masked, later-task, late-task, later-interrupt}
 
 -- a number that is a field of a formed line is below its width's power of 16
 pub field-within : (frame : Frame) (k x : ℕ) (text : List ℕ) → formed frame text ≡ true → x ≡ fieldOf frame k text → x < 16 ^ widthOf frame k
@@ -43,6 +43,7 @@ tag-index : (frame : Frame) → tagOf the-type frame ≡ indexOf frame
 tag-index Frame.Header = refl
 tag-index Frame.Task = refl
 tag-index Frame.Masked = refl
+tag-index Frame.Interrupt = refl
 tag-index Frame.Plan = refl
 tag-index Frame.Server = refl
 tag-index Frame.Placed = refl
@@ -60,17 +61,28 @@ tag-frame frame kind e =
 pub tag-formed : (frame kind : Frame) (text : List ℕ) → tagOf the-type frame ≡ indexOf kind → formed frame text ≡ true → formed kind text ≡ true
 tag-formed frame kind text e f = ap (λ (g : Frame). formed g text) (sym (tag-frame frame kind e)) ∙ f
 
--- the tags of the frames that are none of a task file's
-abbrev otherTags : List ℕ
-otherTags = drop 3 (map indexOf allFrames)
+-- a line of a frame with one of these tags is of no kind whose tag is none of them
+pub other-kind : (tags : List ℕ) (frame kind : Frame) (text : List ℕ) → OneOf tags (tagOf the-type frame) → (OneOf tags (indexOf kind) → ⊥) → formed frame text ≡ true → formed kind text ≡ false
+other-kind tags frame kind text o missed f =
+    not-formed frame kind (ne-eqb (indexOf frame) (indexOf kind) (λ (e : indexOf frame ≡ indexOf kind). missed (subst (OneOf tags) (tag-index frame ∙ e) o))) text f
 
--- a line of such a frame is of no kind that a task file admits
-pub other-frame : (frame : Frame) (text : List ℕ) → OneOf otherTags (tagOf the-type frame) → formed frame text ≡ true → admitted text ≡ false
-other-frame frame text o f = neither text (apart Frame.Header (miss otherTags 0 tt)) (apart Frame.Task (miss otherTags 1 tt)) (apart Frame.Masked (miss otherTags 2 tt))
+-- the tags of the frames behind the first n
+abbrev tagsFrom : ℕ → List ℕ
+tagsFrom n = drop n (map indexOf allFrames)
+
+-- a line of a frame that is none of a task file's is of no kind that it admits
+pub other-frame : (frame : Frame) (text : List ℕ) → OneOf (tagsFrom 4) (tagOf the-type frame) → formed frame text ≡ true → admitted text ≡ false
+other-frame frame text o f = neither text (apart Frame.Header (miss (tagsFrom 4) 0 tt)) (apart Frame.Task (miss (tagsFrom 4) 1 tt)) (apart Frame.Masked (miss (tagsFrom 4) 2 tt)) (apart Frame.Interrupt (miss (tagsFrom 4) 3 tt))
   where
-    apart : (kind : Frame) → (OneOf otherTags (indexOf kind) → ⊥) → formed kind text ≡ false
-    apart kind missed =
-        not-formed frame kind (ne-eqb (indexOf frame) (indexOf kind) (λ (e : indexOf frame ≡ indexOf kind). missed (subst (OneOf otherTags) (tag-index frame ∙ e) o))) text f
+    apart : (kind : Frame) → (OneOf (tagsFrom 4) (indexOf kind) → ⊥) → formed kind text ≡ false
+    apart kind missed = other-kind (tagsFrom 4) frame kind text o missed f
+
+-- and one that is none of the first three kinds and no 07 line
+pub other-task : (frame : Frame) (text : List ℕ) → OneOf (tagsFrom 3) (tagOf the-type frame) → formed frame text ≡ true → formed Frame.Interrupt text ≡ false → admitted text ≡ false
+other-task frame text o f = neither text (apart Frame.Header (miss (tagsFrom 3) 0 tt)) (apart Frame.Task (miss (tagsFrom 3) 1 tt)) (apart Frame.Masked (miss (tagsFrom 3) 2 tt))
+  where
+    apart : (kind : Frame) → (OneOf (tagsFrom 3) (indexOf kind) → ⊥) → formed kind text ≡ false
+    apart kind missed = other-kind (tagsFrom 3) frame kind text o missed f
 
 -- an id is among tasks' ids exactly if a task has it
 pub some-ids : (id : ℕ) (ts : List Task) → some (λ i. eqb i id) (idsOf ts) ≡ some (hasId id) ts
@@ -93,14 +105,29 @@ module _ {text : List ℕ} {k at : ℕ} (taken : Taken text k at) where
   pub said-masked : formed Frame.Masked (drop at text) ≡ true → lineOutcome text (k + 1) ≡ Refused (Order (k + 1))
   said-masked e = rw (add-one k) (later-masked text k (taken .opened) (ap (formed Frame.Masked) (taken .rest) ∙ e))
 
-  module _ (task : formed Frame.Task (drop at text) ≡ true) (ids : List ℕ) (held : ids ≡ idsOf (tasksAmong text k)) where
-    said-task : lineOutcome text (k + 1) ≡ firstOf (when (eqb (length ids) mostTasks) (Count (k + 1))) (when (some (λ i. eqb i (taskAt (drop at text) .id)) ids) (Twice (k + 1)))
-    said-task =
-        rw (add-one k, held, some-ids (taskAt (drop at text) .id) (tasksAmong text k), length-map, ← taken .rest)
-        (later-task text k taken-some (ap (formed Frame.Task) (taken .rest) ∙ task))
+  -- an 07 line is clear but for a 33rd
+  module _ (interrupt : formed Frame.Interrupt (drop at text) ≡ true) (count : ℕ) (held : count ≡ length (interruptsAmong text k)) where
+    said-interrupt : lineOutcome text (k + 1) ≡ when (eqb count mostInterrupts) (Count (k + 1))
+    said-interrupt = rw (add-one k, held) (later-interrupt text k taken-some (ap (formed Frame.Interrupt) (taken .rest) ∙ interrupt))
 
-    pub said-count : length ids ≡ mostTasks → lineOutcome text (k + 1) ≡ Refused (Count (k + 1))
-    said-count full = rw (eq-eqb (length ids) mostTasks full) at said-task
+    pub said-full : count ≡ mostInterrupts → lineOutcome text (k + 1) ≡ Refused (Count (k + 1))
+    said-full full = rw (eq-eqb count mostInterrupts full) at said-interrupt
 
-    pub said-twice : (length ids ≡ mostTasks → ⊥) → (b : Bool) → some (λ i. eqb i (taskAt (drop at text) .id)) ids ≡ b → lineOutcome text (k + 1) ≡ when b (Twice (k + 1))
-    said-twice room b seen = rw (ne-eqb (length ids) mostTasks room, seen) at said-task
+    pub said-done : (count ≡ mostInterrupts → ⊥) → lineOutcome text (k + 1) ≡ Done
+    said-done room = rw (ne-eqb count mostInterrupts room) at said-interrupt
+
+-- an 02 line that comes too late
+pub said-late : {text : List ℕ} {k at : ℕ} → BehindTasks text k at → formed Frame.Task (drop at text) ≡ true → lineOutcome text (k + 1) ≡ Refused (Order (k + 1))
+said-late {text = text} {k = k} s task = rw (add-one k) (late-task text k (taken-some (s .taken)) (s .late task) (ap (formed Frame.Task) (s .taken .rest) ∙ task))
+
+module _ {text : List ℕ} {k at : ℕ} (s : Tasked text k at) (task : formed Frame.Task (drop at text) ≡ true) (ids : List ℕ) (held : ids ≡ idsOf (tasksAmong text k)) where
+  said-task : lineOutcome text (k + 1) ≡ firstOf (when (eqb (length ids) mostTasks) (Count (k + 1))) (when (some (λ i. eqb i (taskAt (drop at text) .id)) ids) (Twice (k + 1)))
+  said-task =
+      rw (add-one k, held, some-ids (taskAt (drop at text) .id) (tasksAmong text k), length-map, ← s .taken .rest)
+      (later-task text k (taken-some (s .taken)) (s .none) (ap (formed Frame.Task) (s .taken .rest) ∙ task))
+
+  pub said-count : length ids ≡ mostTasks → lineOutcome text (k + 1) ≡ Refused (Count (k + 1))
+  said-count full = rw (eq-eqb (length ids) mostTasks full) at said-task
+
+  pub said-twice : (length ids ≡ mostTasks → ⊥) → (b : Bool) → some (λ i. eqb i (taskAt (drop at text) .id)) ids ≡ b → lineOutcome text (k + 1) ≡ when b (Twice (k + 1))
+  said-twice room b seen = rw (ne-eqb (length ids) mostTasks room, seen) at said-task

@@ -1,5 +1,5 @@
 -- A task file's lines, counted from 1, and the rows that reading tests at each line.
--- Document 01, "Lines of hexadecimal" (RULES 5) and rows 1 to 4 of the refusals (RULES 6.1 and 6.2); document 02, Req 04.
+-- Document 01, "Lines of hexadecimal" (RULES 5) and rows 1 to 4 of the refusals (RULES 6.1 and 6.2); document 02, Req 04 and Req 08.
 use Prim.Native.Nat.{ℕ, zero, suc, pred, _+_}
 use mathlib.Core.List.{List, [], _∷_, _++_}
 use mathlib.Core.Bool.{Bool, true, false, not, cond, _&&_, _||_}
@@ -15,7 +15,8 @@ use Rattle.tasks.specs.declared.set.Optional.{Optional}
 use Rattle.tasks.specs.declared.set.Optional.the-variants.{Absent, Given}
 use Rattle.tasks.specs.declared.set.Header.{Header}
 use Rattle.tasks.specs.declared.set.Task.{Task}
-use Rattle.tasks.specs.Set.{mostTasks, hasId, withMasked}
+use Rattle.tasks.specs.declared.set.Interrupt.{Interrupt}
+use Rattle.tasks.specs.Set.{mostTasks, mostInterrupts, hasId, withMasked}
 use Rattle.tasks.specs.Search.{some}
 
 -- the text past n lines
@@ -31,7 +32,7 @@ abbrev pub empty : List ℕ → Bool
 empty [] = true
 empty (b ∷ bs) = false
 
--- whether line k is there, is an 01 line, is an 02 line, is a 05 line
+-- whether line k is there, is an 01 line, is an 02 line, is a 05 line, is an 07 line
 abbrev pub present : List ℕ → ℕ → Bool
 present text k = not (empty (from text k))
 
@@ -44,7 +45,10 @@ isTask text k = formed Frame.Task (from text k)
 abbrev pub isMasked : List ℕ → ℕ → Bool
 isMasked text k = formed Frame.Masked (from text k)
 
--- the figures of line 1, with no 05 line, and of an 02 line
+abbrev pub isInterrupt : List ℕ → ℕ → Bool
+isInterrupt text k = formed Frame.Interrupt (from text k)
+
+-- the figures of line 1, with no 05 line, of an 02 line and of an 07 line
 unfoldable pub headerAt : List ℕ → Header
 headerAt text =
     record {
@@ -67,6 +71,16 @@ taskAt text =
       period = fieldOf Frame.Task 3 text;
     }
 
+unfoldable pub interruptAt : List ℕ → Interrupt
+interruptAt text =
+    record {
+      processor = fieldOf Frame.Interrupt 0 text;
+      cost = fieldOf Frame.Interrupt 1 text;
+      deadline = fieldOf Frame.Interrupt 2 text;
+      period = fieldOf Frame.Interrupt 3 text;
+      jitter = fieldOf Frame.Interrupt 4 text;
+    }
+
 -- what line 2 gives, if it is a 05 line, and the board's figures with that
 unfoldable pub maskedAt : List ℕ → Optional
 maskedAt text = cond (isMasked text 2) (Given (fieldOf Frame.Masked 0 (from text 2))) Absent
@@ -81,27 +95,33 @@ openingLines text = cond (isMasked text 2) 2 1
 unfoldable pub openingBytes : List ℕ → ℕ
 openingBytes text = lengthOf Frame.Header + 1 + cond (isMasked text 2) (lengthOf Frame.Masked + 1) 0
 
--- the task that line k holds, if it is an 02 line
-abbrev pub taskOn : List ℕ → ℕ → List Task
-taskOn text k = cond (isTask text k) (taskAt (from text k) ∷ []) []
+-- what the lines of a kind among the first n lines hold, in order
+unfoldable pub among : {A : Type 0} → Frame → (List ℕ → A) → List ℕ → ℕ → List A
+among kind figures text zero = []
+among kind figures text (suc n) = among kind figures text n ++ cond (formed kind (past n text)) (figures (past n text) ∷ []) []
 
--- the tasks that the 02 lines among the first n lines hold, in order
-unfoldable pub tasksAmong : List ℕ → ℕ → List Task
-tasksAmong text zero = []
-tasksAmong text (suc n) = tasksAmong text n ++ taskOn text (suc n)
+-- the tasks of the 02 lines, the interrupts of the 07 lines
+abbrev pub tasksAmong : List ℕ → ℕ → List Task
+tasksAmong text n = among Frame.Task taskAt text n
+
+abbrev pub interruptsAmong : List ℕ → ℕ → List Interrupt
+interruptsAmong text n = among Frame.Interrupt interruptAt text n
 
 -- those of the whole file, which has no more lines than bytes
 abbrev pub fileTasks : List ℕ → List Task
 fileTasks text = tasksAmong text (length text)
 
+abbrev pub fileInterrupts : List ℕ → List Interrupt
+fileInterrupts text = interruptsAmong text (length text)
+
 -- the kinds that a task file admits, and whether a text starts with a line of one of them
 abbrev pub fileKinds : List Frame
-fileKinds = Frame.Header ∷ Frame.Task ∷ Frame.Masked ∷ []
+fileKinds = Frame.Header ∷ Frame.Task ∷ Frame.Masked ∷ Frame.Interrupt ∷ []
 
 abbrev pub admitted : List ℕ → Bool
 admitted rest = some (λ (kind : Frame). formed kind rest) fileKinds
 
--- 1 LINE: a line is not kind 01, 02 or 05 at its exact length in legal digits, or lacks its LF
+-- 1 LINE: a line is not kind 01, 02, 05 or 07 at its exact length in legal digits, or lacks its LF
 unfoldable pub lineRow : List ℕ → ℕ → Bool
 lineRow text k = present text k && not (admitted (from text k))
 
@@ -109,19 +129,25 @@ abbrev pub firstLine : Bool → Bool → Bool → Bool
 firstLine true at-one at-later = at-one
 firstLine false at-one at-later = at-later
 
--- 2 ORDER: line 1 is missing or not 01, or a later line is 01, or one elsewhere than line 2 is 05
+-- line k is a task behind an interrupt
+abbrev pub lateTask : List ℕ → ℕ → Bool
+lateTask text k = isTask text k && not (eqb (length (interruptsAmong text (pred k))) 0)
+
+-- 2 ORDER: line 1 is missing or not 01, or a later line is 01, or one elsewhere than line 2 is 05, or one behind an 07 line is 02
 unfoldable pub orderRow : List ℕ → ℕ → Bool
-orderRow text k = firstLine (eqb k 1) (not (isHeader text k)) (isHeader text k || (isMasked text k && not (eqb k 2)))
+orderRow text k =
+    firstLine (eqb k 1) (not (isHeader text k)) (isHeader text k || ((isMasked text k && not (eqb k 2)) || lateTask text k))
 
 -- line k is the one after the last
 abbrev pub afterLast : List ℕ → ℕ → Bool
 afterLast text k = present text (pred k) && not (present text k)
 
--- 3 COUNT: no 02 line (place: the line after the last), or a 65th
+-- 3 COUNT: no 02 line (place: the line after the last), or a 65th, or a 33rd 07 line
 unfoldable pub countLineRow : List ℕ → ℕ → Bool
 countLineRow text k =
     (afterLast text k && eqb (length (fileTasks text)) 0) ||
-    (isTask text k && eqb (length (tasksAmong text (pred k))) mostTasks)
+    ((isTask text k && eqb (length (tasksAmong text (pred k))) mostTasks) ||
+    (isInterrupt text k && eqb (length (interruptsAmong text (pred k))) mostInterrupts))
 
 -- 4 TWICE: an id repeats
 unfoldable pub twiceLineRow : List ℕ → ℕ → Bool

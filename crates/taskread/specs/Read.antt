@@ -1,22 +1,20 @@
 -- What reading a task file answers: the set, or the first refusal of rows 1 to 6 and the all-zero set.
 -- Document 01, "Refusal numbers and their order" (RULES 6).
-use Prim.Native.Nat.{ℕ, _+_, _*_}
+use Prim.Native.Nat.{ℕ, _+_}
 use mathlib.Core.List.{List}
 use lib.ListN.{length}
-use Rattle.frames.specs.Table.{lengthOf}
-use Rattle.frames.specs.declared.table.Frame.{Frame}
 use Rattle.refusals.specs.declared.Outcome.{Outcome}
 use Rattle.refusals.specs.declared.Outcome.the-variants.{Done, Refused}
 use Rattle.refusals.specs.First.{firstOf, till}
 use Rattle.tasks.specs.declared.set.TaskSet.{TaskSet}
 use Rattle.taskread.specs.declared.read.ReadAnswer.{ReadAnswer}
-use Rattle.tasks.specs.Set.{mostTasks, setOf, zeroSet}
+use Rattle.tasks.specs.Set.{setOf, zeroSet}
 use Rattle.taskrows.specs.Rows.{figuresOutcome}
-use Rattle.taskfile.specs.File.{lineOutcome, fileHeader, fileTasks}
+use Rattle.taskfile.specs.File.{lineOutcome, fileHeader, fileTasks, fileInterrupts}
 
 -- the set that a file's lines hold
 unfoldable pub fileSet : List ℕ → TaskSet
-fileSet text = setOf (fileHeader text) (fileTasks text)
+fileSet text = setOf (fileHeader text) (fileTasks text) (fileInterrupts text)
 
 -- a refused read gives the all-zero set
 abbrev pub answer : Outcome → TaskSet → ReadAnswer
@@ -29,8 +27,3 @@ readOutcome text = firstOf (till (lineOutcome text) (length text + 2)) (figuresO
 
 unfoldable pub readOf : List ℕ → ReadAnswer
 readOf text = answer (readOutcome text) (fileSet text)
-
--- the bytes that reading looks at: a header, a 05 line, 64 tasks and the longest line after them
-abbrev pub furthest : ℕ
-furthest =
-    (lengthOf Frame.Header + 1) + (lengthOf Frame.Masked + 1) + (lengthOf Frame.Task + 1) * mostTasks + (lengthOf Frame.Header + 1)

@@ -1,35 +1,21 @@
 // Reading a task file: the set, or the refusal and the all-zero set.
 // Lines are taken in order, then rows 5 and 6 of the figures.
-use frames::table::Frame;
-use frames::table::MOST_FIELDS;
-use frames::table::TABLE;
-use framesizes::length;
 use headerline::HeaderLine;
 use headerline::header_line;
 use headerline::header_outcome;
-use listedline::TaskLine;
-use listedline::task_outcome;
+use interruptlines::interrupt_lines;
 use opening::opened;
 use refusals::Outcome;
 use refusals::Refusal;
-use taskline::task_line;
+use tasklines::task_lines;
 use taskrows::figures;
 use tasks::set::TaskSet;
 ghost use mathlib.Core.Path.{_≡_};
-ghost use Rattle.taskread.specs.Read.{answer, readOf, furthest};
-
-// The bytes of an 01, an 02 and a 05 line with its LF, by the table.
-const HEADER_BYTES: usize = TABLE[0].starts[MOST_FIELDS] as usize + 1;
-
-const TASK_BYTES: usize = TABLE[1].starts[MOST_FIELDS] as usize + 1;
-
-const MASKED_BYTES: usize = TABLE[2].starts[MOST_FIELDS] as usize + 1;
-
-// The bytes that reading looks at: a buffer of so many holds all that decides an answer.
-pub const FURTHEST: usize = HEADER_BYTES
-    + MASKED_BYTES
-    + TASK_BYTES * TaskSet::MOST_TASKS
-    + HEADER_BYTES;
+ghost use mathlib.Core.List.{[]};
+ghost use Rattle.tasks.specs.Set.{setOf};
+ghost use Rattle.taskfile.specs.File.{fileHeader, tasksAmong, interruptsAmong};
+ghost use Rattle.taskfile.specs.Taken.{BehindTasks};
+ghost use Rattle.taskread.specs.Read.{answer, readOf};
 
 pub struct ReadAnswer {
     pub outcome: Outcome,
@@ -52,42 +38,41 @@ fn answered(outcome: Outcome, set: TaskSet) -> ReadAnswer
     }
 }
 
-pub fn looks_at() -> usize
-    ensures { λ r. ⌜ r ≡ furthest ⌝ }
+// Behind the tasks, which these are: the 07 lines, COUNT where there is no task, then rows 5 and 6.
+fn finished(text: &[u8], at: usize, lines: usize, tasks: TaskSet) -> ReadAnswer
+    requires { ⌜ BehindTasks (now text) lines at ⌝ }
+    requires { ⌜ interruptsAmong (now text) lines ≡ [] ⌝ }
+    requires { ⌜ tasks ≡ setOf (fileHeader (now text)) (tasksAmong (now text) lines) [] ⌝ }
+    ensures { λ r. ⌜ r ≡ readOf (now (text .entry)) ⌝ }
 {
-    FURTHEST
+    let mut set = tasks;
+    let rest = interrupt_lines(text, at, lines);
+    let outcome = rest.outcome;
+    let behind = rest.lines;
+    let Outcome::Done = outcome else {
+        return answered(outcome, set);
+    };
+    if set.count == 0 {
+        let place = (behind + 1) as u8;
+        return answered(Outcome::Refused(Refusal::Count(place)), set);
+    }
+    let interrupts = rest.interrupts;
+    set.interrupts = interrupts;
+    answered(figures(set), set)
 }
 
-// The cursor `at` stands behind the lines taken so far; `ids` has the ids of the set's tasks.
 pub fn read(text: &[u8]) -> ReadAnswer
     ensures { λ r. ⌜ r ≡ readOf (now (text .entry)) ⌝ }
 {
-    let mut set = TaskSet::zero();
     let first = header_line(text);
     let HeaderLine::Header(header) = first else {
-        return answered(header_outcome(first), set);
+        return answered(header_outcome(first), TaskSet::zero());
     };
-    let opening = opened(text, header);
-    let board = opening.header;
-    set.header = board;
-    let mut ids = [0u8; TaskSet::MOST_TASKS];
-    let mut at = opening.at;
-    let mut lines = opening.lines;
-    while at < text.len() {
-        let count = set.count;
-        let line = task_line(text, at, lines, &ids[..count]);
-        let TaskLine::Task(task) = line else {
-            return answered(task_outcome(line), set);
-        };
-        set.tasks[count] = task;
-        set.count = count + 1;
-        ids[count] = task.id;
-        at += length(Frame::Task) + 1;
-        lines += 1;
-    }
-    if set.count == 0 {
-        let place = (lines + 1) as u8;
-        return answered(Outcome::Refused(Refusal::Count(place)), set);
-    }
-    answered(figures(set), set)
+    let listed = task_lines(text, opened(text, header));
+    let outcome = listed.outcome;
+    let tasks = listed.set;
+    let Outcome::Done = outcome else {
+        return answered(outcome, tasks);
+    };
+    finished(text, listed.at, listed.lines, tasks)
 }

@@ -1,2 +1,3 @@
 pub mod Bools
 pub mod FiguresLaws
+pub mod InterruptLaws

@@ -3,12 +3,14 @@
 use refusals::Outcome;
 use refusals::Refusal;
 use tasks::set::Header;
+use tasks::set::Interrupt;
+use tasks::set::Interrupts;
 use tasks::set::Task;
 use tasks::set::TaskSet;
 ghost use mathlib.Core.Path.{_≡_};
 ghost use Prim.Native.Nat.{_≤_};
-ghost use Rattle.tasks.specs.Set.{members, mostTasks};
-ghost use Rattle.taskrows.specs.Rows.{boardRow, rangeRow, figuresOutcome};
+ghost use Rattle.tasks.specs.Set.{members, counted, mostTasks, mostInterrupts};
+ghost use Rattle.taskrows.specs.Rows.{boardRow, outOfRange, rangeRow, interruptRow, figuresOutcome};
 ghost use Rattle.tasks.specs.Search.{firstTask};
 
 // 5 BOARD.
@@ -24,20 +26,44 @@ pub fn breaks_board(header: Header) -> bool
     header.slot == 0
 }
 
-// 6 RANGE.
+// Figures that break 1 ≤ C ≤ D ≤ T ≤ 1,000,000.
+fn out_of_range(cost: u32, deadline: u32, period: u32) -> bool
+    ensures { λ r. ⌜ r ≡ outOfRange cost deadline period ⌝ }
+{
+    if cost < 1 {
+        return true;
+    }
+    if deadline < cost {
+        return true;
+    }
+    if period < deadline {
+        return true;
+    }
+    TaskSet::LONGEST_PERIOD < period
+}
+
+// 6 RANGE of a task.
 pub fn breaks_range(task: Task) -> bool
     ensures { λ r. ⌜ r ≡ rangeRow task ⌝ }
 {
-    if task.cost < 1 {
+    out_of_range(task.cost, task.deadline, task.period)
+}
+
+// 6 RANGE of an interrupt on a board with so many processors.
+pub fn breaks_interrupt(processors: u8, interrupt: Interrupt) -> bool
+    ensures { λ r. ⌜ r ≡ interruptRow processors interrupt ⌝ }
+{
+    if out_of_range(interrupt.cost, interrupt.deadline, interrupt.period) {
         return true;
     }
-    if task.deadline < task.cost {
+    let jitter = interrupt.jitter as u32;
+    if interrupt.deadline <= jitter {
         return true;
     }
-    if task.period < task.deadline {
+    if interrupt.processor < 1 {
         return true;
     }
-    TaskSet::LONGEST_PERIOD < task.period
+    processors < interrupt.processor
 }
 
 // The first task, from 1, that breaks the range, or 0.
@@ -57,9 +83,27 @@ pub fn first_out_of_range(set: TaskSet) -> usize
     0
 }
 
+// The first interrupt, from 1, that breaks the range on a board with so many processors, or 0.
+pub fn first_interrupt_out(processors: u8, interrupts: Interrupts) -> usize
+    requires { ⌜ interrupts .count ≤ mostInterrupts ⌝ }
+    ensures { λ r. ⌜ r ≡ firstTask (interruptRow processors) (counted interrupts) ⌝ }
+{
+    let count = interrupts.count;
+    let mut k = 0;
+    while k < count {
+        let interrupt = interrupts.each[k];
+        if breaks_interrupt(processors, interrupt) {
+            return k + 1;
+        }
+        k += 1;
+    }
+    0
+}
+
 // Rows 5 and 6, the first that holds.
 pub fn figures(set: TaskSet) -> Outcome
     requires { ⌜ set .count ≤ mostTasks ⌝ }
+    requires { ⌜ set .interrupts .count ≤ mostInterrupts ⌝ }
     ensures { λ r. ⌜ r ≡ figuresOutcome set ⌝ }
 {
     let header = set.header;
@@ -67,8 +111,12 @@ pub fn figures(set: TaskSet) -> Outcome
         return Outcome::Refused(Refusal::Board);
     }
     let task = first_out_of_range(set);
-    if task == 0 {
+    if task != 0 {
+        return Outcome::Refused(Refusal::Range(task as u8));
+    }
+    let interrupt = first_interrupt_out(header.processors, set.interrupts);
+    if interrupt == 0 {
         return Outcome::Done;
     }
-    Outcome::Refused(Refusal::Range(task as u8))
+    Outcome::Refused(Refusal::Range((TaskSet::MOST_TASKS + interrupt) as u8))
 }

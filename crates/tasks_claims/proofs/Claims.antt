@@ -1,9 +1,10 @@
 -- The claims of specs/Claims, each under its own name.
-use Rattle.tasks_claims.specs.Claims.{ReadExactlyLine, ReadExactlyBoard, ReadExactlyRange, ReadExactlyDone, ReadRefuses, ReadDetermined, ReadLooksAt, ReadAccepted, MaskedRemembered, MaskedOnlyAtTwo, NoTaskPlace, WritesExactly, WritesLeave, WriteDetermined, ReadWritten, ReadWrittenSame, WrittenRead}
+use Rattle.tasks_claims.specs.Claims.{ReadExactlyLine, ReadExactlyBoard, ReadExactlyRange, ReadExactlyInterrupt, ReadExactlyDone, ReadRefuses, ReadDetermined, ReadLooksAt, ReadAccepted, MaskedRemembered, MaskedOnlyAtTwo, InterruptsRemembered, TaskTooLate, InterruptTooMany, NoTaskPlace, WritesExactly, WritesLeave, WriteDetermined, ReadWritten, ReadWrittenSame, WrittenRead}
 use Rattle.tasks_claims.proofs.Exactly as exactly
 use Rattle.tasks_claims.proofs.Prefix as prefix
 use Rattle.tasks_claims.proofs.Accepted as accepted
 use Rattle.tasks_claims.proofs.MaskedLaws as masked
+use Rattle.tasks_claims.proofs.InterruptLaws as interrupts
 use Rattle.tasks_claims.proofs.WriteAnswers as answers
 use Rattle.tasks_claims.proofs.RoundTripSet as sets
 use Rattle.tasks_claims.proofs.RoundTripText as texts
@@ -16,6 +17,9 @@ read-exactly-board = exactly.read-exactly-board
 
 pub read-exactly-range : ReadExactlyRange
 read-exactly-range = exactly.read-exactly-range
+
+pub read-exactly-interrupt : ReadExactlyInterrupt
+read-exactly-interrupt = exactly.read-exactly-interrupt
 
 pub read-exactly-done : ReadExactlyDone
 read-exactly-done = exactly.read-exactly-done
@@ -37,6 +41,15 @@ masked-remembered = masked.masked-remembered
 
 pub masked-only-at-two : MaskedOnlyAtTwo
 masked-only-at-two = masked.masked-only-at-two
+
+pub interrupts-remembered : InterruptsRemembered
+interrupts-remembered = interrupts.interrupts-remembered
+
+pub task-too-late : TaskTooLate
+task-too-late = interrupts.task-too-late
+
+pub interrupt-too-many : InterruptTooMany
+interrupt-too-many = interrupts.interrupt-too-many
 
 pub no-task-place : NoTaskPlace
 no-task-place = masked.no-task-place

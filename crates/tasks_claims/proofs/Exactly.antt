@@ -1,10 +1,10 @@
 -- Each refusal of reading exactly when its row says: the claims of specs/Claims, proved.
-use Prim.Native.Nat.{ℕ, zero, suc, _+_, _≤_, _<_}
+use Prim.Native.Nat.{ℕ, zero, suc, pred, _+_, _≤_, _<_}
 use native.Mathlib.Omega.{arith}
 use native.Mathlib.Decide.{decLt}
 use mathlib.Core.List.{List}
 use mathlib.Core.Bool.{Bool, true, false}
-use mathlib.Core.Path.{_≡_, refl, sym, _∙_, ap, subst, subst₂}
+use mathlib.Core.Path.{_≡_, refl, sym, _∙_, ap, ap₂, subst, subst₂}
 use lib.ListN.{length, getD}
 use Rattle.laws.proofs.Tests.{clash}
 use Rattle.refusals.specs.Refused.{numberOf, placeOf}
@@ -12,23 +12,25 @@ use Rattle.refusals.specs.declared.Refusal.{Refusal}
 use Rattle.refusals.specs.declared.Refusal.the-variants.{Line, Order, Count, Twice, Board, Range}
 use Rattle.refusals.specs.declared.Outcome.{Outcome}
 use Rattle.refusals.specs.declared.Outcome.the-variants.{Done, Refused}
+use Rattle.tasks.specs.declared.set.Interrupt.{Interrupt}
+use Rattle.tasks.specs.declared.set.Task.{Task}
 use Rattle.tasks.specs.declared.set.TaskSet.{TaskSet}
 use Rattle.taskread.specs.declared.read.ReadAnswer.{ReadAnswer}
-use Rattle.tasks.specs.Set.{members, setOf, zeroTask}
+use Rattle.tasks.specs.Set.{mostTasks, members, interruptsIn, setOf, zeroTask, zeroInterrupt}
 use Rattle.refusals.specs.First.{firstOf, when, till}
 use Rattle.tasks.specs.Search.{atTask, firstTask}
-use Rattle.taskrows.specs.Rows.{boardRow, rangeRow, figuresOutcome}
-use Rattle.taskfile.specs.File.{fileHeader, lineRow, orderRow, countLineRow, twiceLineRow, lineOutcome, fileTasks}
+use Rattle.taskrows.specs.Rows.{boardRow, rangeRow, interruptRow, rangeAt, figuresOutcome}
+use Rattle.taskfile.specs.File.{fileHeader, lineRow, orderRow, countLineRow, twiceLineRow, lineOutcome, fileTasks, fileInterrupts}
 use Rattle.taskread.specs.Read.{readOf, readOutcome, fileSet, answer}
-use Rattle.tasks_claims.specs.Claims.{tasksIn, taskOf, LineRow, LINE, ORDER, COUNT, TWICE, refusalAt, holdsAt, Clear, AllClear, FirstAt, FirstRange, NoRow, ReadExactlyLine, ReadExactlyBoard, ReadExactlyRange, ReadExactlyDone, ReadRefuses, ReadDetermined}
+use Rattle.tasks_claims.specs.Claims.{LineRow, LINE, ORDER, COUNT, TWICE, refusalAt, holdsAt, Clear, AllClear, FirstAt, FirstRange, FirstInterrupt, NoRow, ReadExactlyLine, ReadExactlyBoard, ReadExactlyRange, ReadExactlyInterrupt, ReadExactlyDone, ReadRefuses, ReadDetermined}
 use Rattle.refusals.proofs.FirstLaws.{done-refused, first-done, till-done, done-till, found}
 use Rattle.taskfile.proofs.Past.{absent-past}
 use Rattle.taskread.proofs.Reading.{reads-refused, reads-clear}
 use Rattle.taskfile.proofs.Lines.{absent-done}
-use Rattle.tasks.proofs.SetLaws.{members-set}
-use Rattle.taskrows.proofs.FiguresLaws.{figures-board, figures-tasks}
-use Rattle.tasks.proofs.Firsts.{at-none}
+use Rattle.tasks.proofs.SetLaws.{members-set, interrupts-set}
 use Rattle.tasks.proofs.FirstLaws.{Stops, first-stops, stops-first, first-none, none-first}
+use Rattle.tasks_claims.proofs.ShapedLaws.{shaped-all}
+use Rattle.tasks_claims.proofs.ReachedLaws.{Ended, ends}
 
 -- the outcome of an answer is what it was made of
 pub answer-outcome : (o : Outcome) (set : TaskSet) → answer o set .outcome ≡ o
@@ -129,15 +131,20 @@ came text r e = at (till (lineOutcome text) (length text + 2)) refl (outcome-of 
         let low : (row : LineRow) × (r ≡ refusalAt row (suc (first .before))) × Lowest (λ row. holdsAt row text (suc (first .before))) row (suc (first .before)) = line-lowest text (suc (first .before)) r (first .refuses) in
         at-line (low .0) (first .before) (low .1) (first .clear) (low .2)
 
--- rows 5 and 6 give 5 and 6
+-- rows 5 and 6 by what they find: whether the board breaks row 5, the first task and the first interrupt out of range
+abbrev figuresFound : (board : Bool) (task interrupt : ℕ) → Outcome
+figuresFound b n i = firstOf (when b Board) (firstOf (atTask Range n) (atTask rangeAt i))
+
+-- they give 5 and 6
 figures-number : (set : TaskSet) (r : Refusal) → figuresOutcome set ≡ Refused r → (5 ≤ numberOf r) × (numberOf r ≤ 6)
 unfolding figuresOutcome
-figures-number set r e = at (boardRow (set .header)) (firstTask rangeRow (members set)) e
+figures-number set r e = at (boardRow (set .header)) (firstTask rangeRow (members set)) (firstTask (interruptRow (set .header .processors)) (interruptsIn set)) e
   where
-    at : (b : Bool) (k : ℕ) → firstOf (when b Board) (atTask Range k) ≡ Refused r → (5 ≤ numberOf r) × (numberOf r ≤ 6)
-    at true k e = let five : Board ≡ r = cc in subst (λ (r : Refusal). (5 ≤ numberOf r) × (numberOf r ≤ 6)) five (omega arith)
-    at false zero e = done-refused e
-    at false (suc k) e = let six : Range (suc k) ≡ r = cc in subst (λ (r : Refusal). (5 ≤ numberOf r) × (numberOf r ≤ 6)) six (omega arith)
+    at : (b : Bool) (n i : ℕ) → figuresFound b n i ≡ Refused r → (5 ≤ numberOf r) × (numberOf r ≤ 6)
+    at true n i e = let five : Board ≡ r = cc in subst (λ (r : Refusal). (5 ≤ numberOf r) × (numberOf r ≤ 6)) five (omega arith)
+    at false zero zero e = done-refused e
+    at false zero (suc i) e = let six : Range (mostTasks + suc i) ≡ r = cc in subst (λ (r : Refusal). (5 ≤ numberOf r) × (numberOf r ≤ 6)) six (omega arith)
+    at false (suc n) i e = let six : Range (suc n) ≡ r = cc in subst (λ (r : Refusal). (5 ≤ numberOf r) × (numberOf r ≤ 6)) six (omega arith)
 
 -- lines that are clear up to the end are clear for ever
 pub all-clear : (text : List ℕ) → till (lineOutcome text) (length text + 2) ≡ Done → AllClear text
@@ -183,29 +190,35 @@ read-exactly-line row text k = (λ e. said (came text (refusalAt row k) e), at-f
     said (at-figures clear e) =
         absurd (omega (arith, row-below row k, figures-number (fileSet text) (refusalAt row k) e .0))
 
--- what rows 5 and 6 answer, and the outcome of a read whose lines are clear
-figures-said : (set : TaskSet) (o : Outcome) → figuresOutcome set ≡ o → firstOf (when (boardRow (set .header)) Board) (atTask Range (firstTask rangeRow (members set))) ≡ o
-unfolding figuresOutcome
-figures-said set o e = e
-
+-- the outcome of a read whose lines are clear
 clear-outcome : (text : List ℕ) → AllClear text → readOf text .outcome ≡ figuresOutcome (fileSet text)
 clear-outcome text clear =
     ap (λ (a : ReadAnswer). a .outcome) (reads-clear text (clear-all text clear)) ∙ answer-outcome (figuresOutcome (fileSet text)) (fileSet text)
 
-board-said : (b : Bool) (n : ℕ) → firstOf (when b Board) (atTask Range n) ≡ Refused Board → b ≡ true
-board-said true n e = refl
-board-said false zero e = done-refused e
-board-said false (suc n) e = clash (cc)
+-- what a refusal tells of what was found
+board-said : (b : Bool) (n i : ℕ) → figuresFound b n i ≡ Refused Board → b ≡ true
+board-said true n i e = refl
+board-said false zero zero e = done-refused e
+board-said false zero (suc i) e = clash (cc)
+board-said false (suc n) i e = clash (cc)
 
-range-said : (b : Bool) (n k : ℕ) → firstOf (when b Board) (atTask Range n) ≡ Refused (Range k) → (b ≡ false) × (n ≡ k) × (1 ≤ k)
-range-said true n k e = clash (cc)
-range-said false zero k e = done-refused e
-range-said false (suc n) k e = let same : suc n ≡ k = cc in (refl, same, omega arith)
+range-said : (b : Bool) (n i k : ℕ) → k ≤ mostTasks → figuresFound b n i ≡ Refused (Range k) → (b ≡ false) × (n ≡ k) × (1 ≤ k)
+range-said true n i k few e = clash (cc)
+range-said false zero zero k few e = done-refused e
+range-said false zero (suc i) k few e = let same : mostTasks + suc i ≡ k = cc in absurd (omega (arith, same, few))
+range-said false (suc n) i k few e = let same : suc n ≡ k = cc in (refl, same, omega (arith, same))
 
-done-said : (b : Bool) (n : ℕ) → firstOf (when b Board) (atTask Range n) ≡ Done → (b ≡ false) × (n ≡ 0)
-done-said true n e = done-refused (sym e)
-done-said false zero e = (refl, refl)
-done-said false (suc n) e = done-refused (sym e)
+interrupt-said : (b : Bool) (n i k : ℕ) → n ≤ mostTasks → 1 ≤ k → figuresFound b n i ≡ Refused (Range (mostTasks + k)) → (b ≡ false) × (n ≡ 0) × (i ≡ k)
+interrupt-said true n i k few one e = clash (cc)
+interrupt-said false zero zero k few one e = done-refused e
+interrupt-said false zero (suc i) k few one e = let same : mostTasks + suc i ≡ mostTasks + k = cc in (refl, refl, omega (arith, same))
+interrupt-said false (suc n) i k few one e = let same : suc n ≡ mostTasks + k = cc in absurd (omega (arith, same, few, one))
+
+done-said : (b : Bool) (n i : ℕ) → figuresFound b n i ≡ Done → (b ≡ false) × (n ≡ 0) × (i ≡ 0)
+done-said true n i e = done-refused (sym e)
+done-said false zero zero e = (refl, refl, refl)
+done-said false zero (suc i) e = done-refused (sym e)
+done-said false (suc n) i e = done-refused (sym e)
 
 -- a refusal of rows 5 or 6 comes after all lines
 after-lines : (text : List ℕ) (r : Refusal) → 5 ≤ numberOf r → Came text r → AllClear text × (figuresOutcome (fileSet text) ≡ Refused r)
@@ -213,106 +226,155 @@ after-lines text r five (at-line row j same clear low) =
     absurd (omega (arith, row-below row (suc j), ap numberOf same))
 after-lines text r five (at-figures clear e) = (all-clear text clear, e)
 
--- the set's header and tasks are the file's
-file-header : (text : List ℕ) → fileSet text .header ≡ fileHeader text
-unfolding fileSet setOf
-file-header text = refl
+-- the first of a list for which a test holds, counted from 1
+module _ {A : Type 0} (p : A → Bool) (z : A) (xs : List A) where
+  record FirstIn (k : ℕ) : Type 0 where
+    within : k ≤ length xs
+    holds : p (getD xs (pred k) z) ≡ true
+    earlier : (j : ℕ) → 1 ≤ j → j < k → p (getD xs (pred j) z) ≡ false
 
-file-members : (text : List ℕ) → members (fileSet text) ≡ fileTasks text
-unfolding fileSet
-file-members text = members-set (fileHeader text) (fileTasks text)
+  stops-in : (d : ℕ) → Stops p z xs d → FirstIn (suc d)
+  stops-in d s = record { within = omega (arith, s .within); holds = s .holds; earlier = before }
+    where
+      before : (j : ℕ) → 1 ≤ j → j < suc d → p (getD xs (pred j) z) ≡ false
+      before zero one lt = absurd (omega arith)
+      before (suc j) one lt = s .earlier j (omega arith)
+
+  first-in : (k : ℕ) → 1 ≤ k → firstTask p xs ≡ k → FirstIn k
+  first-in zero one e = absurd (omega arith)
+  first-in (suc m) one e =
+      let stop : (d : ℕ) × (m ≡ 0 + d) × Stops p z xs d = first-stops p z 0 m xs e in
+      let same : stop .0 ≡ m = omega (arith, stop .1) in
+      subst (λ (d : ℕ). FirstIn (suc d)) same (stops-in (stop .0) (stop .2))
+
+  in-first : (k : ℕ) → 1 ≤ k → FirstIn k → firstTask p xs ≡ k
+  in-first zero one f = absurd (omega arith)
+  in-first (suc d) one f =
+      let stops : Stops p z xs d = record { within = omega (arith, f .within); holds = f .holds; earlier = λ j lt. f .earlier (suc j) (omega arith) (omega arith) } in
+      omega (arith, stops-first p z 1 d xs stops)
+
+  first-zero : firstTask p xs ≡ 0 → (j : ℕ) → 1 ≤ j → j ≤ length xs → p (getD xs (pred j) z) ≡ false
+  first-zero e zero one le = absurd (omega arith)
+  first-zero e (suc j) one le = first-none p z 0 xs e j (omega arith)
+
+  zero-first : ((j : ℕ) → 1 ≤ j → j ≤ length xs → p (getD xs (pred j) z) ≡ false) → firstTask p xs ≡ 0
+  zero-first f = none-first p z 1 xs (λ j lt. f (suc j) (omega arith) (omega arith))
+
+  -- it is one of them
+  first-few : firstTask p xs ≤ length xs
+  first-few = at (firstTask p xs) refl
+    where
+      at : (k : ℕ) → firstTask p xs ≡ k → k ≤ length xs
+      at zero e = omega arith
+      at (suc m) e = first-in (suc m) (omega arith) e .within
+
+-- what rows 5 and 6 find in a file
+module _ (text : List ℕ) where
+  abbrev board : Bool
+  board = boardRow (fileHeader text)
+
+  abbrev task : ℕ
+  task = firstTask rangeRow (fileTasks text)
+
+  abbrev row : Interrupt → Bool
+  row = interruptRow (fileHeader text .processors)
+
+  abbrev interrupt : ℕ
+  interrupt = firstTask row (fileInterrupts text)
+
+  file-figures : figuresOutcome (fileSet text) ≡ figuresFound board task interrupt
+  unfolding figuresOutcome fileSet setOf
+  file-figures =
+      ap₂ (λ (ts : List Task) (is : List Interrupt). figuresFound board (firstTask rangeRow ts) (firstTask row is))
+      (members-set (fileHeader text) (fileTasks text) (fileInterrupts text)) (interrupts-set (fileHeader text) (fileTasks text) (fileInterrupts text))
+
+  refused-said : (r : Refusal) → 5 ≤ numberOf r → readOf text .outcome ≡ Refused r → AllClear text × (figuresFound board task interrupt ≡ Refused r)
+  refused-said r five e = let all = after-lines text r five (came text r e) in (all .0, sym file-figures ∙ all .1)
+
+  found-outcome : {b : Bool} {n i : ℕ} → AllClear text → board ≡ b → task ≡ n → interrupt ≡ i → readOf text .outcome ≡ figuresFound b n i
+  found-outcome clear eb et ei = clear-outcome text clear ∙ file-figures ∙ (λ j. figuresFound (eb j) (et j) (ei j))
+
+  -- a clear file has no more tasks than fit
+  tasks-few : AllClear text → task ≤ mostTasks
+  tasks-few clear =
+      let end : Ended text = ends text (λ j one le. clear j one) in
+      omega (arith, first-few rangeRow zeroTask (fileTasks text), shaped-all text (end .tasks) (end .interrupts) (end .reached .shaped) (end .ended) .0, end .reached .most)
 
 -- row 5
 pub read-exactly-board : ReadExactlyBoard
 read-exactly-board text = (said, answered)
   where
     said : readOf text .outcome ≡ Refused Board → AllClear text × (boardRow (fileHeader text) ≡ true)
-    said e =
-        let all : AllClear text × (figuresOutcome (fileSet text) ≡ Refused Board) = after-lines text Board (omega arith) (came text Board e) in
-        (all .0, ap boardRow (sym (file-header text)) ∙ board-said (boardRow (fileSet text .header)) (firstTask rangeRow (members (fileSet text))) (figures-said (fileSet text) (Refused Board) (all .1)))
+    said e = let found = refused-said text Board (omega arith) e in (found .0, board-said (board text) (task text) (interrupt text) (found .1))
 
     answered : AllClear text × (boardRow (fileHeader text) ≡ true) → readOf text .outcome ≡ Refused Board
-    answered h = clear-outcome text (h .0) ∙ figures-board (fileSet text) (ap boardRow (file-header text) ∙ h .1)
-
--- the first task out of range, as the claim and as the search say it
-stops-range : (text : List ℕ) (d : ℕ) → Stops rangeRow zeroTask (fileTasks text) d → AllClear text → boardRow (fileHeader text) ≡ false → FirstRange text (suc d)
-stops-range text d s clear board =
-    record {
-      clear = clear;
-      board = board;
-      counted = omega arith;
-      within = omega (arith, s .within);
-      holds = s .holds;
-      earlier = before;
-    }
-  where
-    before : (j : ℕ) → 1 ≤ j → j < suc d → rangeRow (taskOf text j) ≡ false
-    before zero one lt = absurd (omega arith)
-    before (suc j) one lt = s .earlier j (omega arith)
-
-range-stops : (text : List ℕ) (d : ℕ) → FirstRange text (suc d) → Stops rangeRow zeroTask (fileTasks text) d
-range-stops text d f =
-    record {
-      within = omega (arith, f .within);
-      holds = f .holds;
-      earlier = λ j lt. f .earlier (suc j) (omega arith) (omega arith);
-    }
+    answered h = found-outcome text (h .0) (h .1) refl refl
 
 -- row 6, with its task
 pub read-exactly-range : ReadExactlyRange
-read-exactly-range text k = (said, answered k)
+read-exactly-range text k few = (said, answered)
   where
-    named : (k : ℕ) → AllClear text → boardRow (fileHeader text) ≡ false → firstTask rangeRow (members (fileSet text)) ≡ k → 1 ≤ k → FirstRange text k
-    named zero clear board e one = absurd (omega arith)
-    named (suc m) clear board e one =
-        let stop : (d : ℕ) × (m ≡ 0 + d) × Stops rangeRow zeroTask (fileTasks text) d =
-        first-stops rangeRow zeroTask 0 m (fileTasks text) (ap (firstTask rangeRow) (sym (file-members text)) ∙ e) in
-        let same : stop .0 ≡ m = omega (arith, stop .1) in
-        subst (λ (d : ℕ). FirstRange text (suc d)) same (stops-range text (stop .0) (stop .2) clear board)
-
     said : readOf text .outcome ≡ Refused (Range k) → FirstRange text k
     said e =
-        let all : AllClear text × (figuresOutcome (fileSet text) ≡ Refused (Range k)) = after-lines text (Range k) (omega arith) (came text (Range k) e) in
-        let row : (boardRow (fileSet text .header) ≡ false) × (firstTask rangeRow (members (fileSet text)) ≡ k) × (1 ≤ k) =
-        range-said (boardRow (fileSet text .header)) (firstTask rangeRow (members (fileSet text))) k (figures-said (fileSet text) (Refused (Range k)) (all .1)) in
-        named k (all .0) (ap boardRow (sym (file-header text)) ∙ row .0) (row .1) (row .2)
+        let found = refused-said text (Range k) (omega arith) e in
+        let told = range-said (board text) (task text) (interrupt text) k few (found .1) in
+        let first = first-in rangeRow zeroTask (fileTasks text) k (told .2) (told .1) in
+        record { clear = found .0; board = told .0; counted = told .2; within = first .within; holds = first .holds; earlier = first .earlier }
 
-    answered : (k : ℕ) → FirstRange text k → readOf text .outcome ≡ Refused (Range k)
-    answered zero f = absurd (omega (arith, f .counted))
-    answered (suc d) f =
-        let first : firstTask rangeRow (members (fileSet text)) ≡ 1 + d =
-        ap (firstTask rangeRow) (file-members text) ∙ stops-first rangeRow zeroTask 1 d (fileTasks text) (range-stops text d f) in
-        let place : firstTask rangeRow (members (fileSet text)) ≡ suc d = omega (arith, first) in
-        clear-outcome text (f .clear)
-        ∙ (figures-tasks (fileSet text) (ap boardRow (file-header text) ∙ f .board) ∙ ap (atTask Range) place)
+    some : (n : ℕ) → 1 ≤ n → figuresFound false n (interrupt text) ≡ Refused (Range n)
+    some zero one = absurd (omega arith)
+    some (suc n) one = refl
+
+    answered : FirstRange text k → readOf text .outcome ≡ Refused (Range k)
+    answered f =
+        let first = in-first rangeRow zeroTask (fileTasks text) k (f .counted) (record { within = f .within; holds = f .holds; earlier = f .earlier }) in
+        found-outcome text (f .clear) (f .board) first refl ∙ some k (f .counted)
+
+-- row 6, with its interrupt
+pub read-exactly-interrupt : ReadExactlyInterrupt
+read-exactly-interrupt text k one = (said, answered)
+  where
+    said : readOf text .outcome ≡ Refused (Range (mostTasks + k)) → FirstInterrupt text k
+    said e =
+        let found = refused-said text (Range (mostTasks + k)) (omega arith) e in
+        let told = interrupt-said (board text) (task text) (interrupt text) k (tasks-few text (found .0)) one (found .1) in
+        let first = first-in (row text) zeroInterrupt (fileInterrupts text) k one (told .2) in
+        record {
+          clear = found .0;
+          board = told .0;
+          tasks = first-zero rangeRow zeroTask (fileTasks text) (told .1);
+          within = first .within;
+          holds = first .holds;
+          earlier = first .earlier;
+        }
+
+    some : (n : ℕ) → 1 ≤ n → figuresFound false 0 n ≡ Refused (Range (mostTasks + n))
+    some zero one = absurd (omega arith)
+    some (suc n) one = refl
+
+    answered : FirstInterrupt text k → readOf text .outcome ≡ Refused (Range (mostTasks + k))
+    answered f =
+        let first = in-first (row text) zeroInterrupt (fileInterrupts text) k one (record { within = f .within; holds = f .holds; earlier = f .earlier }) in
+        found-outcome text (f .clear) (f .board) (zero-first rangeRow zeroTask (fileTasks text) (f .tasks)) first ∙ some k one
 
 -- none of rows 1 to 6
 pub read-exactly-done : ReadExactlyDone
 read-exactly-done text = (said, answered)
   where
-    within : firstTask rangeRow (members (fileSet text)) ≡ 0 → (j : ℕ) → 1 ≤ j → j ≤ tasksIn text → rangeRow (taskOf text j) ≡ false
-    within e zero one le = absurd (omega arith)
-    within e (suc j) one le = first-none rangeRow zeroTask 0 (fileTasks text) (ap (firstTask rangeRow) (sym (file-members text)) ∙ e) j (omega arith)
-
     said : readOf text .outcome ≡ Done → NoRow text
     said e =
         let both-done : (till (lineOutcome text) (length text + 2) ≡ Done) × (figuresOutcome (fileSet text) ≡ Done) = read-done text e in
-        let row : (boardRow (fileSet text .header) ≡ false) × (firstTask rangeRow (members (fileSet text)) ≡ 0) =
-        done-said (boardRow (fileSet text .header)) (firstTask rangeRow (members (fileSet text))) (figures-said (fileSet text) Done (both-done .1)) in
+        let told = done-said (board text) (task text) (interrupt text) (sym (file-figures text) ∙ both-done .1) in
         record {
           clear = all-clear text (both-done .0);
-          board = ap boardRow (sym (file-header text)) ∙ row .0;
-          range = within (row .1);
+          board = told .0;
+          range = first-zero rangeRow zeroTask (fileTasks text) (told .1);
+          interrupts = first-zero (row text) zeroInterrupt (fileInterrupts text) (told .2);
         }
-
-    inside : NoRow text → (j : ℕ) → j < length (fileTasks text) → rangeRow (getD (fileTasks text) j zeroTask) ≡ false
-    inside f j lt = f .range (suc j) (omega arith) (omega arith)
 
     answered : NoRow text → readOf text .outcome ≡ Done
     answered f =
-        clear-outcome text (f .clear)
-        ∙ (figures-tasks (fileSet text) (ap boardRow (file-header text) ∙ f .board)
-        ∙ at-none Range (firstTask rangeRow (members (fileSet text))) (ap (firstTask rangeRow) (file-members text) ∙ none-first rangeRow zeroTask 1 (fileTasks text) (inside f)))
+        found-outcome text (f .clear) (f .board) (zero-first rangeRow zeroTask (fileTasks text) (f .range)) (zero-first (row text) zeroInterrupt (fileInterrupts text) (f .interrupts))
 
 -- the reader's numbers, and the all-zero set
 pub read-refuses : ReadRefuses

@@ -1,5 +1,5 @@
 -- Task files and what reading answers for each, computed from the definitions of specs/.
--- Document 01, example A and the rows of the refusals; document 02, Req 04.
+-- Document 01, example A and the rows of the refusals; document 02, Req 04 and Req 08.
 use Prim.Native.String.{String}
 use mathlib.Core.List.{List, [], _∷_, map}
 use mathlib.Core.Path.{_≡_, refl}
@@ -12,24 +12,27 @@ use Rattle.laws.specs.Same.{same}
 use Rattle.refusals.specs.declared.Refusal.the-variants.{Line, Order, Count, Twice, Board, Range}
 use Rattle.refusals.specs.declared.Outcome.{Outcome}
 use Rattle.refusals.specs.declared.Outcome.the-variants.{Done, Refused}
+use Rattle.tasks.specs.declared.set.Interrupt.{Interrupt}
 use Rattle.tasks.specs.declared.set.Optional.{Optional}
 use Rattle.tasks.specs.declared.set.Optional.the-variants.{Absent, Given}
-use Rattle.tasks.specs.Set.{setOf}
+use Rattle.tasks.specs.Set.{setOf, interruptsIn, interruptsWith}
 use Rattle.refusals.specs.First.{till}
 use Rattle.tasks.specs.Search.{some, firstFrom}
-use Rattle.taskrows.specs.Rows.{boardRow, rangeRow, figuresOutcome}
-use Rattle.taskfile.specs.File.{past, tasksAmong, lineRow, orderRow, countLineRow, twiceLineRow, lineOutcome, headerAt, maskedAt, fileHeader, taskAt}
+use Rattle.taskrows.specs.Rows.{boardRow, rangeRow, interruptRow, figuresOutcome}
+use Rattle.taskfile.specs.File.{past, among, lineRow, orderRow, countLineRow, twiceLineRow, lineOutcome, headerAt, maskedAt, fileHeader, taskAt, interruptAt}
 use Rattle.taskread.specs.Read.{fileSet, readOutcome, readOf}
-use Rattle.tasktext.specs.Text.{taskLines, maskedLine, textOf}
+use Rattle.framelines.specs.Each.{eachLine}
+use Rattle.optionallines.specs.Lines.{maskedLine}
+use Rattle.tasktext.specs.Text.{textOf}
 pub use Rattle.quoted.specs.Quoted.{bytesOf}
 
 -- what reading computes with, and writing: to unfold one of these is to unfold what its line names
 unfoldable reading : Unit {0}
-unfolding legal valueOf allLegal numberFrom kindOf widthsOf sum line after closed same formed fieldOf setOf firstFrom boardRow rangeRow figuresOutcome some till past tasksAmong lineRow orderRow countLineRow twiceLineRow lineOutcome headerAt maskedAt fileHeader taskAt fileSet readOutcome readOf
+unfolding legal valueOf allLegal numberFrom kindOf widthsOf sum line after closed same formed fieldOf setOf interruptsWith firstFrom boardRow rangeRow interruptRow figuresOutcome some till past among lineRow orderRow countLineRow twiceLineRow lineOutcome headerAt maskedAt fileHeader taskAt interruptAt fileSet readOutcome readOf
 reading = tt
 
 unfoldable writing : Unit {0}
-unfolding digitOf hex fields lineOf taskLines maskedLine textOf
+unfolding digitOf hex fields lineOf eachLine maskedLine textOf
 writing = tt
 
 abbrev pub answers : String → Outcome
@@ -68,27 +71,61 @@ examples =
     ∷ record { file = "010200000A00000000000000000000\n050005\n050005\n020100000600000A00000A\n"; answer = Refused (Order 3) }
     -- nothing behind it
     ∷ record { file = "010200000A00000000000000000000\n050005\n"; answer = Refused (Count 3) }
+    -- an 07 line behind the tasks, two of them, one digit short, without its LF
+    ∷ record { file = "010200000A00000000000000000000\n020100000600000A00000A\n070100000100000A00000A0000\n"; answer = Done }
+    ∷ record { file = "010200000A00000000000000000000\n020100000600000A00000A\n07020000020000050000140004\n070100000100000A00000A0000\n"; answer = Done }
+    ∷ record { file = "010200000A00000000000000000000\n020100000600000A00000A\n070100000100000A00000A000\n"; answer = Refused (Line 3) }
+    ∷ record { file = "010200000A00000000000000000000\n020100000600000A00000A\n070100000100000A00000A0000"; answer = Refused (Line 3) }
+    -- elsewhere than behind the tasks: at line 1, before a task, and a 05 line or a header behind it
+    ∷ record { file = "070100000100000A00000A0000\n010200000A00000000000000000000\n020100000600000A00000A\n"; answer = Refused (Order 1) }
+    ∷ record { file = "010200000A00000000000000000000\n020100000600000A00000A\n070100000100000A00000A0000\n020200000600000A00000A\n"; answer = Refused (Order 4) }
+    ∷ record { file = "010200000A00000000000000000000\n020100000600000A00000A\n070100000100000A00000A0000\n050005\n"; answer = Refused (Order 4) }
+    ∷ record { file = "010200000A00000000000000000000\n020100000600000A00000A\n070100000100000A00000A0000\n010200000A00000000000000000000\n"; answer = Refused (Order 4) }
+    -- with no task
+    ∷ record { file = "010200000A00000000000000000000\n070100000100000A00000A0000\n"; answer = Refused (Count 3) }
+    ∷ record { file = "010200000A00000000000000000000\n050005\n070100000100000A00000A0000\n070100000100000A00000A0000\n"; answer = Refused (Count 5) }
+    -- no cost, a cost above the deadline, a deadline above the period, a jitter as long as the deadline, no processor, a third of two
+    ∷ record { file = "010200000A00000000000000000000\n020100000600000A00000A\n070100000000000A00000A0000\n"; answer = Refused (Range 65) }
+    ∷ record { file = "010200000A00000000000000000000\n020100000600000A00000A\n070100000B00000A00000A0000\n"; answer = Refused (Range 65) }
+    ∷ record { file = "010200000A00000000000000000000\n020100000600000A00000A\n070100000100000B00000A0000\n"; answer = Refused (Range 65) }
+    ∷ record { file = "010200000A00000000000000000000\n020100000600000A00000A\n070100000100000A00000A000A\n"; answer = Refused (Range 65) }
+    ∷ record { file = "010200000A00000000000000000000\n020100000600000A00000A\n070000000100000A00000A0000\n"; answer = Refused (Range 65) }
+    ∷ record { file = "010200000A00000000000000000000\n020100000600000A00000A\n070100000100000A00000A0000\n070300000100000A00000A0000\n"; answer = Refused (Range 66) }
+    -- a cost above D less J is in range, and a task out of range comes first
+    ∷ record { file = "010200000A00000000000000000000\n020100000600000A00000A\n070100000A00000A00000A0009\n"; answer = Done }
+    ∷ record { file = "010200000A00000000000000000000\n020100000B00000A00000A\n070000000100000A00000A0000\n"; answer = Refused (Range 1) }
     ∷ []
 
 pub examples-read : map (λ e. answers (e .file)) examples ≡ map (λ e. e .answer) examples
 unfolding reading
 examples-read = refl
 
--- a file that is accepted, and what its set remembers of a 05 line
+-- a file that is accepted, and what its set remembers of a 05 line and of 07 lines
 pub record Kept : Type 0 where
   pub file : String
   pub masked : Optional
+  pub interrupts : List Interrupt
 
 abbrev pub kept : List Kept
 kept =
-    record { file = "010200000A00000000000000000000\n020100000600000A00000A\n"; masked = Absent }
-    ∷ record { file = "010200000A00000000000000000000\n050005\n020100000600000A00000A\n"; masked = Given 5 }
-    ∷ record { file = "010200000A00000000000000000000\n050000\n020100000600000A00000A\n"; masked = Given 0 }
+    record { file = "010200000A00000000000000000000\n020100000600000A00000A\n"; masked = Absent; interrupts = [] }
+    ∷ record { file = "010200000A00000000000000000000\n050005\n020100000600000A00000A\n"; masked = Given 5; interrupts = [] }
+    ∷ record { file = "010200000A00000000000000000000\n050000\n020100000600000A00000A\n"; masked = Given 0; interrupts = [] }
+    ∷ record { file = "010200000A00000000000000000000\n020100000600000A00000A\n070100000100000A00000A0000\n"; masked = Absent; interrupts = record { processor = 1; cost = 1; deadline = 10; period = 10; jitter = 0 } ∷ [] }
+    ∷ record {
+      file = "010200000A00000000000000000000\n050005\n020100000600000A00000A\n07020000020000050000140004\n070100000100000A00000A0000\n";
+      masked = Given 5;
+      interrupts = record { processor = 2; cost = 2; deadline = 5; period = 20; jitter = 4 } ∷ record { processor = 1; cost = 1; deadline = 10; period = 10; jitter = 0 } ∷ [];
+    }
     ∷ []
 
 pub kept-read : map (λ k. readOf (bytesOf (k .file)) .set .header .masked) kept ≡ map (λ k. k .masked) kept
 unfolding reading
 kept-read = refl
+
+pub kept-listed : map (λ k. interruptsIn (readOf (bytesOf (k .file)) .set)) kept ≡ map (λ k. k .interrupts) kept
+unfolding reading
+kept-listed = refl
 
 -- written again each has the same bytes
 pub kept-written : map (λ k. textOf (readOf (bytesOf (k .file)) .set)) kept ≡ map (λ k. bytesOf (k .file)) kept

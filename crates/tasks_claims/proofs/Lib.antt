@@ -1,7 +1,10 @@
+pub mod RunLaws
 pub mod ShapedLaws
+pub mod ReachedLaws
 pub mod Exactly
 pub mod Accepted
 pub mod MaskedLaws
+pub mod InterruptLaws
 pub mod Prefix
 pub mod RoundTripSet
 pub mod RoundTripText

@@ -6,16 +6,17 @@ use mathlib.Core.List.{List, []}
 use mathlib.Core.Bool.{Bool, true, false}
 use mathlib.Core.Path.{_≡_, refl, sym, _∙_, ap}
 use lib.ListN.{length}
+use borrow.Author.Tests.{not-true}
 use Rattle.laws.proofs.Tests.{clash}
 use Rattle.frameread.specs.Line.{formed, closed, fieldOf}
 use Rattle.frames.specs.declared.table.Frame.{Frame}
 use Rattle.refusals.specs.declared.Refusal.the-variants.{Count}
 use Rattle.refusals.specs.declared.Outcome.the-variants.{Done, Refused}
 use Rattle.refusals.specs.First.{till}
-use Rattle.refusals.proofs.FirstLaws.{done-refused}
+use Rattle.refusals.proofs.FirstLaws.{done-refused, done-till}
 use Rattle.tasks.specs.declared.set.Header.{Header}
 use Rattle.tasks.specs.declared.set.Optional.the-variants.{Absent, Given}
-use Rattle.taskfile.specs.File.{past, isHeader, isMasked, maskedAt, lineOutcome, openingLines, tasksAmong, fileTasks}
+use Rattle.taskfile.specs.File.{past, empty, isHeader, isMasked, maskedAt, lineOutcome, openingLines, tasksAmong, fileTasks}
 use Rattle.taskfile.proofs.AmongLaws.{among-all}
 use Rattle.taskfile.proofs.Lines.{opening-one, opening-two, first-masked, later-masked, clear-there, no-task}
 use Rattle.taskfile.proofs.OpeningLaws.{taken-opening, among-opening}
@@ -90,4 +91,5 @@ no-task-place text =
     record {
       header = λ h end. ends-opened text 0 (first-opened text h) (opening-one text (nothing-masked text end)) end;
       masked = λ h m end. ends-opened text 1 (first-opened text h) (opening-two text m) end;
+      last = λ k clear there end none. ap (λ (a : ReadAnswer). a .outcome) (reads-refused text (suc k) (Count (suc (suc k))) (done-till (lineOutcome text) (suc k) (λ j lt. clear (suc j) (omega arith) (omega arith))) (no-task text k (not-true (empty (past k text)) there) end none));
     }

@@ -1,4 +1,4 @@
--- Reading looks no further than a header, a 05 line, 64 tasks and one line more: a text cut behind them is answered the same.
+-- Reading looks no further than a header, a 05 line, 64 tasks, 32 interrupts and one line more: a text cut behind them is answered the same.
 use Prim.Native.Nat.{ℕ, zero, suc, _+_, _-_, _≤_, _<_}
 use native.Mathlib.Omega.{arith}
 use native.Mathlib.Decide.{decLt}
@@ -17,20 +17,24 @@ use Rattle.refusals.specs.declared.Outcome.{Outcome}
 use Rattle.refusals.specs.declared.Outcome.the-variants.{Done, Refused}
 use Rattle.frameread.proofs.Formed.{formed-line}
 use Rattle.frames_claims.proofs.LineLaws.{formed-prefix}
+use Rattle.tasks.specs.declared.set.Interrupt.{Interrupt}
 use Rattle.tasks.specs.declared.set.Task.{Task}
 use Rattle.refusals.specs.First.{firstOf, when, till}
-use Rattle.tasks.specs.Set.{mostTasks, hasId}
+use Rattle.tasks.specs.Set.{mostTasks, mostInterrupts, hasId}
 use Rattle.tasks.specs.Search.{some}
-use Rattle.taskfile.specs.File.{past, empty, lineOutcome, openingLines, openingBytes, taskAt, tasksAmong}
-use Rattle.taskread.specs.Read.{readOf, furthest}
-use Rattle.tasks_claims.specs.Claims.{Opened, linesWith, bytesWith, linesTo, sizeOf, Shaped, ReadLooksAt}
-use Rattle.taskfile.proofs.AmongLaws.{among-task}
+use Rattle.taskfile.specs.File.{past, empty, lineOutcome, openingLines, openingBytes, taskAt, interruptAt, among, tasksAmong, interruptsAmong}
+use Rattle.readbytes.specs.Furthest.{furthest}
+use Rattle.taskread.specs.Read.{readOf}
+use Rattle.tasks_claims.specs.Claims.{Opened, linesTo, sizeOf, ReadLooksAt}
+use Rattle.taskfile.proofs.AmongLaws.{among-here, among-other}
+use Rattle.taskfile.proofs.Past.{past-formed}
 use Rattle.taskread.proofs.Reading.{reads-refused}
-use Rattle.taskfile.proofs.Lines.{neither, line-other, first-header, first-task, first-masked, first-other, later-header, later-masked, later-task, clear-task, clear-room, clear-header}
+use Rattle.taskfile.proofs.Lines.{neither, line-other, first-header, first-task, first-masked, first-interrupt, first-other, later-header, later-masked, later-task, late-task, later-interrupt, clear-header}
 use Rattle.refusals.proofs.FirstLaws.{till-suc}
-use Rattle.tasks_claims.proofs.ShapedLaws.{opening-most, lines-opened, lines-some, size-is, shaped-none, shaped-more, shaped-less, past-shaped, shaped-count}
+use Rattle.tasks_claims.proofs.ShapedLaws.{opening-most, lines-in, lines-opened, lines-some, size-is, shaped-none, past-shaped}
+use Rattle.tasks_claims.proofs.ReachedLaws.{Reached, Next, task, interrupt, reached-next}
 use Rattle.taskfile.proofs.Standing.{byte-there}
-use Rattle.taskfile.proofs.OpeningLaws.{past-header, within-header, taken-opening, among-opening}
+use Rattle.taskfile.proofs.OpeningLaws.{past-header, taken-opening, among-opening, none-opening}
 
 -- a part of the front of a text is the front of a part
 drop-take : (p m : ℕ) (text : List ℕ) → p ≤ length text → drop p (take (p + m) text) ≡ take m (drop p text)
@@ -51,6 +55,17 @@ unfolding taskAt
 task-same a b e =
     λ i. record { id = field-line Frame.Task 0 a b e i; cost = field-line Frame.Task 1 a b e i; deadline = field-line Frame.Task 2 a b e i; period = field-line Frame.Task 3 a b e i }
 
+interrupt-same : (a b : List ℕ) → line a ≡ line b → interruptAt a ≡ interruptAt b
+unfolding interruptAt
+interrupt-same a b e =
+    λ i. record {
+      processor = field-line Frame.Interrupt 0 a b e i;
+      cost = field-line Frame.Interrupt 1 a b e i;
+      deadline = field-line Frame.Interrupt 2 a b e i;
+      period = field-line Frame.Interrupt 3 a b e i;
+      jitter = field-line Frame.Interrupt 4 a b e i;
+    }
+
 there-take : (n : ℕ) (rest : List ℕ) → 1 ≤ n → empty rest ≡ false → empty (take n rest) ≡ false
 there-take zero rest one e = absurd (omega arith)
 there-take (suc n) [] one e = e
@@ -60,6 +75,15 @@ module _ (N : ℕ) (text : List ℕ) (far : furthest ≤ N) (long : N < length t
   abbrev cut : List ℕ
   cut = take N text
 
+  cut-length : length cut ≡ N
+  cut-length = length-take-le N text (omega arith)
+
+  -- a place of the front, as one of the text
+  drop-cut : (p : ℕ) → p ≤ N → drop p cut ≡ take (N - p) (drop p text)
+  drop-cut p fits =
+      let split : p + (N - p) ≡ N = omega arith in
+      ap (λ (n : ℕ). drop p (take n text)) (sym split) ∙ drop-take p (N - p) text (omega arith)
+
   -- the front is opened as the text is, with as many lines and bytes
   opened-cut : Opened text → Opened cut
   unfolding widthsOf sum
@@ -68,142 +92,153 @@ module _ (N : ℕ) (text : List ℕ) (far : furthest ≤ N) (long : N < length t
   second-cut : Opened text → formed Frame.Masked (past 1 cut) ≡ formed Frame.Masked (past 1 text)
   unfolding widthsOf sum
   second-cut header =
-      let split : lengthOf Frame.Header + 1 + (N - (lengthOf Frame.Header + 1)) ≡ N = omega arith in
-      ap (formed Frame.Masked) (past-header cut (opened-cut header)
-      ∙ (ap (λ (n : ℕ). drop (lengthOf Frame.Header + 1) (take n text)) (sym split)
-      ∙ (drop-take (lengthOf Frame.Header + 1) (N - (lengthOf Frame.Header + 1)) text (within-header text header)
-      ∙ ap (take (N - (lengthOf Frame.Header + 1))) (sym (past-header text header)))))
+      ap (formed Frame.Masked) (past-header cut (opened-cut header) ∙ drop-cut (lengthOf Frame.Header + 1) (omega arith) ∙ ap (take (N - (lengthOf Frame.Header + 1))) (sym (past-header text header)))
       ∙ formed-prefix Frame.Masked (N - (lengthOf Frame.Header + 1)) (past 1 text) (omega arith)
 
-  lines-cut : (m : ℕ) → Opened text → linesTo cut m ≡ linesTo text m
+  lines-cut : Opened text → openingLines cut ≡ openingLines text
   unfolding openingLines
-  lines-cut m header = ap (λ (b : Bool). linesWith (cond b 2 1) m) (second-cut header)
+  lines-cut header = ap (λ (b : Bool). cond b 2 1) (second-cut header)
 
-  size-cut : (m : ℕ) → Opened text → sizeOf cut m ≡ sizeOf text m
+  size-cut : Opened text → openingBytes cut ≡ openingBytes text
   unfolding openingBytes
-  size-cut m header = ap (λ (b : Bool). bytesWith (lengthOf Frame.Header + 1 + cond b (lengthOf Frame.Masked + 1) 0) m) (second-cut header)
+  size-cut header = ap (λ (b : Bool). lengthOf Frame.Header + 1 + cond b (lengthOf Frame.Masked + 1) 0) (second-cut header)
 
-  -- its first lines are those of the text
-  rest-cut : (m : ℕ) → sizeOf text m ≤ N → Shaped text m → Shaped cut m → past (linesTo text m) cut ≡ take (N - sizeOf text m) (past (linesTo text m) text)
-  unfolding widthsOf sum
-  rest-cut m fits s c =
-      let split : sizeOf text m + (N - sizeOf text m) ≡ N = omega arith in
-      ap (λ (k : ℕ). past k cut) (sym (lines-cut m (s .opened)))
-      ∙ past-shaped cut m c .0
-      ∙ ap (λ (n : ℕ). drop n cut) (size-cut m (s .opened))
-      ∙ (ap (λ (n : ℕ). drop (sizeOf text m) (take n text)) (sym split)
-      ∙ (drop-take (sizeOf text m) (N - sizeOf text m) text (omega arith)
-      ∙ ap (take (N - sizeOf text m)) (sym (past-shaped text m s .0))))
+  -- the lines of n tasks and k interrupts are clear in both, end at the same byte and hold the same
+  record Same (n k : ℕ) : Type 0 where
+    reached : Reached text n k
+    rest : past (linesTo text n k) cut ≡ drop (sizeOf text n k) cut
+    tasks : tasksAmong cut (linesTo text n k) ≡ tasksAmong text (linesTo text n k)
+    interrupts : interruptsAmong cut (linesTo text n k) ≡ interruptsAmong text (linesTo text n k)
+    clear : till (lineOutcome text) (linesTo text n k) ≡ Done
+    clear-cut : till (lineOutcome cut) (linesTo text n k) ≡ Done
 
-  -- the next is an 02 line if it is one of the text
-  next-cut : (m : ℕ) → sizeOf text (suc m) ≤ N → Shaped text m → Shaped cut m → formed Frame.Task (past (linesTo text m) text) ≡ true → formed Frame.Task (past (linesTo text m) cut) ≡ true
-  unfolding widthsOf sum
-  next-cut m fits s c task =
-      ap (formed Frame.Task) (rest-cut m (omega arith) s c)
-      ∙ (formed-prefix Frame.Task (N - sizeOf text m) (past (linesTo text m) text) (omega arith) ∙ task)
+  same-none : Opened text → Same 0 0
+  same-none header =
+      let lines = lines-cut header in
+      record {
+        reached = record { shaped = shaped-none text header; most = omega arith; few = omega arith };
+        rest = ap (λ (n : ℕ). past n cut) (sym lines) ∙ taken-opening cut (opened-cut header) .rest ∙ ap (λ (n : ℕ). drop n cut) (size-cut header);
+        tasks = ap (tasksAmong cut) (sym lines) ∙ among-opening cut (opened-cut header) ∙ sym (among-opening text header);
+        interrupts = ap (interruptsAmong cut) (sym lines) ∙ none-opening cut (opened-cut header) ∙ sym (none-opening text header);
+        clear = taken-opening text header .clear;
+        clear-cut = ap (till (lineOutcome cut)) (sym lines) ∙ taken-opening cut (opened-cut header) .clear;
+      }
 
-  shaped-cut : (m : ℕ) → sizeOf text m ≤ N → Shaped text m → Shaped cut m
-  unfolding widthsOf sum
-  shaped-cut zero fits s = shaped-none cut (opened-cut (s .opened))
-  shaped-cut (suc m) fits s =
-      let fewer : Shaped text m = shaped-less text m (suc m) (omega arith) s in
-      let c : Shaped cut m = shaped-cut m (omega arith) fewer in
-      shaped-more cut m c
-      (ap (λ (k : ℕ). formed Frame.Task (past k cut)) (lines-cut m (s .opened)) ∙ next-cut m fits fewer c (s .tasks m (omega arith)))
+  module _ (n k : ℕ) (c : Same n k) where
+    abbrev lines : ℕ
+    lines = linesTo text n k
 
-  tasks-cut : (m : ℕ) → sizeOf text m ≤ N → Shaped text m → tasksAmong cut (linesTo text m) ≡ tasksAmong text (linesTo text m)
-  unfolding widthsOf sum
-  tasks-cut zero fits s =
-      ap (tasksAmong cut) (sym (lines-cut 0 (s .opened))) ∙ among-opening cut (opened-cut (s .opened)) ∙ sym (among-opening text (s .opened))
-  tasks-cut (suc m) fits s =
-      let fewer : Shaped text m = shaped-less text m (suc m) (omega arith) s in
-      let c : Shaped cut m = shaped-cut m (omega arith) fewer in
-      among-task cut (linesTo text m) (next-cut m fits fewer c (s .tasks m (omega arith)))
-      ∙ ap₂ (λ (ts : List Task) (t : Task). ts ++ (t ∷ [])) (tasks-cut m (omega arith) fewer)
-      (task-same (past (linesTo text m) cut) (past (linesTo text m) text)
-      (ap line (rest-cut m (omega arith) fewer c)
-      ∙ line-prefix Frame.Task (N - sizeOf text m) (past (linesTo text m) text) (omega arith) (s .tasks m (omega arith))))
-      ∙ sym (among-task text (linesTo text m) (s .tasks m (omega arith)))
+    abbrev at : ℕ
+    at = sizeOf text n k
 
-  -- a line after at most 64 tasks is there, and is of the same kind in the front
-  there : (m : ℕ) → m ≤ mostTasks → Shaped text m → empty (past (linesTo text m) text) ≡ false
-  unfolding widthsOf sum
-  there m most s = ap empty (past-shaped text m s .0) ∙ byte-there (sizeOf text m) text (omega (arith, size-is text m, opening-most text))
+    some-lines : 1 ≤ lines
+    some-lines = lines-some text n k
 
-  module _ (m : ℕ) (most : m ≤ mostTasks) (s : Shaped text m) where
-    fits : sizeOf text m + 31 ≤ N
+    -- the next line is there, and the front has all of it
+    fits : at + 31 ≤ N
     unfolding widthsOf sum
-    fits = omega (arith, size-is text m, opening-most text)
+    fits = omega (arith, size-is text n k, opening-most text, c .reached .most, c .reached .few)
 
-    shaped : Shaped cut m
-    shaped = shaped-cut m (omega (arith, fits)) s
+    ends-at : (past lines text ≡ drop at text) × (at ≤ length text)
+    ends-at = past-shaped text n k (c .reached .shaped)
 
-    same-rest : past (linesTo text m) cut ≡ take (N - sizeOf text m) (past (linesTo text m) text)
-    same-rest = rest-cut m (omega (arith, fits)) s shaped
+    there : empty (past lines text) ≡ false
+    there = ap empty (ends-at .0) ∙ byte-there at text (omega (arith, fits, long))
 
-    there-cut : empty (past (linesTo text m) cut) ≡ false
-    there-cut = ap empty same-rest ∙ there-take (N - sizeOf text m) (past (linesTo text m) text) (omega (arith, fits)) (there m most s)
+    same-rest : past lines cut ≡ take (N - at) (past lines text)
+    same-rest = c .rest ∙ drop-cut at (omega (arith, fits)) ∙ ap (take (N - at)) (sym (ends-at .0))
 
-    kind-cut : (frame : Frame) → lengthOf frame + 1 ≤ 31 → formed frame (past (linesTo text m) cut) ≡ formed frame (past (linesTo text m) text)
-    kind-cut frame short = ap (formed frame) same-rest ∙ formed-prefix frame (N - sizeOf text m) (past (linesTo text m) text) (omega (arith, fits, short))
+    there-cut : empty (past lines cut) ≡ false
+    there-cut = ap empty same-rest ∙ there-take (N - at) (past lines text) (omega (arith, fits)) there
 
-    header-cut : formed Frame.Header (past (linesTo text m) cut) ≡ formed Frame.Header (past (linesTo text m) text)
-    unfolding widthsOf sum
-    header-cut = kind-cut Frame.Header (omega arith)
+    kind-cut : (frame : Frame) → lengthOf frame + 1 ≤ 31 → formed frame (past lines cut) ≡ formed frame (past lines text)
+    kind-cut frame short = ap (formed frame) same-rest ∙ formed-prefix frame (N - at) (past lines text) (omega (arith, fits, short))
 
-    task-cut : formed Frame.Task (past (linesTo text m) cut) ≡ formed Frame.Task (past (linesTo text m) text)
-    unfolding widthsOf sum
-    task-cut = kind-cut Frame.Task (omega arith)
+    figures-cut : {A : Type 0} (frame : Frame) (figures : List ℕ → A) → ((a b : List ℕ) → line a ≡ line b → figures a ≡ figures b) → lengthOf frame + 1 ≤ 31 → formed frame (past lines text) ≡ true → figures (past lines cut) ≡ figures (past lines text)
+    figures-cut frame figures by-line short here =
+        by-line (past lines cut) (past lines text) (ap line same-rest ∙ line-prefix frame (N - at) (past lines text) (omega (arith, fits, short)) here)
 
-    masked-cut : formed Frame.Masked (past (linesTo text m) cut) ≡ formed Frame.Masked (past (linesTo text m) text)
-    unfolding widthsOf sum
-    masked-cut = kind-cut Frame.Masked (omega arith)
-
-    figures-cut : formed Frame.Task (past (linesTo text m) text) ≡ true → taskAt (past (linesTo text m) cut) ≡ taskAt (past (linesTo text m) text)
-    unfolding widthsOf sum
-    figures-cut task =
-        task-same (past (linesTo text m) cut) (past (linesTo text m) text)
-        (ap line same-rest ∙ line-prefix Frame.Task (N - sizeOf text m) (past (linesTo text m) text) (omega (arith, fits)) task)
+    -- what the lines hold with one more
+    among-cut : {A : Type 0} (frame : Frame) (figures : List ℕ → A) → ((a b : List ℕ) → line a ≡ line b → figures a ≡ figures b) → lengthOf frame + 1 ≤ 31 → among frame figures cut lines ≡ among frame figures text lines → among frame figures cut (suc lines) ≡ among frame figures text (suc lines)
+    among-cut {A = A} frame figures by-line short before = by-kind (formed frame (past lines text)) refl
+      where
+        by-kind : (b : Bool) → formed frame (past lines text) ≡ b → among frame figures cut (suc lines) ≡ among frame figures text (suc lines)
+        by-kind true e =
+            among-here frame figures cut lines (kind-cut frame short ∙ e)
+            ∙ ap₂ (λ (xs : List A) (x : A). xs ++ (x ∷ [])) before (figures-cut frame figures by-line short e)
+            ∙ sym (among-here frame figures text lines e)
+        by-kind false e =
+            among-other frame figures cut lines (kind-cut frame short ∙ e) ∙ before ∙ sym (among-other frame figures text lines e)
 
     -- the line is answered the same
-    same-line : lineOutcome cut (suc (linesTo text m)) ≡ lineOutcome text (suc (linesTo text m))
-    same-line = kinds (formed Frame.Header (past (linesTo text m) text)) (formed Frame.Task (past (linesTo text m) text)) (formed Frame.Masked (past (linesTo text m) text)) refl refl refl
+    same-line : lineOutcome cut (suc lines) ≡ lineOutcome text (suc lines)
+    unfolding widthsOf sum
+    same-line = kinds (formed Frame.Header (past lines text)) (formed Frame.Task (past lines text)) (formed Frame.Masked (past lines text)) (formed Frame.Interrupt (past lines text)) refl refl refl refl
       where
-        kinds : (h t b : Bool) → formed Frame.Header (past (linesTo text m) text) ≡ h → formed Frame.Task (past (linesTo text m) text) ≡ t → formed Frame.Masked (past (linesTo text m) text) ≡ b → lineOutcome cut (suc (linesTo text m)) ≡ lineOutcome text (suc (linesTo text m))
-        kinds true t b eh et eb =
-            later-header cut (linesTo text m) (lines-some text m) (header-cut ∙ eh) ∙ sym (later-header text (linesTo text m) (lines-some text m) eh)
-        kinds false true b eh et eb =
-            later-task cut (linesTo text m) (lines-some text m) (task-cut ∙ et)
-            ∙ (ap₂ (λ (u : Task) (ts : List Task). firstOf (when (eqb (length ts) mostTasks) (Count (suc (linesTo text m)))) (when (some (hasId (u .id)) ts) (Twice (suc (linesTo text m))))) (figures-cut et) (tasks-cut m (omega (arith, fits)) s)
-            ∙ sym (later-task text (linesTo text m) (lines-some text m) et))
-        kinds false false true eh et eb =
-            later-masked cut (linesTo text m) (omega (arith, lines-cut 0 (s .opened), lines-opened text m)) (masked-cut ∙ eb)
-            ∙ sym (later-masked text (linesTo text m) (lines-opened text m) eb)
-        kinds false false false eh et eb =
-            line-other cut (linesTo text m) there-cut (neither (past (linesTo text m) cut) (header-cut ∙ eh) (task-cut ∙ et) (masked-cut ∙ eb))
-            ∙ sym (line-other text (linesTo text m) (there m most s) (neither (past (linesTo text m) text) eh et eb))
+        a-task : (is : List Interrupt) → interruptsAmong text lines ≡ is → formed Frame.Task (past lines text) ≡ true → lineOutcome cut (suc lines) ≡ lineOutcome text (suc lines)
+        a-task [] none et =
+            later-task cut lines some-lines (c .interrupts ∙ none) (kind-cut Frame.Task (omega arith) ∙ et)
+            ∙ ap₂ (λ (u : Task) (ts : List Task). firstOf (when (eqb (length ts) mostTasks) (Count (suc lines))) (when (some (hasId (u .id)) ts) (Twice (suc lines)))) (figures-cut Frame.Task taskAt task-same (omega arith) et) (c .tasks)
+            ∙ sym (later-task text lines some-lines none et)
+        a-task (i ∷ is) late et =
+            late-task cut lines some-lines (omega (arith, ap length (c .interrupts ∙ late))) (kind-cut Frame.Task (omega arith) ∙ et)
+            ∙ sym (late-task text lines some-lines (omega (arith, ap length late)) et)
+
+        kinds : (h t b i : Bool) → formed Frame.Header (past lines text) ≡ h → formed Frame.Task (past lines text) ≡ t → formed Frame.Masked (past lines text) ≡ b → formed Frame.Interrupt (past lines text) ≡ i → lineOutcome cut (suc lines) ≡ lineOutcome text (suc lines)
+        kinds true t b i eh et eb ei =
+            later-header cut lines some-lines (kind-cut Frame.Header (omega arith) ∙ eh) ∙ sym (later-header text lines some-lines eh)
+        kinds false true b i eh et eb ei = a-task (interruptsAmong text lines) refl et
+        kinds false false true i eh et eb ei =
+            later-masked cut lines (omega (arith, lines-cut (c .reached .shaped .opened), lines-opened text n k)) (kind-cut Frame.Masked (omega arith) ∙ eb)
+            ∙ sym (later-masked text lines (lines-opened text n k) eb)
+        kinds false false false true eh et eb ei =
+            later-interrupt cut lines some-lines (kind-cut Frame.Interrupt (omega arith) ∙ ei)
+            ∙ ap (λ (is : List Interrupt). when (eqb (length is) mostInterrupts) (Count (suc lines))) (c .interrupts)
+            ∙ sym (later-interrupt text lines some-lines ei)
+        kinds false false false false eh et eb ei =
+            line-other cut lines there-cut (neither (past lines cut) (kind-cut Frame.Header (omega arith) ∙ eh) (kind-cut Frame.Task (omega arith) ∙ et) (kind-cut Frame.Masked (omega arith) ∙ eb) (kind-cut Frame.Interrupt (omega arith) ∙ ei))
+            ∙ sym (line-other text lines there (neither (past lines text) eh et eb ei))
+
+    -- one line more is taken in both
+    same-next : (m l : ℕ) (frame : Frame) → Reached text m l → linesTo text m l ≡ suc lines → sizeOf text m l ≡ at + (lengthOf frame + 1) → lengthOf frame + 1 ≤ 31 → formed frame (past lines text) ≡ true → lineOutcome text (suc lines) ≡ Done → Same m l
+    unfolding widthsOf sum
+    same-next m l frame reached on size short here done =
+        record {
+          reached = reached;
+          rest =
+              ap (λ (k : ℕ). past k cut) on
+              ∙ past-formed frame cut lines at (c .rest) (omega (arith, fits, cut-length)) (ap (formed frame) (sym (c .rest)) ∙ kind-cut frame short ∙ here) .0
+              ∙ ap (λ (p : ℕ). drop p cut) (sym size);
+          tasks = ap (tasksAmong cut) on ∙ among-cut Frame.Task taskAt task-same (omega arith) (c .tasks) ∙ ap (tasksAmong text) (sym on);
+          interrupts = ap (interruptsAmong cut) on ∙ among-cut Frame.Interrupt interruptAt interrupt-same (omega arith) (c .interrupts) ∙ ap (interruptsAmong text) (sym on);
+          clear = ap (till (lineOutcome text)) on ∙ till-suc (lineOutcome text) lines ∙ rw (c .clear, done);
+          clear-cut = ap (till (lineOutcome cut)) on ∙ till-suc (lineOutcome cut) lines ∙ rw (c .clear-cut, same-line, done);
+        }
 
   -- both are refused alike
   both-refused : (n : ℕ) (r : Refusal) → till (lineOutcome cut) n ≡ Done → till (lineOutcome text) n ≡ Done → lineOutcome cut (suc n) ≡ Refused r → lineOutcome text (suc n) ≡ Refused r → readOf cut ≡ readOf text
   both-refused n r c t ec et = reads-refused cut n r c ec ∙ sym (reads-refused text n r t et)
 
   -- a line is refused in both alike, or taken in both
-  step : (m : ℕ) → m ≤ mostTasks → Shaped text m → till (lineOutcome cut) (linesTo text m) ≡ Done → till (lineOutcome text) (linesTo text m) ≡ Done → (Shaped text (suc m) → suc m ≤ mostTasks → till (lineOutcome cut) (suc (linesTo text m)) ≡ Done → till (lineOutcome text) (suc (linesTo text m)) ≡ Done → readOf cut ≡ readOf text) → readOf cut ≡ readOf text
-  step m most s c t taken = at (lineOutcome text (suc (linesTo text m))) refl
+  step : (n k : ℕ) → Same n k → ((m l : ℕ) → Same m l → m + l ≡ suc (n + k) → readOf cut ≡ readOf text) → readOf cut ≡ readOf text
+  unfolding widthsOf sum
+  step n k c taken = by-line (lineOutcome text (suc (linesTo text n k))) refl
     where
-      at : (o : Outcome) → lineOutcome text (suc (linesTo text m)) ≡ o → readOf cut ≡ readOf text
-      at (Refused r) e = both-refused (linesTo text m) r c t (same-line m most s ∙ e) e
-      at Done e =
-          let task = clear-task text (linesTo text m) (lines-opened text m) (there m most s) e in
-          let room : length (tasksAmong text (linesTo text m)) ≡ mostTasks → ⊥ = clear-room text (linesTo text m) (lines-some text m) task e in
-          taken (shaped-more text m s task) (omega (arith, most, room, shaped-count text m s))
-          (till-suc (lineOutcome cut) (linesTo text m) ∙ rw (c, same-line m most s, e))
-          (till-suc (lineOutcome text) (linesTo text m) ∙ rw (t, e))
+      next : lineOutcome text (suc (linesTo text n k)) ≡ Done → Next text n k → readOf cut ≡ readOf text
+      next e (task none here more) =
+          taken (suc n) k
+          (same-next n k c (suc n) k Frame.Task more (omega (arith, lines-in text (suc n) k, lines-in text n k)) (omega (arith, size-is text (suc n) k, size-is text n k)) (omega arith) here e)
+          (omega arith)
+      next e (interrupt here more) = taken n (suc k) (same-next n k c n (suc k) Frame.Interrupt more refl refl (omega arith) here e) (omega arith)
+
+      by-line : (o : Outcome) → lineOutcome text (suc (linesTo text n k)) ≡ o → readOf cut ≡ readOf text
+      by-line (Refused r) e = both-refused (linesTo text n k) r (c .clear-cut) (c .clear) (same-line n k c ∙ e) e
+      by-line Done e = next e (reached-next text n k (c .reached) (there n k c) e)
 
   -- in a text as long as that a line is refused, and the front's answer is the text's
-  going : (fuel m : ℕ) → mostTasks ≤ m + fuel → m ≤ mostTasks → Shaped text m → till (lineOutcome cut) (linesTo text m) ≡ Done → till (lineOutcome text) (linesTo text m) ≡ Done → readOf cut ≡ readOf text
-  going zero m enough most s c t = step m most s c t (λ more le c′ t′. absurd (omega arith))
-  going (suc fuel) m enough most s c t = step m most s c t (λ more le c′ t′. going fuel (suc m) (omega arith) le more c′ t′)
+  going : (fuel n k : ℕ) → mostTasks + mostInterrupts ≤ n + k + fuel → Same n k → readOf cut ≡ readOf text
+  going zero n k enough c = step n k c (λ m l more e. absurd (omega (arith, enough, e, more .reached .most, more .reached .few)))
+  going (suc fuel) n k enough c = step n k c (λ m l more e. going fuel m l (omega (arith, enough, e)) more)
 
   -- line 1 is answered the same
   same-first : lineOutcome cut 1 ≡ lineOutcome text 1
@@ -219,28 +254,25 @@ module _ (N : ℕ) (text : List ℕ) (far : furthest ≤ N) (long : N < length t
       kind : (frame : Frame) → lengthOf frame + 1 ≤ 31 → formed frame cut ≡ formed frame text
       kind frame short = formed-prefix frame N text (omega (arith, short))
 
-      other : (t b : Bool) → formed Frame.Header text ≡ false → formed Frame.Task text ≡ t → formed Frame.Masked text ≡ b → lineOutcome cut 1 ≡ lineOutcome text 1
-      other true b eh et eb = first-task cut (kind Frame.Task (omega arith) ∙ et) ∙ sym (first-task text et)
-      other false true eh et eb = first-masked cut (kind Frame.Masked (omega arith) ∙ eb) ∙ sym (first-masked text eb)
-      other false false eh et eb =
-          first-other cut there-front (neither cut (kind Frame.Header (omega arith) ∙ eh) (kind Frame.Task (omega arith) ∙ et) (kind Frame.Masked (omega arith) ∙ eb))
-          ∙ sym (first-other text there-text (neither text eh et eb))
+      other : (t b i : Bool) → formed Frame.Header text ≡ false → formed Frame.Task text ≡ t → formed Frame.Masked text ≡ b → formed Frame.Interrupt text ≡ i → lineOutcome cut 1 ≡ lineOutcome text 1
+      other true b i eh et eb ei = first-task cut (kind Frame.Task (omega arith) ∙ et) ∙ sym (first-task text et)
+      other false true i eh et eb ei = first-masked cut (kind Frame.Masked (omega arith) ∙ eb) ∙ sym (first-masked text eb)
+      other false false true eh et eb ei = first-interrupt cut (kind Frame.Interrupt (omega arith) ∙ ei) ∙ sym (first-interrupt text ei)
+      other false false false eh et eb ei =
+          first-other cut there-front (neither cut (kind Frame.Header (omega arith) ∙ eh) (kind Frame.Task (omega arith) ∙ et) (kind Frame.Masked (omega arith) ∙ eb) (kind Frame.Interrupt (omega arith) ∙ ei))
+          ∙ sym (first-other text there-text (neither text eh et eb ei))
 
       header : (h : Bool) → formed Frame.Header text ≡ h → lineOutcome cut 1 ≡ lineOutcome text 1
       header true e = first-header cut (kind Frame.Header (omega arith) ∙ e) ∙ sym (first-header text e)
-      header false e = other (formed Frame.Task text) (formed Frame.Masked text) e refl refl
+      header false e = other (formed Frame.Task text) (formed Frame.Masked text) (formed Frame.Interrupt text) e refl refl refl
 
   pub long-prefix : readOf cut ≡ readOf text
   unfolding till
-  long-prefix = at (lineOutcome text 1) refl
+  long-prefix = at-first (lineOutcome text 1) refl
     where
-      at : (o : Outcome) → lineOutcome text 1 ≡ o → readOf cut ≡ readOf text
-      at (Refused r) e = both-refused 0 r refl refl (same-first ∙ e) e
-      at Done e =
-          let header = clear-header text e in
-          going mostTasks 0 (omega arith) (omega arith) (shaped-none text header)
-          (ap (till (lineOutcome cut)) (sym (lines-cut 0 header)) ∙ taken-opening cut (opened-cut header) .clear)
-          (taken-opening text header .clear)
+      at-first : (o : Outcome) → lineOutcome text 1 ≡ o → readOf cut ≡ readOf text
+      at-first (Refused r) e = both-refused 0 r refl refl (same-first ∙ e) e
+      at-first Done e = going (mostTasks + mostInterrupts) 0 0 (omega arith) (same-none (clear-header text e))
 
 -- reading looks no further than that
 pub read-looks-at : ReadLooksAt
@@ -250,7 +282,7 @@ read-looks-at N text far =
       | no short ↦ ap readOf (take-all N text (omega (arith, short)))
     ]
 
--- in bytes: 31 + 7 + 64 · 23 + 31
-pub furthest-bytes : furthest ≡ 1541
+-- in bytes: 31 + 7 + 64 · 23 + 32 · 27 + 31
+pub furthest-bytes : furthest ≡ 2405
 unfolding widthsOf sum
 furthest-bytes = refl

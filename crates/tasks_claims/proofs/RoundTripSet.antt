@@ -3,52 +3,57 @@
 use Prim.Native.Nat.{ℕ, zero, suc, _+_, _-_, _≤_, _<_}
 use mathlib.Core.Path.{_≡_, refl, sym, _∙_, ap, ap₂}
 use mathlib.Core.Bool.{Bool, true, false}
-use mathlib.Core.List.{List, [], _∷_, _++_}
-use native.Mathlib.Numerals.{add-one}
+use mathlib.Core.List.{List, [], _∷_, _++_, append-assoc, append-nil}
 use native.Mathlib.Omega.{arith}
 use lib.Dec.{eqb}
 use native.Mathlib.Nat.{min-le-left}
 use lib.ListN.{length, take, drop, getD, replicate, length-append, length-replicate, length-take}
-use lib.Seq.{take-suc, take-length, drop-length, drop-cons, drop-drop}
+use lib.Seq.{take-suc, take-length, drop-length, drop-cons, length-take-le}
 use borrow.Author.Tests.{ne-eqb, eqb-true, not-false}
-use Rattle.frames.specs.Table.{widthsOf, fieldsIn}
+use Rattle.frames.specs.Table.{widthsOf, fieldsIn, indexOf}
 use Rattle.frameread.specs.Line.{after, closed, formed, fieldOf}
+use Rattle.frameread.proofs.KindLaws.{not-formed}
 use Rattle.framewrite.specs.Line.{lineOf}
+use Rattle.framelines.specs.Each.{eachLine}
+use Rattle.framelines.proofs.EachLaws.{each-nil, each-cons}
 use Rattle.frames.specs.declared.table.Frame.{Frame}
-use Rattle.refusals.specs.declared.Refusal.the-variants.{Count, Twice, Range}
+use Rattle.refusals.specs.declared.Refusal.the-variants.{Count, Twice}
 use Rattle.refusals.specs.declared.Outcome.{Outcome}
 use Rattle.refusals.specs.declared.Outcome.the-variants.{Done}
 use Rattle.frames_claims.proofs.LineLaws.{line-formed, line-after, field-line}
 use Rattle.tasks.specs.declared.set.Optional.{Optional}
 use Rattle.tasks.specs.declared.set.Optional.the-variants.{Absent, Given}
 use Rattle.tasks.specs.declared.set.Header.{Header}
+use Rattle.tasks.specs.declared.set.Interrupt.{Interrupt}
 use Rattle.tasks.specs.declared.set.Task.{Task}
 use Rattle.tasks.specs.declared.set.TaskSet.{TaskSet}
-use Rattle.tasks.specs.Set.{mostTasks, zeroTask, members, setOf, hasId}
+use Rattle.tasks.specs.Set.{mostTasks, mostInterrupts, zeroTask, zeroInterrupt, members, interruptsIn, interruptsWith, setOf, hasId}
 use Rattle.refusals.specs.First.{firstOf, when, till}
 use Rattle.tasks.specs.Search.{some, atTask, firstTask}
-use Rattle.taskrows.specs.Rows.{rangeRow, figuresOutcome}
-use Rattle.taskask.specs.Ask.{headerOverflows, taskOverflows, maskedOverflows}
-use Rattle.taskfile.specs.File.{past, lineOutcome, headerAt, maskedAt, fileHeader, openingLines, taskAt, tasksAmong}
+use Rattle.taskrows.specs.Rows.{rangeRow, interruptRow, rangeAt, figuresOutcome}
+use Rattle.taskask.specs.Ask.{headerOverflows, taskOverflows, maskedOverflows, interruptOverflows, askRow}
+use Rattle.taskfile.specs.File.{past, lineOutcome, headerAt, maskedAt, fileHeader, openingLines, taskAt, interruptAt, among, tasksAmong, interruptsAmong, fileTasks, fileInterrupts}
 use Rattle.taskread.specs.Read.{fileSet, answer}
-use Rattle.tasks.specs.Values.{headerValues, taskValues}
-use Rattle.tasktext.specs.Text.{taskLines, maskedLine, textOf}
+use Rattle.tasks.specs.Values.{headerValues, taskValues, interruptValues}
+use Rattle.optionallines.specs.Lines.{maskedLine, interruptLines}
+use Rattle.tasktext.specs.Text.{taskLines, textOf}
 use Rattle.taskwrite.specs.Write.{writerAsks}
-use Rattle.tasks_claims.specs.Claims.{linesTo, Shaped, Whole, ReadWritten, ReadWrittenSame}
-use Rattle.taskask.proofs.Carried.{count-within, ask-count, ask-twice, ask-header, ask-tasks, ask-masked, header-fits, task-fits, masked-fits}
-use Rattle.tasks.proofs.SetLaws.{members-length, members-set}
+use Rattle.tasks_claims.specs.Claims.{linesWith, linesTo, Run, Shaped, Whole, ReadWritten, ReadWrittenSame}
+use Rattle.taskask.proofs.Carried.{count-within, interrupts-within, ask-count, ask-twice, ask-header, ask-tasks, ask-masked, ask-interrupts, header-fits, task-fits, masked-fits, interrupt-fits}
+use Rattle.tasks.proofs.SetLaws.{members-length, members-set, interrupts-set}
 use Rattle.tasks.proofs.Firsts.{at-none}
-use Rattle.taskrows.proofs.FiguresLaws.{figures-tasks}
+use Rattle.taskrows.proofs.FiguresLaws.{figures-interrupts}
 use Rattle.tasks.proofs.Some.{some-at}
 use Rattle.taskask.proofs.TwiceLaws.{twice-before}
-use Rattle.taskfile.proofs.AmongLaws.{among-task, among-all}
-use Rattle.taskfile.proofs.Lines.{task-no-masked, opening-one, opening-two, clear-past, later-task}
-use Rattle.taskfile.proofs.OpeningLaws.{taken-opening, among-opening}
+use Rattle.taskfile.proofs.AmongLaws.{among-here, among-all, among-whole}
+use Rattle.taskfile.proofs.Lines.{opening-one, opening-two, clear-past, later-task, later-interrupt}
+use Rattle.taskfile.proofs.OpeningLaws.{taken-opening, among-opening, none-opening}
 use Rattle.taskread.proofs.Reading.{reads-clear}
 use Rattle.refusals.proofs.FirstLaws.{till-suc}
-use Rattle.tasks_claims.proofs.ShapedLaws.{past-next, masked-there, masked-absent, lines-some, shaped-less, shaped-count, shaped-all}
-use Rattle.taskwrite.proofs.WriteAsks.{first-some, writer-ask, writer-board, writer-range}
-use Rattle.tasktext.proofs.TextLaws.{lines-nil, lines-cons, masked-none, masked-given}
+use Rattle.tasks_claims.proofs.RunLaws.{run-less, run-other}
+use Rattle.tasks_claims.proofs.ShapedLaws.{past-next, masked-there, masked-absent, lines-some, tasks-first, tasks-last, shaped-all}
+use Rattle.taskwrite.proofs.WriteAsks.{first-some, writer-ask, writer-board, writer-range, writer-interrupts}
+use Rattle.optionallines.proofs.OptionalLaws.{masked-none, masked-given}
 
 -- the board's figures come back from the header's line and from what line 2 gives
 header-back : (h : Header) (rest : List ℕ) → headerOverflows h ≡ false → maskedAt (lineOf Frame.Header (headerValues h) ++ rest) ≡ h .masked → fileHeader (lineOf Frame.Header (headerValues h) ++ rest) ≡ h
@@ -82,156 +87,260 @@ task-back t rest o =
     back : (k : ℕ) → k < fieldsIn Frame.Task → fieldOf Frame.Task k (lineOf Frame.Task (taskValues t) ++ rest) ≡ getD (taskValues t) k 0
     back k lt = field-line Frame.Task (taskValues t) rest k (task-fits t o k lt)
 
--- past k tasks stand the lines of those left
-after-lines : (ts : List Task) → after (taskLines ts) ≡ taskLines (drop 1 ts)
-after-lines [] = ap after lines-nil ∙ unfold after in sym lines-nil
-after-lines (t ∷ ts) = ap after (lines-cons t ts) ∙ line-after Frame.Task (taskValues t) (taskLines ts)
+-- and an interrupt's
+interrupt-back : (i : Interrupt) (rest : List ℕ) → interruptOverflows i ≡ false → interruptAt (lineOf Frame.Interrupt (interruptValues i) ++ rest) ≡ i
+unfolding interruptAt widthsOf
+interrupt-back x rest o =
+    λ i. record {
+      processor = back 0 (omega arith) i;
+      cost = back 1 (omega arith) i;
+      deadline = back 2 (omega arith) i;
+      period = back 3 (omega arith) i;
+      jitter = back 4 (omega arith) i;
+    }
+  where
+    back : (k : ℕ) → k < fieldsIn Frame.Interrupt → fieldOf Frame.Interrupt k (lineOf Frame.Interrupt (interruptValues x) ++ rest) ≡ getD (interruptValues x) k 0
+    back k lt = field-line Frame.Interrupt (interruptValues x) rest k (interrupt-fits x o k lt)
 
--- the lines of tasks start with no 05 line
-tasks-no-masked : (ts : List Task) → formed Frame.Masked (taskLines ts) ≡ false
-unfolding formed closed
-tasks-no-masked [] = ap (formed Frame.Masked) lines-nil
-tasks-no-masked (t ∷ ts) = ap (formed Frame.Masked) (lines-cons t ts) ∙ task-no-masked (lineOf Frame.Task (taskValues t) ++ taskLines ts) (line-formed Frame.Task (taskValues t) (taskLines ts))
+-- ---- a text that has, behind so many lines, a line for each of a list
 
--- of a text whose line 2 is a set's 05 line, or whose tasks start at line 2 where the set has none: behind the lines before the tasks
--- stand the tasks' lines, and what line 2 gives is what the set has
-module _ (text : List ℕ) (ts : List Task) where
-  none-second : past 1 text ≡ maskedLine Absent ++ taskLines ts → past 1 text ≡ taskLines ts
-  none-second e = e ∙ ap (λ (l : List ℕ). l ++ taskLines ts) (masked-none refl)
+module _ {A : Type 0} (kind : Frame) (values : A → List ℕ) (z : A) (text : List ℕ) (lines : ℕ) (xs : List A) (rest : List ℕ) (starts : past lines text ≡ eachLine kind values xs ++ rest) where
+  -- the lines from place i on start with that of place i
+  each-first : (i : ℕ) → i < length xs → eachLine kind values (drop i xs) ++ rest ≡ lineOf kind (values (getD xs i z)) ++ (eachLine kind values (drop (suc i) xs) ++ rest)
+  each-first i h =
+      ap (λ (ys : List A). eachLine kind values ys ++ rest) (drop-cons xs i z h)
+      ∙ ap (λ (l : List ℕ). l ++ rest) (each-cons kind values (getD xs i z) (drop (suc i) xs))
+      ∙ append-assoc (lineOf kind (values (getD xs i z))) (eachLine kind values (drop (suc i) xs)) rest
 
-  none-there : past 1 text ≡ maskedLine Absent ++ taskLines ts → formed Frame.Masked (past 1 text) ≡ false
-  none-there e = ap (formed Frame.Masked) (none-second e) ∙ tasks-no-masked ts
+  -- past i of them stand the lines of those left
+  past-each : (i : ℕ) → i ≤ length xs → past (linesWith lines i) text ≡ eachLine kind values (drop i xs) ++ rest
+  past-each zero h = starts
+  past-each (suc i) h =
+      past-next text (linesWith lines i)
+      ∙ ap after (past-each i (omega arith) ∙ each-first i (omega arith))
+      ∙ line-after kind (values (getD xs i z)) (eachLine kind values (drop (suc i) xs) ++ rest)
 
-  module _ (b : ℕ) (e : past 1 text ≡ maskedLine (Given b) ++ taskLines ts) where
-    line-second : past 1 text ≡ lineOf Frame.Masked (b ∷ []) ++ taskLines ts
-    line-second = e ∙ ap (λ (l : List ℕ). l ++ taskLines ts) (masked-given refl)
+  each-at : (i : ℕ) → i < length xs → past (linesWith lines i) text ≡ lineOf kind (values (getD xs i z)) ++ (eachLine kind values (drop (suc i) xs) ++ rest)
+  each-at i h = past-each i (omega arith) ∙ each-first i h
+
+  -- each is a line of the kind, and behind them stands the rest
+  run-each : Run kind text lines (length xs)
+  run-each i h = ap (formed kind) (each-at i h) ∙ line-formed kind (values (getD xs i z)) (eachLine kind values (drop (suc i) xs) ++ rest)
+
+  each-ended : past (linesWith lines (length xs)) text ≡ rest
+  each-ended =
+      past-each (length xs) (omega arith)
+      ∙ ap (λ (ys : List A). eachLine kind values ys ++ rest) (drop-length xs)
+      ∙ ap (λ (l : List ℕ). l ++ rest) (each-nil kind values)
+
+  -- where no figure is too large the lines hold the list
+  module _ (figures : List ℕ → A) (overflows : A → Bool) (back : (x : A) (rest : List ℕ) → overflows x ≡ false → figures (lineOf kind (values x) ++ rest) ≡ x) (fit : some overflows xs ≡ false) where
+    figures-back : (i : ℕ) → i < length xs → figures (past (linesWith lines i) text) ≡ getD xs i z
+    figures-back i h =
+        ap figures (each-at i h) ∙ back (getD xs i z) (eachLine kind values (drop (suc i) xs) ++ rest) (some-at overflows xs i z fit h)
+
+    each-back : among kind figures text lines ≡ [] → (i : ℕ) → i ≤ length xs → among kind figures text (linesWith lines i) ≡ take i xs
+    each-back none zero h = none
+    each-back none (suc i) h =
+        among-here kind figures text (linesWith lines i) (run-each i (omega arith))
+        ∙ ap₂ (λ (ys : List A) (y : A). ys ++ (y ∷ [])) (each-back none i (omega arith)) (figures-back i (omega arith))
+        ∙ sym (take-suc xs i z (omega arith))
+
+-- such lines start with no line of another kind, if what follows does not
+each-apart : {A : Type 0} (kind other : Frame) (values : A → List ℕ) (xs : List A) (rest : List ℕ) → eqb (indexOf kind) (indexOf other) ≡ false → formed other rest ≡ false → formed other (eachLine kind values xs ++ rest) ≡ false
+each-apart kind other values [] rest apart none = ap (λ (l : List ℕ). formed other (l ++ rest)) (each-nil kind values) ∙ none
+each-apart kind other values (x ∷ xs) rest apart none =
+    ap (formed other) (ap (λ (l : List ℕ). l ++ rest) (each-cons kind values x xs) ∙ append-assoc (lineOf kind (values x)) (eachLine kind values xs) rest)
+    ∙ not-formed kind other apart (lineOf kind (values x) ++ (eachLine kind values xs ++ rest)) (line-formed kind (values x) (eachLine kind values xs ++ rest))
+
+-- ---- line 2
+
+-- of a text whose line 2 is a set's 05 line, or whose rest starts at line 2 where the set has none: behind the lines before the tasks
+-- stands the rest, and what line 2 gives is what the set has
+module _ (text rest : List ℕ) (apart : formed Frame.Masked rest ≡ false) where
+  none-second : past 1 text ≡ maskedLine Absent ++ rest → past 1 text ≡ rest
+  none-second e = e ∙ ap (λ (l : List ℕ). l ++ rest) (masked-none refl)
+
+  none-there : past 1 text ≡ maskedLine Absent ++ rest → formed Frame.Masked (past 1 text) ≡ false
+  none-there e = ap (formed Frame.Masked) (none-second e) ∙ apart
+
+  module _ (b : ℕ) (e : past 1 text ≡ maskedLine (Given b) ++ rest) where
+    line-second : past 1 text ≡ lineOf Frame.Masked (b ∷ []) ++ rest
+    line-second = e ∙ ap (λ (l : List ℕ). l ++ rest) (masked-given refl)
 
     line-there : formed Frame.Masked (past 1 text) ≡ true
-    line-there = ap (formed Frame.Masked) line-second ∙ line-formed Frame.Masked (b ∷ []) (taskLines ts)
+    line-there = ap (formed Frame.Masked) line-second ∙ line-formed Frame.Masked (b ∷ []) rest
 
-  past-opening : (masked : Optional) → past 1 text ≡ maskedLine masked ++ taskLines ts → past (openingLines text) text ≡ taskLines ts
+  past-opening : (masked : Optional) → past 1 text ≡ maskedLine masked ++ rest → past (openingLines text) text ≡ rest
   past-opening Absent e = ap (λ (n : ℕ). past n text) (opening-one text (none-there e)) ∙ none-second e
   past-opening (Given b) e =
       ap (λ (n : ℕ). past n text) (opening-two text (line-there b e))
-      ∙ past-next text 1 ∙ ap after (line-second b e) ∙ line-after Frame.Masked (b ∷ []) (taskLines ts)
+      ∙ past-next text 1 ∙ ap after (line-second b e) ∙ line-after Frame.Masked (b ∷ []) rest
 
-  masked-back : (masked : Optional) → past 1 text ≡ maskedLine masked ++ taskLines ts → maskedOverflows masked ≡ false → maskedAt text ≡ masked
+  masked-back : (masked : Optional) → past 1 text ≡ maskedLine masked ++ rest → maskedOverflows masked ≡ false → maskedAt text ≡ masked
   unfolding widthsOf
   masked-back Absent e o = masked-absent text (none-there e)
   masked-back (Given b) e o =
       masked-there text (line-there b e)
-      ∙ ap Given (ap (fieldOf Frame.Masked 0) (line-second b e) ∙ field-line Frame.Masked (b ∷ []) (taskLines ts) 0 (masked-fits b o 0 (omega arith)))
+      ∙ ap Given (ap (fieldOf Frame.Masked 0) (line-second b e) ∙ field-line Frame.Masked (b ∷ []) rest 0 (masked-fits b o 0 (omega arith)))
 
-second-text : (set : TaskSet) → past 1 (textOf set) ≡ maskedLine (set .header .masked) ++ taskLines (members set)
-unfolding past textOf
-second-text set = line-after Frame.Header (headerValues (set .header)) (maskedLine (set .header .masked) ++ taskLines (members set))
+-- ---- the text of a set
 
-past-text : (set : TaskSet) (k : ℕ) → past (linesTo (textOf set) k) (textOf set) ≡ taskLines (drop k (members set))
-unfolding past
-past-text set zero = past-opening (textOf set) (members set) (set .header .masked) (second-text set)
-past-text set (suc k) =
-    ap after (past-text set k)
-    ∙ after-lines (drop k (members set))
-    ∙ ap taskLines (drop-drop 1 k (members set) ∙ ap (λ (n : ℕ). drop n (members set)) (add-one k))
+module _ (set : TaskSet) where
+  abbrev text : List ℕ
+  text = textOf set
 
-past-at : (set : TaskSet) (k : ℕ) → k < length (members set) → past (linesTo (textOf set) k) (textOf set) ≡ lineOf Frame.Task (taskValues (getD (members set) k zeroTask)) ++ taskLines (drop (suc k) (members set))
-past-at set k h = past-text set k ∙ ap taskLines (drop-cons (members set) k zeroTask h) ∙ lines-cons (getD (members set) k zeroTask) (drop (suc k) (members set))
+  abbrev ts : List Task
+  ts = members set
 
--- the text of a set has the shape of a file
-shaped : (set : TaskSet) → Shaped (textOf set) (length (members set))
-unfolding textOf
-shaped set =
-    record {
-      opened = line-formed Frame.Header (headerValues (set .header)) (maskedLine (set .header .masked) ++ taskLines (members set));
-      tasks = λ j h. ap (formed Frame.Task) (past-at set j h) ∙ line-formed Frame.Task (taskValues (getD (members set) j zeroTask)) (taskLines (drop (suc j) (members set)));
-    }
+  abbrev is : List Interrupt
+  is = interruptsIn set
 
-ended : (set : TaskSet) → past (linesTo (textOf set) (length (members set))) (textOf set) ≡ []
-ended set = past-text set (length (members set)) ∙ ap taskLines (drop-length (members set)) ∙ lines-nil
+  -- its last lines, and what stands behind line 1 and behind the lines before the tasks
+  abbrev lists : List ℕ
+  lists = taskLines ts ++ interruptLines is
 
--- the tasks that the text holds are the set's
-tasks-back : (set : TaskSet) → some taskOverflows (members set) ≡ false → (i : ℕ) → i ≤ length (members set) → tasksAmong (textOf set) (linesTo (textOf set) i) ≡ take i (members set)
-tasks-back set o zero h = among-opening (textOf set) (shaped set .opened)
-tasks-back set o (suc i) h =
-    among-task (textOf set) (linesTo (textOf set) i) (shaped set .tasks i (omega arith))
-    ∙ ap₂ (λ (ts : List Task) (t : Task). ts ++ (t ∷ [])) (tasks-back set o i (omega arith))
-    (ap taskAt (past-at set i (omega arith)) ∙ task-back (getD (members set) i zeroTask) (taskLines (drop (suc i) (members set))) (some-at taskOverflows (members set) i zeroTask o (omega arith)))
-    ∙ sym (take-suc (members set) i zeroTask (omega arith))
+  interrupts-apart : formed Frame.Masked (interruptLines is) ≡ false
+  unfolding formed closed
+  interrupts-apart = ap (formed Frame.Masked) (sym (append-nil (interruptLines is))) ∙ each-apart Frame.Interrupt Frame.Masked interruptValues is [] refl refl
 
--- each of its lines is clear
-line-clear : (set : TaskSet) → writerAsks set ≡ false → length (members set) ≤ mostTasks → (i : ℕ) → i < length (members set) → lineOutcome (textOf set) (suc (linesTo (textOf set) i)) ≡ Done
-line-clear set ok most i h =
-    let text = textOf set in
-    let k = linesTo text i in
-    let ask = writer-ask set ok in
-    let t = getD (members set) i zeroTask in
-    let whole = shaped set in
-    let fits : taskOverflows t ≡ false = some-at taskOverflows (members set) i zeroTask (ask-tasks set ask) h in
-    let figures : taskAt (past k text) ≡ t = ap taskAt (past-at set i h) ∙ task-back t (taskLines (drop (suc i) (members set))) fits in
-    let seen : some (hasId (taskAt (past k text) .id)) (tasksAmong text k) ≡ false =
-    ap₂ (λ (u : Task) (ts : List Task). some (hasId (u .id)) ts) figures (tasks-back set (ask-tasks set ask) i (omega arith)) ∙ twice-before (members set) i zeroTask (ask-twice set ask) h in
-    let count : length (tasksAmong text k) ≡ i = shaped-count text i (shaped-less text i (length (members set)) (omega arith) whole) in
-    let room : eqb (length (tasksAmong text k)) mostTasks ≡ false = ne-eqb (length (tasksAmong text k)) mostTasks (λ (e : length (tasksAmong text k) ≡ mostTasks). omega (arith, count)) in
-    later-task text k (lines-some text i) (whole .tasks i h)
-    ∙ ap₂ (λ (a b : Bool). firstOf (when a (Count (suc k))) (when b (Twice (suc k)))) room seen
+  lists-apart : formed Frame.Masked lists ≡ false
+  lists-apart = each-apart Frame.Task Frame.Masked taskValues ts (interruptLines is) refl interrupts-apart
 
-lines-clear : (set : TaskSet) → writerAsks set ≡ false → length (members set) ≤ mostTasks → (n : ℕ) → n ≤ length (members set) → till (lineOutcome (textOf set)) (linesTo (textOf set) n) ≡ Done
-lines-clear set ok most zero h = taken-opening (textOf set) (shaped set .opened) .clear
-lines-clear set ok most (suc n) h =
-    till-suc (lineOutcome (textOf set)) (linesTo (textOf set) n) ∙ rw (lines-clear set ok most n (omega arith)) (line-clear set ok most n h)
+  second-text : past 1 text ≡ maskedLine (set .header .masked) ++ lists
+  unfolding past textOf
+  second-text = line-after Frame.Header (headerValues (set .header)) (maskedLine (set .header .masked) ++ lists)
 
-all-clear : (set : TaskSet) → writerAsks set ≡ false → 1 ≤ length (members set) → length (members set) ≤ mostTasks → till (lineOutcome (textOf set)) (length (textOf set) + 2) ≡ Done
-all-clear set ok any most =
-    let text = textOf set in
-    let n = length (members set) in
-    let lines : linesTo text n ≡ suc (linesTo text n - 1) = omega (arith, lines-some text n) in
-    clear-past text (linesTo text n - 1) (length text + 2)
-    (ap (λ (k : ℕ). past k text) (sym lines) ∙ ended set)
-    (omega (arith, any, shaped-all text n (shaped set) (ended set)))
-    (ap (till (lineOutcome text)) (sym lines) ∙ lines-clear set ok most n (omega arith))
+  tasks-start : past (openingLines text) text ≡ taskLines ts ++ interruptLines is
+  tasks-start = past-opening text lists lists-apart (set .header .masked) second-text
 
--- the set that the text holds
-header-text : (set : TaskSet) → headerOverflows (set .header) ≡ false → maskedOverflows (set .header .masked) ≡ false → fileHeader (textOf set) ≡ set .header
-unfolding textOf
-header-text set o m =
-    header-back (set .header) (maskedLine (set .header .masked) ++ taskLines (members set)) o
-    (masked-back (textOf set) (members set) (set .header .masked) (second-text set) m)
+  interrupts-start : past (linesTo text (length ts) 0) text ≡ interruptLines is ++ []
+  interrupts-start =
+      each-ended Frame.Task taskValues zeroTask text (openingLines text) ts (interruptLines is) tasks-start ∙ sym (append-nil (interruptLines is))
 
-file-back : (set : TaskSet) → writerAsks set ≡ false → fileSet (textOf set) ≡ setOf (set .header) (members set)
-unfolding fileSet
-file-back set ok =
-    let ask = writer-ask set ok in
-    let ms = members set in
-    ap₂ setOf (header-text set (ask-header set ask) (ask-masked set ask))
-    (sym (among-all (textOf set) (linesTo (textOf set) (length ms)) (ended set)) ∙ tasks-back set (ask-tasks set ask) (length ms) (omega arith) ∙ take-length ms)
+  -- it has the shape of a file, and ends there
+  shaped : Shaped text (length ts) (length is)
+  unfolding textOf
+  shaped =
+      record {
+        opened = line-formed Frame.Header (headerValues (set .header)) (maskedLine (set .header .masked) ++ lists);
+        tasks = run-each Frame.Task taskValues zeroTask text (openingLines text) ts (interruptLines is) tasks-start;
+        interrupts = run-each Frame.Interrupt interruptValues zeroInterrupt text (linesTo text (length ts) 0) is [] interrupts-start;
+      }
 
--- rows 5 and 6 let it pass
-figures-pass : (set : TaskSet) → writerAsks set ≡ false → figuresOutcome (setOf (set .header) (members set)) ≡ Done
-unfolding setOf
-figures-pass set ok =
-    let new = setOf (set .header) (members set) in
-    let none : firstTask rangeRow (members set) ≡ 0 = eqb-true _ 0 (not-false _ (first-some rangeRow 0 (members set) ∙ writer-range set ok)) in
-    figures-tasks new (writer-board set ok)
-    ∙ ap (λ (ts : List Task). atTask Range (firstTask rangeRow ts)) (members-set (set .header) (members set))
-    ∙ at-none Range (firstTask rangeRow (members set)) none
+  ended : past (linesTo text (length ts) (length is)) text ≡ []
+  ended = each-ended Frame.Interrupt interruptValues zeroInterrupt text (linesTo text (length ts) 0) is [] interrupts-start
+
+  -- it holds the set's tasks and interrupts
+  module _ (ok : writerAsks set ≡ false) where
+    ask : askRow set ≡ false
+    ask = writer-ask set ok
+
+    task-there : (i : ℕ) → i < length ts → taskAt (past (linesTo text i 0) text) ≡ getD ts i zeroTask
+    task-there = figures-back Frame.Task taskValues zeroTask text (openingLines text) ts (interruptLines is) tasks-start taskAt taskOverflows task-back (ask-tasks set ask)
+
+    tasks-back : (i : ℕ) → i ≤ length ts → tasksAmong text (linesTo text i 0) ≡ take i ts
+    tasks-back = each-back Frame.Task taskValues zeroTask text (openingLines text) ts (interruptLines is) tasks-start taskAt taskOverflows task-back (ask-tasks set ask) (among-opening text (shaped .opened))
+
+    interrupts-back : (i : ℕ) → i ≤ length is → interruptsAmong text (linesTo text (length ts) i) ≡ take i is
+    interrupts-back = each-back Frame.Interrupt interruptValues zeroInterrupt text (linesTo text (length ts) 0) is [] interrupts-start interruptAt interruptOverflows interrupt-back (ask-interrupts set ask) (tasks-first text (length ts) (length is) shaped)
+
+    -- each of its lines is clear
+    module _ (most : length ts ≤ mostTasks) (few : length is ≤ mostInterrupts) where
+      task-clear : (i : ℕ) → i < length ts → lineOutcome text (suc (linesTo text i 0)) ≡ Done
+      task-clear i h =
+          let k = linesTo text i 0 in
+          let none : interruptsAmong text k ≡ [] = run-other Frame.Task text (openingLines text) Frame.Interrupt interruptAt refl i (run-less Frame.Task text (openingLines text) i (length ts) (omega arith) (shaped .tasks)) ∙ none-opening text (shaped .opened) in
+          let seen : some (hasId (taskAt (past k text) .id)) (tasksAmong text k) ≡ false =
+          ap₂ (λ (u : Task) (us : List Task). some (hasId (u .id)) us) (task-there i h) (tasks-back i (omega arith)) ∙ twice-before ts i zeroTask (ask-twice set ask) h in
+          let count : length (tasksAmong text k) ≡ i = ap length (tasks-back i (omega arith)) ∙ length-take-le i ts (omega arith) in
+          let room : eqb (length (tasksAmong text k)) mostTasks ≡ false = ne-eqb (length (tasksAmong text k)) mostTasks (λ (e : length (tasksAmong text k) ≡ mostTasks). omega (arith, count)) in
+          later-task text k (lines-some text i 0) none (shaped .tasks i h)
+          ∙ ap₂ (λ (a b : Bool). firstOf (when a (Count (suc k))) (when b (Twice (suc k)))) room seen
+
+      interrupt-clear : (i : ℕ) → i < length is → lineOutcome text (suc (linesTo text (length ts) i)) ≡ Done
+      interrupt-clear i h =
+          let k = linesTo text (length ts) i in
+          let count : length (interruptsAmong text k) ≡ i = ap length (interrupts-back i (omega arith)) ∙ length-take-le i is (omega arith) in
+          let room : eqb (length (interruptsAmong text k)) mostInterrupts ≡ false = ne-eqb (length (interruptsAmong text k)) mostInterrupts (λ (e : length (interruptsAmong text k) ≡ mostInterrupts). omega (arith, count)) in
+          later-interrupt text k (lines-some text (length ts) i) (shaped .interrupts i h) ∙ ap (λ (b : Bool). when b (Count (suc k))) room
+
+      tasks-clear : (i : ℕ) → i ≤ length ts → till (lineOutcome text) (linesTo text i 0) ≡ Done
+      tasks-clear zero h = taken-opening text (shaped .opened) .clear
+      tasks-clear (suc i) h = till-suc (lineOutcome text) (linesTo text i 0) ∙ rw (tasks-clear i (omega arith)) (task-clear i h)
+
+      lines-clear : (i : ℕ) → i ≤ length is → till (lineOutcome text) (linesTo text (length ts) i) ≡ Done
+      lines-clear zero h = tasks-clear (length ts) (omega arith)
+      lines-clear (suc i) h = till-suc (lineOutcome text) (linesTo text (length ts) i) ∙ rw (lines-clear i (omega arith)) (interrupt-clear i h)
+
+      all-clear : 1 ≤ length ts → till (lineOutcome text) (length text + 2) ≡ Done
+      all-clear any =
+          let n = linesTo text (length ts) (length is) in
+          let lines : n ≡ suc (n - 1) = omega (arith, lines-some text (length ts) (length is)) in
+          clear-past text (n - 1) (length text + 2)
+          (ap (λ (k : ℕ). past k text) (sym lines) ∙ ended)
+          (omega (arith, any, shaped-all text (length ts) (length is) shaped ended .0))
+          (ap (till (lineOutcome text)) (sym lines) ∙ lines-clear (length is) (omega arith))
+
+    -- the set that the text holds
+    header-text : fileHeader text ≡ set .header
+    unfolding textOf
+    header-text =
+        header-back (set .header) (maskedLine (set .header .masked) ++ lists) (ask-header set ask)
+        (masked-back text lists lists-apart (set .header .masked) second-text (ask-masked set ask))
+
+    tasks-text : fileTasks text ≡ ts
+    tasks-text =
+        sym (among-all text (linesTo text (length ts) (length is)) ended)
+        ∙ tasks-last text (length ts) (length is) shaped ∙ tasks-back (length ts) (omega arith) ∙ take-length ts
+
+    interrupts-text : fileInterrupts text ≡ is
+    interrupts-text =
+        sym (among-whole Frame.Interrupt interruptAt text (linesTo text (length ts) (length is)) ended) ∙ interrupts-back (length is) (omega arith) ∙ take-length is
+
+    file-back : fileSet text ≡ setOf (set .header) ts is
+    unfolding fileSet
+    file-back = λ i. setOf (header-text i) (tasks-text i) (interrupts-text i)
+
+    -- rows 5 and 6 let it pass
+    figures-pass : figuresOutcome (setOf (set .header) ts is) ≡ Done
+    unfolding setOf
+    figures-pass =
+        let new = setOf (set .header) ts is in
+        let m = set .header .processors in
+        let none : firstTask rangeRow ts ≡ 0 = eqb-true _ 0 (not-false _ (first-some rangeRow 0 ts ∙ writer-range set ok)) in
+        let no-interrupt : firstTask (interruptRow m) is ≡ 0 = eqb-true _ 0 (not-false _ (first-some (interruptRow m) 0 is ∙ writer-interrupts set ok)) in
+        figures-interrupts new (writer-board set ok) (ap (firstTask rangeRow) (members-set (set .header) ts is) ∙ none) refl
+        ∙ ap (λ (xs : List Interrupt). atTask rangeAt (firstTask (interruptRow m) xs)) (interrupts-set (set .header) ts is)
+        ∙ at-none rangeAt (firstTask (interruptRow m) is) no-interrupt
 
 pub read-written : ReadWritten
 read-written set whole ok =
-    let within = count-within set (ask-count set (writer-ask set ok)) in
-    let size : length (members set) ≡ set .count = members-length set (omega (arith, whole, within .1)) in
-    reads-clear (textOf set) (all-clear set ok (omega (arith, within .0)) (omega (arith, within .1)))
+    let counts = ask-count set (writer-ask set ok) in
+    let within = count-within set counts in
+    let few = interrupts-within set counts in
+    let size : length (members set) ≡ set .count = members-length set (omega (arith, whole .tasks, within .1)) in
+    let interrupts : length (interruptsIn set) ≡ set .interrupts .count = length-take-le (set .interrupts .count) (set .interrupts .each) (omega (arith, whole .interrupts, few)) in
+    reads-clear (textOf set) (all-clear set ok (omega (arith, size, within .1)) (omega (arith, interrupts, few)) (omega (arith, size, within .0)))
     ∙ ap (λ (s : TaskSet). answer (figuresOutcome s) s) (file-back set ok)
-    ∙ ap (λ (o : Outcome). answer o (setOf (set .header) (members set))) (figures-pass set ok)
+    ∙ ap (λ (o : Outcome). answer o (setOf (set .header) (members set) (interruptsIn set))) (figures-pass set ok)
 
--- a set whose unused room is zero has all its places
-all-places : (set : TaskSet) → set ≡ setOf (set .header) (members set) → set .count ≤ mostTasks → Whole set
-unfolding setOf
-all-places set e most =
-    ap (λ (s : TaskSet). length (s .tasks)) e
-    ∙ length-append (members set) (replicate (mostTasks - length (members set)) zeroTask)
-    ∙ omega (arith, length-replicate (mostTasks - length (members set)) zeroTask, length-take (set .count) (set .tasks), min-le-left (set .count) (length (set .tasks)))
+-- a list with its unused room filled up has all its places
+filled-up : {A : Type 0} (z : A) (most n : ℕ) (xs : List A) → n ≤ most → length (take n xs ++ replicate (most - length (take n xs)) z) ≡ most
+filled-up z most n xs le =
+    length-append (take n xs) (replicate (most - length (take n xs)) z)
+    ∙ omega (arith, length-replicate (most - length (take n xs)) z, length-take n xs, min-le-left n (length xs))
+
+-- so a set whose unused room is zero has all its places
+all-places : (set : TaskSet) → set ≡ setOf (set .header) (members set) (interruptsIn set) → set .count ≤ mostTasks → set .interrupts .count ≤ mostInterrupts → Whole set
+unfolding setOf interruptsWith
+all-places set e most few =
+    record {
+      tasks = ap (λ (s : TaskSet). length (s .tasks)) e ∙ filled-up zeroTask mostTasks (set .count) (set .tasks) most;
+      interrupts = ap (λ (s : TaskSet). length (s .interrupts .each)) e ∙ filled-up zeroInterrupt mostInterrupts (set .interrupts .count) (set .interrupts .each) few;
+    }
 
 pub read-written-same : ReadWrittenSame
 read-written-same set e ok =
-    let most = count-within set (ask-count set (writer-ask set ok)) .1 in
-    read-written set (all-places set e most) ok ∙ ap (answer Done) (sym e)
+    let counts = ask-count set (writer-ask set ok) in
+    read-written set (all-places set e (count-within set counts .1) (interrupts-within set counts)) ok ∙ ap (answer Done) (sym e)

@@ -1,22 +1,21 @@
--- Laws of a file's shape: the lines before the tasks and so many tasks, where they end, and what they hold.
+-- Laws of a file's shape: the lines before the tasks, so many tasks and so many interrupts, where they end, and what they hold.
 -- Assumes nothing.
-use Prim.Native.Nat.{ℕ, zero, suc, _+_, _*_, _≤_, _<_}
+use Prim.Native.Nat.{ℕ, suc, _+_, _*_, _≤_}
 use native.Mathlib.Omega.{arith}
-use native.Mathlib.Decide.{ℕ-discrete}
-use mathlib.Core.List.{List, [], _∷_}
+use mathlib.Core.List.{List, []}
 use mathlib.Core.Bool.{Bool, true, false}
-use mathlib.Core.Path.{_≡_, refl, ap, sym, _∙_, subst}
-use lib.ListN.{length, drop, length-append}
+use mathlib.Core.Path.{_≡_, refl, ap, sym, _∙_}
+use lib.ListN.{length, drop}
 use Rattle.frameread.specs.Line.{after, formed, fieldOf}
 use Rattle.frames.specs.Table.{lengthOf}
 use Rattle.frames.specs.declared.table.Frame.{Frame}
 use Rattle.tasks.specs.declared.set.Optional.the-variants.{Absent, Given}
-use Rattle.taskfile.specs.File.{past, maskedAt, fileHeader, openingLines, openingBytes, tasksAmong, taskAt}
-use Rattle.taskfile.proofs.Past.{past-formed}
-use Rattle.taskfile.proofs.AmongLaws.{among-task, among-all}
+use Rattle.taskfile.specs.File.{past, maskedAt, fileHeader, openingLines, openingBytes, tasksAmong, interruptsAmong, taskAt, interruptAt}
+use Rattle.taskfile.proofs.AmongLaws.{among-all, among-whole}
 use Rattle.taskfile.proofs.Lines.{some-opening, opening-one, opening-two}
-use Rattle.taskfile.proofs.OpeningLaws.{opening-bytes, taken-opening, among-opening}
-use Rattle.tasks_claims.specs.Claims.{Opened, linesTo, sizeOf, Shaped, tasksIn}
+use Rattle.taskfile.proofs.OpeningLaws.{opening-bytes, taken-opening, among-opening, none-opening}
+use Rattle.tasks_claims.specs.Claims.{Opened, linesTo, sizeOf, Shaped, tasksIn, interruptCount}
+use Rattle.tasks_claims.proofs.RunLaws.{lines-is, bytes-is, past-run, run-count, run-other}
 
 -- the text past one line more
 pub past-next : (text : List ℕ) (i : ℕ) → past (suc i) text ≡ after (past i text)
@@ -55,50 +54,51 @@ pub file-masked : (text : List ℕ) → fileHeader text .masked ≡ maskedAt tex
 unfolding fileHeader
 file-masked text = refl
 
--- ---- the tasks behind them
+-- ---- the tasks and the interrupts behind them
 
--- the lines and the bytes of n tasks, in figures
-pub lines-opened : (text : List ℕ) (n : ℕ) → openingLines text ≤ linesTo text n
-lines-opened text zero = omega arith
-lines-opened text (suc n) = omega (arith, lines-opened text n)
+-- their lines and their bytes, in figures
+module _ (text : List ℕ) (n k : ℕ) where
+  pub lines-in : linesTo text n k ≡ openingLines text + n + k
+  lines-in = omega (arith, lines-is (openingLines text) n, lines-is (linesTo text n 0) k)
 
-pub lines-some : (text : List ℕ) (n : ℕ) → 1 ≤ linesTo text n
-lines-some text n = omega (arith, some-opening text, lines-opened text n)
+  pub lines-opened : openingLines text ≤ linesTo text n k
+  lines-opened = omega (arith, lines-in)
 
-pub size-is : (text : List ℕ) (n : ℕ) → sizeOf text n ≡ openingBytes text + (lengthOf Frame.Task + 1) * n
-size-is text zero = omega arith
-size-is text (suc n) = omega (arith, size-is text n)
+  pub lines-some : 1 ≤ linesTo text n k
+  lines-some = omega (arith, some-opening text, lines-opened)
 
--- fewer tasks taken
-pub shaped-less : (text : List ℕ) (m n : ℕ) → m ≤ n → Shaped text n → Shaped text m
-shaped-less text m n le s = record { opened = s .opened; tasks = λ j h. s .tasks j (omega arith) }
-
--- one more task taken
-pub shaped-more : (text : List ℕ) (n : ℕ) → Shaped text n → formed Frame.Task (past (linesTo text n) text) ≡ true → Shaped text (suc n)
-shaped-more text n s h = record { opened = s .opened; tasks = below n (s .tasks) h }
-  where
-    below : (n : ℕ) → ((j : ℕ) → j < n → formed Frame.Task (past (linesTo text j) text) ≡ true) → formed Frame.Task (past (linesTo text n) text) ≡ true → (j : ℕ) → j < suc n → formed Frame.Task (past (linesTo text j) text) ≡ true
-    below n f h j lt = elim (ℕ-discrete j n) [ yes e ↦ subst (λ (k : ℕ). formed Frame.Task (past (linesTo text k) text) ≡ true) (sym e) h | no ne ↦ f j (omega (arith, ne)) ]
+  pub size-is : sizeOf text n k ≡ openingBytes text + (lengthOf Frame.Task + 1) * n + (lengthOf Frame.Interrupt + 1) * k
+  size-is = omega (arith, bytes-is Frame.Task (openingBytes text) n, bytes-is Frame.Interrupt (sizeOf text n 0) k)
 
 -- none taken yet
-pub shaped-none : (text : List ℕ) → Opened text → Shaped text 0
-shaped-none text o = record { opened = o; tasks = λ j lt. absurd (omega arith) }
+pub shaped-none : (text : List ℕ) → Opened text → Shaped text 0 0
+shaped-none text o = record { opened = o; tasks = λ j lt. absurd (omega arith); interrupts = λ j lt. absurd (omega arith) }
 
--- past the lines of n tasks stands what follows their bytes, and the text has those bytes
-pub past-shaped : (text : List ℕ) (n : ℕ) → Shaped text n → (past (linesTo text n) text ≡ drop (sizeOf text n) text) × (sizeOf text n ≤ length text)
-past-shaped text zero s = let taken = taken-opening text (s .opened) in (taken .rest, taken .within)
-past-shaped text (suc n) s =
-    let ih = past-shaped text n (shaped-less text n (suc n) (omega arith) s) in
-    past-formed Frame.Task text (linesTo text n) (sizeOf text n) (ih .0) (ih .1) (ap (formed Frame.Task) (sym (ih .0)) ∙ s .tasks n (omega arith))
+module _ (text : List ℕ) (n k : ℕ) (s : Shaped text n k) where
+  -- past these lines stands what follows their bytes, and the text has those bytes
+  pub past-shaped : (past (linesTo text n k) text ≡ drop (sizeOf text n k) text) × (sizeOf text n k ≤ length text)
+  past-shaped =
+      let taken = taken-opening text (s .opened) in
+      let tasks = past-run Frame.Task text (openingLines text) (openingBytes text) n (taken .rest) (taken .within) (s .tasks) in
+      past-run Frame.Interrupt text (linesTo text n 0) (sizeOf text n 0) k (tasks .0) (tasks .1) (s .interrupts)
 
--- each of the lines behind the opening holds a task
-pub shaped-count : (text : List ℕ) (n : ℕ) → Shaped text n → length (tasksAmong text (linesTo text n)) ≡ n
-shaped-count text zero s = ap length (among-opening text (s .opened))
-shaped-count text (suc n) s =
-    ap length (among-task text (linesTo text n) (s .tasks n (omega arith)))
-    ∙ length-append (tasksAmong text (linesTo text n)) (taskAt (past (linesTo text n) text) ∷ [])
-    ∙ omega (arith, shaped-count text n (shaped-less text n (suc n) (omega arith) s))
+  -- no interrupt stands before the tasks' end, and no task behind it
+  pub tasks-first : interruptsAmong text (linesTo text n 0) ≡ []
+  tasks-first = run-other Frame.Task text (openingLines text) Frame.Interrupt interruptAt refl n (s .tasks) ∙ none-opening text (s .opened)
 
--- and so a file that ends there holds as many as its shape says
-pub shaped-all : (text : List ℕ) (n : ℕ) → Shaped text n → past (linesTo text n) text ≡ [] → tasksIn text ≡ n
-shaped-all text n s e = ap length (sym (among-all text (linesTo text n) e)) ∙ shaped-count text n s
+  pub tasks-last : tasksAmong text (linesTo text n k) ≡ tasksAmong text (linesTo text n 0)
+  tasks-last = run-other Frame.Interrupt text (linesTo text n 0) Frame.Task taskAt refl k (s .interrupts)
+
+  -- each of the lines behind the opening holds a task or an interrupt
+  pub shaped-tasks : length (tasksAmong text (linesTo text n k)) ≡ n
+  shaped-tasks = ap length tasks-last ∙ run-count Frame.Task text (openingLines text) taskAt (among-opening text (s .opened)) n (s .tasks)
+
+  pub shaped-interrupts : length (interruptsAmong text (linesTo text n k)) ≡ k
+  shaped-interrupts = run-count Frame.Interrupt text (linesTo text n 0) interruptAt tasks-first k (s .interrupts)
+
+  -- and so a file that ends there holds as many as its shape says
+  pub shaped-all : past (linesTo text n k) text ≡ [] → (tasksIn text ≡ n) × (interruptCount text ≡ k)
+  shaped-all e = (
+    ap length (sym (among-all text (linesTo text n k) e)) ∙ shaped-tasks,
+    ap length (sym (among-whole Frame.Interrupt interruptAt text (linesTo text n k) e)) ∙ shaped-interrupts,
+  )

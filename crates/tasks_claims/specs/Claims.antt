@@ -1,6 +1,6 @@
 -- What is claimed of task files: each refusal of reading exactly when its row says, what an accepted file is,
 -- what a write answers and leaves, and that reading and writing undo each other.
--- Document 01, "Refusal numbers and their order" (RULES 6) and "How tight each promise is"; document 02, Req 04.
+-- Document 01, "Refusal numbers and their order" (RULES 6) and "How tight each promise is"; document 02, Req 04 and Req 08.
 use Prim.Native.Nat.{ℕ, zero, suc, pred, _+_, _<_, _≤_}
 use mathlib.Core.List.{List, []}
 use mathlib.Core.Bool.{Bool, true, false}
@@ -15,12 +15,14 @@ use Rattle.refusals.specs.declared.Refusal.{Refusal}
 use Rattle.refusals.specs.declared.Refusal.the-variants.{Line, Order, Count, Twice, Board, Range, Ask, Room}
 use Rattle.refusals.specs.declared.Outcome.the-variants.{Done, Refused}
 use Rattle.taskread.specs.declared.read.ReadAnswer.{ReadAnswer}
-use Rattle.tasks.specs.Set.{mostTasks, zeroTask, zeroSet, members, setOf}
-use Rattle.taskrows.specs.Rows.{boardRow, rangeRow}
+use Rattle.tasks.specs.Set.{mostTasks, mostInterrupts, zeroTask, zeroInterrupt, zeroSet, members, interruptsIn, setOf}
+use Rattle.taskrows.specs.Rows.{boardRow, rangeRow, interruptRow}
 use Rattle.tasks.specs.declared.set.Optional.the-variants.{Absent, Given}
-use Rattle.taskfile.specs.File.{past, from, isHeader, isMasked, maskedAt, lineRow, orderRow, countLineRow, twiceLineRow, lineOutcome, fileHeader, openingLines, openingBytes, fileTasks}
-use Rattle.taskread.specs.Read.{readOf, answer, furthest}
+use Rattle.taskfile.specs.File.{past, from, present, isHeader, isTask, isMasked, isInterrupt, maskedAt, interruptAt, interruptsAmong, lineRow, orderRow, countLineRow, twiceLineRow, lineOutcome, fileHeader, openingLines, openingBytes, fileTasks, fileInterrupts}
+use Rattle.readbytes.specs.Furthest.{furthest}
+use Rattle.taskread.specs.Read.{readOf, answer}
 use Rattle.refusals.specs.declared.Written.{Written}
+use Rattle.tasks.specs.declared.set.Interrupt.{Interrupt}
 use Rattle.tasks.specs.declared.set.Task.{Task}
 use Rattle.tasks.specs.declared.set.TaskSet.{TaskSet}
 use Rattle.tasktext.specs.Text.{textOf}
@@ -32,6 +34,13 @@ tasksIn text = length (fileTasks text)
 
 abbrev pub taskOf : List ℕ → ℕ → Task
 taskOf text k = getD (fileTasks text) (pred k) zeroTask
+
+-- its interrupts, and the k-th of them
+abbrev pub interruptCount : List ℕ → ℕ
+interruptCount text = length (fileInterrupts text)
+
+abbrev pub interruptOf : List ℕ → ℕ → Interrupt
+interruptOf text k = getD (fileInterrupts text) (pred k) zeroInterrupt
 
 -- rows 1 to 4, which are tested at a line
 pub data LineRow : Type 0 where
@@ -81,13 +90,27 @@ pub record FirstRange (text : List ℕ) (k : ℕ) : Type 0 where
   pub earlier : (j : ℕ) → 1 ≤ j → j < k → rangeRow (taskOf text j) ≡ false
 
 abbrev pub ReadExactlyRange : Type 0
-ReadExactlyRange = (text : List ℕ) (k : ℕ) → (readOf text .outcome ≡ Refused (Range k)) ↔ FirstRange text k
+ReadExactlyRange = (text : List ℕ) (k : ℕ) → k ≤ mostTasks → (readOf text .outcome ≡ Refused (Range k)) ↔ FirstRange text k
+
+-- row 6 with place 64 and k: no task is out of range, and interrupt k is the first that is
+pub record FirstInterrupt (text : List ℕ) (k : ℕ) : Type 0 where
+  pub clear : AllClear text
+  pub board : boardRow (fileHeader text) ≡ false
+  pub tasks : (j : ℕ) → 1 ≤ j → j ≤ tasksIn text → rangeRow (taskOf text j) ≡ false
+  pub within : k ≤ interruptCount text
+  pub holds : interruptRow (fileHeader text .processors) (interruptOf text k) ≡ true
+  pub earlier : (j : ℕ) → 1 ≤ j → j < k → interruptRow (fileHeader text .processors) (interruptOf text j) ≡ false
+
+abbrev pub ReadExactlyInterrupt : Type 0
+ReadExactlyInterrupt =
+    (text : List ℕ) (k : ℕ) → 1 ≤ k → (readOf text .outcome ≡ Refused (Range (mostTasks + k))) ↔ FirstInterrupt text k
 
 -- accepted: none of rows 1 to 6 holds
 pub record NoRow (text : List ℕ) : Type 0 where
   pub clear : AllClear text
   pub board : boardRow (fileHeader text) ≡ false
   pub range : (j : ℕ) → 1 ≤ j → j ≤ tasksIn text → rangeRow (taskOf text j) ≡ false
+  pub interrupts : (j : ℕ) → 1 ≤ j → j ≤ interruptCount text → interruptRow (fileHeader text .processors) (interruptOf text j) ≡ false
 
 abbrev pub ReadExactlyDone : Type 0
 ReadExactlyDone = (text : List ℕ) → (readOf text .outcome ≡ Done) ↔ NoRow text
@@ -104,41 +127,49 @@ ReadDetermined = (text : List ℕ) (a b : ReadAnswer) → a ≡ readOf text → 
 abbrev pub Opened : List ℕ → Type 0
 Opened text = formed Frame.Header text ≡ true
 
--- so many lines, or bytes, and behind them n 02 lines
+-- so many lines, or bytes, and behind them n lines of a kind
 abbrev pub linesWith : (lines n : ℕ) → ℕ
 linesWith lines zero = lines
 linesWith lines (suc n) = suc (linesWith lines n)
 
-abbrev pub bytesWith : (bytes n : ℕ) → ℕ
-bytesWith bytes zero = bytes
-bytesWith bytes (suc n) = bytesWith bytes n + (lengthOf Frame.Task + 1)
+abbrev pub bytesWith : Frame → (bytes n : ℕ) → ℕ
+bytesWith kind bytes zero = bytes
+bytesWith kind bytes (suc n) = bytesWith kind bytes n + (lengthOf kind + 1)
 
--- the lines of a file that has n tasks, and their bytes
-abbrev pub linesTo : List ℕ → ℕ → ℕ
-linesTo text n = linesWith (openingLines text) n
+-- the lines of a file that has n tasks and k interrupts, and their bytes
+abbrev pub linesTo : List ℕ → (n k : ℕ) → ℕ
+linesTo text n k = linesWith (linesWith (openingLines text) n) k
 
-abbrev pub sizeOf : List ℕ → ℕ → ℕ
-sizeOf text n = bytesWith (openingBytes text) n
+abbrev pub sizeOf : List ℕ → (n k : ℕ) → ℕ
+sizeOf text n k = bytesWith Frame.Interrupt (bytesWith Frame.Task (openingBytes text) n) k
 
--- the file is opened, and the n lines behind that are 02 lines
-pub record Shaped (text : List ℕ) (n : ℕ) : Type 0 where
+-- the n lines behind so many are of a kind
+abbrev pub Run : Frame → List ℕ → (lines n : ℕ) → Type 0
+Run kind text lines n = (j : ℕ) → j < n → formed kind (past (linesWith lines j) text) ≡ true
+
+-- the file is opened, the n lines behind that are 02 lines, and the k lines behind these are 07 lines
+pub record Shaped (text : List ℕ) (n k : ℕ) : Type 0 where
   pub opened : Opened text
-  pub tasks : (j : ℕ) → j < n → formed Frame.Task (past (linesTo text j) text) ≡ true
+  pub tasks : Run Frame.Task text (openingLines text) n
+  pub interrupts : Run Frame.Interrupt text (linesTo text n 0) k
 
 -- reading looks no further than that
 abbrev pub ReadLooksAt : Type 0
 ReadLooksAt = (n : ℕ) (text : List ℕ) → furthest ≤ n → readOf (take n text) ≡ readOf text
 
--- an accepted file is a header, a 05 line or none, and 1 to 64 tasks, nothing after them, and the answer holds those
+-- an accepted file is a header, a 05 line or none, 1 to 64 tasks and up to 32 interrupts, nothing after them, and the answer holds those
 pub record AcceptedFile (text : List ℕ) : Type 0 where
   pub any : 1 ≤ tasksIn text
   pub most : tasksIn text ≤ mostTasks
-  pub shaped : Shaped text (tasksIn text)
-  pub bytes : length text ≡ sizeOf text (tasksIn text)
-  pub ended : past (linesTo text (tasksIn text)) text ≡ []
+  pub few : interruptCount text ≤ mostInterrupts
+  pub shaped : Shaped text (tasksIn text) (interruptCount text)
+  pub bytes : length text ≡ sizeOf text (tasksIn text) (interruptCount text)
+  pub ended : past (linesTo text (tasksIn text) (interruptCount text)) text ≡ []
   pub header : readOf text .set .header ≡ fileHeader text
   pub count : readOf text .set .count ≡ tasksIn text
   pub tasks : members (readOf text .set) ≡ fileTasks text
+  pub counted : readOf text .set .interrupts .count ≡ interruptCount text
+  pub interrupts : interruptsIn (readOf text .set) ≡ fileInterrupts text
 
 abbrev pub ReadAccepted : Type 0
 ReadAccepted = (text : List ℕ) → readOf text .outcome ≡ Done → AcceptedFile text
@@ -157,10 +188,30 @@ MaskedRemembered = (text : List ℕ) → readOf text .outcome ≡ Done → Remem
 abbrev pub MaskedOnlyAtTwo : Type 0
 MaskedOnlyAtTwo = (text : List ℕ) (k : ℕ) → readOf text .outcome ≡ Done → 1 ≤ k → isMasked text k ≡ true → k ≡ 2
 
--- a file without a task is COUNT at the line after the last: line 2 behind an 01 line, line 3 behind an 01 and a 05 line
+-- the set of an accepted file remembers its 07 lines in their order: interrupt k has the figures of the k-th line behind the tasks
+pub record Listed (text : List ℕ) : Type 0 where
+  pub told : interruptsIn (readOf text .set) ≡ fileInterrupts text
+  pub line : (k : ℕ) → k < interruptCount text → isInterrupt text (suc (linesTo text (tasksIn text) k)) ≡ true
+  pub figures : (k : ℕ) → k < interruptCount text → getD (interruptsIn (readOf text .set)) k zeroInterrupt ≡ interruptAt (from text (suc (linesTo text (tasksIn text) k)))
+
+abbrev pub InterruptsRemembered : Type 0
+InterruptsRemembered = (text : List ℕ) → readOf text .outcome ≡ Done → Listed text
+
+-- a task line behind an 07 line is ORDER there, and a 33rd 07 line COUNT, where no row holds at any line before
+abbrev pub TaskTooLate : Type 0
+TaskTooLate =
+    (text : List ℕ) (j k : ℕ) → 1 ≤ j → j < k → Clear text k → isInterrupt text j ≡ true → isTask text k ≡ true → readOf text .outcome ≡ Refused (Order k)
+
+abbrev pub InterruptTooMany : Type 0
+InterruptTooMany =
+    (text : List ℕ) (k : ℕ) → 1 < k → Clear text k → isInterrupt text k ≡ true → length (interruptsAmong text (pred k)) ≡ mostInterrupts → readOf text .outcome ≡ Refused (Count k)
+
+-- a file without a task is COUNT at the line after the last: line 2 behind an 01 line, line 3 behind an 01 and a 05 line,
+-- and so behind any lines that are clear, 07 lines too
 pub record NoTask (text : List ℕ) : Type 0 where
   pub header : isHeader text 1 ≡ true → past 1 text ≡ [] → readOf text .outcome ≡ Refused (Count 2)
   pub masked : isHeader text 1 ≡ true → isMasked text 2 ≡ true → past 2 text ≡ [] → readOf text .outcome ≡ Refused (Count 3)
+  pub last : (k : ℕ) → Clear text (suc (suc k)) → present text (suc k) ≡ true → past (suc k) text ≡ [] → tasksIn text ≡ 0 → readOf text .outcome ≡ Refused (Count (suc (suc k)))
 
 abbrev pub NoTaskPlace : Type 0
 NoTaskPlace = (text : List ℕ) → NoTask text
@@ -191,17 +242,20 @@ abbrev pub WriteDetermined : Type 0
 WriteDetermined =
     (set : TaskSet) (before left other : List ℕ) (a b : Written) → Wrote set before a left → Wrote set before b other → (a ≡ b) × (left ≡ other)
 
--- A set as its type has it: 64 places, whatever stands in those that are not used.
-abbrev pub Whole : TaskSet → Type 0
-Whole set = length (set .tasks) ≡ mostTasks
+-- A set as its type has it: 64 places of tasks and 32 of interrupts, whatever stands in those that are not used.
+pub record Whole (set : TaskSet) : Type 0 where
+  pub tasks : length (set .tasks) ≡ mostTasks
+  pub interrupts : length (set .interrupts .each) ≡ mostInterrupts
 
 -- A set that can be written, read again, is the same set, its unused room at zero.
 abbrev pub ReadWritten : Type 0
-ReadWritten = (set : TaskSet) → Whole set → writerAsks set ≡ false → readOf (textOf set) ≡ answer Done (setOf (set .header) (members set))
+ReadWritten =
+    (set : TaskSet) → Whole set → writerAsks set ≡ false → readOf (textOf set) ≡ answer Done (setOf (set .header) (members set) (interruptsIn set))
 
 -- So one whose unused room is zero comes back as it was.
 abbrev pub ReadWrittenSame : Type 0
-ReadWrittenSame = (set : TaskSet) → set ≡ setOf (set .header) (members set) → writerAsks set ≡ false → readOf (textOf set) ≡ answer Done set
+ReadWrittenSame =
+    (set : TaskSet) → set ≡ setOf (set .header) (members set) (interruptsIn set) → writerAsks set ≡ false → readOf (textOf set) ≡ answer Done set
 
 -- A file that is accepted can be written again, and has the same bytes.
 abbrev pub WrittenRead : Type 0

@@ -1,11 +1,13 @@
-// The text of a task set: one 01 line, the 05 line where the set has one, then the 02 lines in file order.
+// The text of a task set: one 01 line, the 05 line where the set has one, then the 02 lines and the 07 lines, each in file order.
 use framelines::figures::put_figures;
 use framelines::lines_length;
 use framelines::put_lines;
 use frames::table::Frame;
 use framewrite::put_line;
+use optionallines::masked_length;
+use optionallines::put_interrupts;
+use optionallines::put_masked;
 use tasks::set::Header;
-use tasks::set::Optional;
 use tasks::set::TaskSet;
 use tasks::values::header_values;
 use tasks::values::task_values;
@@ -15,29 +17,22 @@ ghost use lib.ListN.{length as bytes};
 ghost use Rattle.frames.specs.Table.{lengthOf};
 ghost use Rattle.framelines.specs.Figures.{filled};
 ghost use Rattle.digits.specs.Stored.{stored};
-ghost use Rattle.tasks.specs.Set.{mostTasks};
-ghost use Rattle.tasktext.specs.Text.{maskedLine, mostFigures, taskFigures, textOf};
-
-// The bytes of the 05 line, where there is one.
-fn masked_length(masked: Optional) -> usize
-    ensures { λ r. ⌜ r ≡ bytes (maskedLine masked) ⌝ }
-{
-    match masked {
-        Optional::Given(_) => lines_length(Frame::Masked, 1),
-        Optional::Absent => 0,
-    }
-}
+ghost use Rattle.tasks.specs.Set.{mostTasks, mostInterrupts};
+ghost use Rattle.optionallines.specs.Lines.{maskedLine};
+ghost use Rattle.tasktext.specs.Text.{mostFigures, taskFigures, textOf};
 
 // The bytes of a set's text.
-pub fn text_length(header: Header, count: usize) -> usize
+pub fn text_length(header: Header, count: usize, interrupts: usize) -> usize
     requires { ⌜ count ≤ mostTasks ⌝ }
-    ensures { λ r. ⌜ r ≡ lengthOf Frame.Header + 1 + bytes (maskedLine (header .masked)) + count * (lengthOf Frame.Task + 1) ⌝ }
+    requires { ⌜ interrupts ≤ mostInterrupts ⌝ }
+    ensures { λ r. ⌜ r ≡ lengthOf Frame.Header + 1 + bytes (maskedLine (header .masked)) + count * (lengthOf Frame.Task + 1) + interrupts * (lengthOf Frame.Interrupt + 1) ⌝ }
 {
     let first = lines_length(Frame::Header, 1);
     let line = header.masked;
     let masked = masked_length(line);
     let tasks = lines_length(Frame::Task, count);
-    first + masked + tasks
+    let last = lines_length(Frame::Interrupt, interrupts);
+    first + masked + tasks + last
 }
 
 // The figures of as many 02 lines as a set has room for.
@@ -60,20 +55,11 @@ fn task_figures(set: TaskSet) -> [u64; MOST_FIGURES]
     values
 }
 
-// Writes the 05 line, where there is one.
-fn put_masked(out: &mut [u8], at: usize, masked: Optional)
-    requires { ⌜ at + bytes (maskedLine masked) ≤ bytes (now out) ⌝ }
-    ensures { λ r. ⌜ now (out .exit) ≡ stored (now (out .entry)) at (maskedLine masked) ⌝ }
-{
-    if let Optional::Given(ticks) = masked {
-        let values = [ticks as u64];
-        put_line(out, at, Frame::Masked, &values);
-    }
-}
-
 // Writes the text of a set into a buffer that has the room.
 pub fn put_text(out: &mut [u8], set: TaskSet)
-    requires { ⌜ (set .count ≤ mostTasks) × (bytes (textOf set) ≤ bytes (now out)) ⌝ }
+    requires { ⌜ set .count ≤ mostTasks ⌝ }
+    requires { ⌜ set .interrupts .count ≤ mostInterrupts ⌝ }
+    requires { ⌜ bytes (textOf set) ≤ bytes (now out) ⌝ }
     ensures { λ r. ⌜ now (out .exit) ≡ stored (now (out .entry)) 0 (textOf set) ⌝ }
 {
     let header = set.header;
@@ -84,5 +70,8 @@ pub fn put_text(out: &mut [u8], set: TaskSet)
     put_masked(out, second, masked);
     let at = second + masked_length(masked);
     let values = task_figures(set);
-    put_lines(out, at, Frame::Task, &values, set.count);
+    let count = set.count;
+    put_lines(out, at, Frame::Task, &values, count);
+    let behind = at + lines_length(Frame::Task, count);
+    put_interrupts(out, behind, set.interrupts);
 }

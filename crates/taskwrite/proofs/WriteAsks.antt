@@ -11,18 +11,17 @@ use Rattle.laws.proofs.Tests.{or-left, or-right}
 use Rattle.refusals.specs.declared.Refusal.the-variants.{Ask, Room}
 use Rattle.refusals.specs.declared.Written.{Written}
 use Rattle.refusals.specs.declared.Written.the-variants.{Bytes, Refused}
-use Rattle.tasks.specs.declared.set.Task.{Task}
 use Rattle.tasks.specs.declared.set.TaskSet.{TaskSet}
-use Rattle.tasks.specs.Set.{members}
+use Rattle.tasks.specs.Set.{members, interruptsIn}
 use Rattle.tasks.specs.Search.{some, firstFrom}
-use Rattle.taskrows.specs.Rows.{boardRow, rangeRow}
+use Rattle.taskrows.specs.Rows.{boardRow, rangeRow, interruptRow}
 use Rattle.taskask.specs.Ask.{askRow}
 use Rattle.taskwrite.specs.Write.{writerAsks, writeOf}
 use Rattle.tasktext.specs.Text.{textOf}
 use Rattle.refusals.specs.Leaves.{leaves}
 
 -- there is a first task for which a test holds where some task meets it
-pub first-some : (p : Task → Bool) (k : ℕ) (ts : List Task) → not (eqb (firstFrom p (suc k) ts) 0) ≡ some p ts
+pub first-some : {A : Type 0} (p : A → Bool) (k : ℕ) (ts : List A) → not (eqb (firstFrom p (suc k) ts) 0) ≡ some p ts
 unfolding firstFrom some
 first-some p k [] = refl
 first-some p k (t ∷ ts) = go (p t) (first-some p (suc k) ts)
@@ -32,9 +31,9 @@ first-some p k (t ∷ ts) = go (p t) (first-some p (suc k) ts)
     go false e = e
 
 -- row 11 of the writer, by the answers of its parts
-pub writer-rows : (set : TaskSet) {a b c : Bool} → askRow set ≡ a → boardRow (set .header) ≡ b → some rangeRow (members set) ≡ c → writerAsks set ≡ (a || (b || c))
+pub writer-rows : (set : TaskSet) {a b c d : Bool} → askRow set ≡ a → boardRow (set .header) ≡ b → some rangeRow (members set) ≡ c → some (interruptRow (set .header .processors)) (interruptsIn set) ≡ d → writerAsks set ≡ (a || (b || (c || d)))
 unfolding writerAsks
-writer-rows set p q r = rw (p, q, r)
+writer-rows set p q r t = rw (p, q, r, t)
 
 -- a set that the writer takes breaks none of them
 pub writer-ask : (set : TaskSet) → writerAsks set ≡ false → askRow set ≡ false
@@ -45,9 +44,15 @@ pub writer-board : (set : TaskSet) → writerAsks set ≡ false → boardRow (se
 unfolding writerAsks
 writer-board set p = or-left (boardRow (set .header)) _ (or-right (askRow set) _ p)
 
-pub writer-range : (set : TaskSet) → writerAsks set ≡ false → some rangeRow (members set) ≡ false
+past-board : (set : TaskSet) → writerAsks set ≡ false → (some rangeRow (members set) || some (interruptRow (set .header .processors)) (interruptsIn set)) ≡ false
 unfolding writerAsks
-writer-range set p = or-right (boardRow (set .header)) _ (or-right (askRow set) _ p)
+past-board set p = or-right (boardRow (set .header)) _ (or-right (askRow set) _ p)
+
+pub writer-range : (set : TaskSet) → writerAsks set ≡ false → some rangeRow (members set) ≡ false
+writer-range set p = or-left (some rangeRow (members set)) _ (past-board set p)
+
+pub writer-interrupts : (set : TaskSet) → writerAsks set ≡ false → some (interruptRow (set .header .processors)) (interruptsIn set) ≡ false
+writer-interrupts set p = or-right (some rangeRow (members set)) _ (past-board set p)
 
 -- the answer where row 11 holds, where row 12 does, and where neither does
 module _ (set : TaskSet) (buffer : List ℕ) where

@@ -4,6 +4,7 @@ use refusals::Refusal;
 use refusals::Written;
 use taskask::asks;
 use taskrows::breaks_board;
+use taskrows::first_interrupt_out;
 use taskrows::first_out_of_range;
 use tasks::set::TaskSet;
 use tasktext::put_text;
@@ -23,7 +24,11 @@ pub fn writer_asks(set: TaskSet) -> bool
         return true;
     }
     let task = first_out_of_range(set);
-    task != 0
+    if task != 0 {
+        return true;
+    }
+    let interrupt = first_interrupt_out(header.processors, set.interrupts);
+    interrupt != 0
 }
 
 // The bytes written, or the refusal.
@@ -34,7 +39,8 @@ pub fn write(set: TaskSet, out: &mut [u8]) -> Written
         return Written::Refused(Refusal::Ask);
     }
     let count = set.count;
-    let needed = text_length(set.header, count);
+    let interrupts = set.interrupts;
+    let needed = text_length(set.header, count, interrupts.count);
     if out.len() < needed {
         return Written::Refused(Refusal::Room);
     }

@@ -24,7 +24,8 @@ loop-again c = (omega arith, filled-there (λ (i : ℕ). taskFrom (c .before .be
 
 returns : tie.Need-returns Inv-loop μ-loop
 unfolding setFrom
-returns c = rw (filled-up (c .before .before .before .loop .inv .1) (omega arith), c .before .header-from .ensures, c .number-at .ensures)
+returns c =
+    rw (filled-up (c .before .before .before .before .loop .inv .1) (omega arith), c .before .before .header-from .ensures, c .before .number-at .ensures, c .interrupts-from .ensures)
 
 pub set-from-spec : {M : Type 1} → statement M
 set-from-spec =
@@ -41,6 +42,7 @@ set-from-spec =
     (λ c. search needs)
     (λ c. search needs)
     loop-again
+    (λ c κs. search needs)
     (λ c κs. search needs)
     (λ c κs. search needs)
     returns)

@@ -17,7 +17,7 @@ use Rattle.taskfile.specs.File.{lineOutcome, headerAt, empty}
 use Rattle.headerline.specs.Answer.{headerOr}
 use Rattle.frameread.proofs.KindLaws.{kind-formed, kind-none}
 use Rattle.taskfile.proofs.Past.{nothing-left}
-use Rattle.taskfile.proofs.Lines.{admits-none, first-missing, first-header, first-task, first-masked, first-other}
+use Rattle.taskfile.proofs.Lines.{admits-none, first-missing, first-header, first-task, first-masked, first-interrupt, first-other}
 use Rattle.taskfile.proofs.Standing.{byte-there, tag-formed, other-frame}
 use borrow.Author.Needs.{needs}
 use Rattle.headerline.proofs.header_line.Statement.{statement}
@@ -64,7 +64,9 @@ returns-4 c =
     (ap (given text)
     (⊎-elim
     (λ (task : tagOf the-type frame ≡ 1). first-task text (tag-formed frame Frame.Task text task (is-formed (c .before))))
+    (⊎-elim
     (λ (masked : tagOf the-type frame ≡ 2). first-masked text (tag-formed frame Frame.Masked text masked (is-formed (c .before))))
+    (λ (interrupt : tagOf the-type frame ≡ 3). first-interrupt text (tag-formed frame Frame.Interrupt text interrupt (is-formed (c .before)))))
     (c .match2 .keys2)))
 
 returns-5 : tie.Need-returns-5

@@ -1,54 +1,77 @@
--- The parts of row 11 in order; past row 3 the count is within the room.
+-- The parts of row 11 in order; past row 3 the counts are within the room.
 -- Assumes nothing.
-use mathlib.Core.Path.{refl, sym, _∙_}
+use mathlib.Core.Bool.{false}
+use mathlib.Core.Path.{_≡_, refl, sym, _∙_}
 use borrow.Author.Needs.{needs}
-use Rattle.taskask.proofs.Carried.{ask-rows, count-within}
+use Rattle.tasks.specs.Set.{members}
+use Rattle.tasks.specs.Search.{some}
+use Rattle.taskask.specs.Ask.{countRow, twiceRow, headerOverflows, taskOverflows, maskedOverflows}
+use Rattle.taskask.proofs.Carried.{ask-rows, count-within, interrupts-within}
 use Rattle.taskask.proofs.asks.Statement.{statement}
 use Rattle.taskask.proofs.asks.Tie as tie
 
 returns : tie.Need-returns
-returns c = sym (ask-rows _ (sym (c .before .breaks-count .ensures) ∙ c .if1 .taken) refl refl refl refl)
+returns c = sym (ask-rows (c .before .before .args .set) (sym (c .before .breaks-count .ensures) ∙ c .if1 .taken) refl refl refl refl refl)
+
+-- each part does not hold at the places behind it
+counted : (c : tie.Else1) → countRow (c .before .before .args .set) ≡ false
+counted c = sym (c .before .breaks-count .ensures) ∙ c .if1 .left
 
 breaks-twice-requires : tie.Need-breaks-twice-requires
-breaks-twice-requires c κs = count-within _ (sym (c .before .breaks-count .ensures) ∙ c .if1 .left) .1
+breaks-twice-requires c κs = count-within (c .before .before .args .set) (counted c) .1
 
 returns-2 : tie.Need-returns-2
 returns-2 c =
-    let d = c .before .before in
-    sym (ask-rows _ (sym (d .before .breaks-count .ensures) ∙ d .if1 .left) (sym (c .before .breaks-twice .ensures) ∙ c .if2 .taken) refl refl refl)
+    let one = c .before .before in
+    sym (ask-rows (one .before .before .args .set) (counted one) (sym (c .before .breaks-twice .ensures) ∙ c .if2 .taken) refl refl refl refl)
+
+once : (c : tie.Else2) → twiceRow (members (c .before .before .before .before .args .set)) ≡ false
+once c = sym (c .before .breaks-twice .ensures) ∙ c .if2 .left
 
 returns-3 : tie.Need-returns-3
 returns-3 c =
-    let e = c .before .before .before in
-    let d = e .before .before in
-    sym
-    (ask-rows _ (sym (d .before .breaks-count .ensures) ∙ d .if1 .left) (sym (e .before .breaks-twice .ensures) ∙ e .if2 .left)
-    (sym (c .before .header-overflows .ensures) ∙ c .if3 .taken) refl refl)
+    let two = c .before .before .before in
+    let one = two .before .before in
+    sym (ask-rows (one .before .before .args .set) (counted one) (once two) (sym (c .before .header-overflows .ensures) ∙ c .if3 .taken) refl refl refl)
+
+opened : (c : tie.Else3) → headerOverflows (c .before .before .before .before .before .before .before .args .set .header) ≡ false
+opened c = sym (c .before .header-overflows .ensures) ∙ c .if3 .left
 
 tasks-overflow-requires : tie.Need-tasks-overflow-requires
-tasks-overflow-requires c κs =
-    let d = c .before .before .before .before .before in
-    count-within _ (sym (d .before .breaks-count .ensures) ∙ d .if1 .left) .1
+tasks-overflow-requires c κs = let one = c .before .before .before .before .before in count-within (one .before .before .args .set) (counted one) .1
 
 returns-4 : tie.Need-returns-4
 returns-4 c =
-    let f = c .before .before in
-    let e = f .before .before .before in
-    let d = e .before .before in
-    sym
-    (ask-rows _ (sym (d .before .breaks-count .ensures) ∙ d .if1 .left) (sym (e .before .breaks-twice .ensures) ∙ e .if2 .left)
-    (sym (f .before .header-overflows .ensures) ∙ f .if3 .left) (sym (c .before .tasks-overflow .ensures) ∙ c .if4 .taken) refl)
+    let three = c .before .before in
+    let two = three .before .before .before in
+    let one = two .before .before in
+    sym (ask-rows (one .before .before .args .set) (counted one) (once two) (opened three) (sym (c .before .tasks-overflow .ensures) ∙ c .if4 .taken) refl refl)
+
+tasked : (c : tie.Else4) → some taskOverflows (members (c .before .before .before .before .before .before .before .before .before .args .set)) ≡ false
+tasked c = sym (c .before .tasks-overflow .ensures) ∙ c .if4 .left
 
 returns-5 : tie.Need-returns-5
 returns-5 c =
-    let g = c .before in
-    let f = g .before .before in
-    let e = f .before .before .before in
-    let d = e .before .before in
-    c .masked-overflows .ensures
-    ∙ sym
-    (ask-rows _ (sym (d .before .breaks-count .ensures) ∙ d .if1 .left) (sym (e .before .breaks-twice .ensures) ∙ e .if2 .left)
-    (sym (f .before .header-overflows .ensures) ∙ f .if3 .left) (sym (g .before .tasks-overflow .ensures) ∙ g .if4 .left) refl)
+    let four = c .before .before in
+    let three = four .before .before in
+    let two = three .before .before .before in
+    let one = two .before .before in
+    sym (ask-rows (one .before .before .args .set) (counted one) (once two) (opened three) (tasked four) (sym (c .before .masked-overflows .ensures) ∙ c .if5 .taken) refl)
+
+interrupts-overflow-requires : tie.Need-interrupts-overflow-requires
+interrupts-overflow-requires c κs =
+    let one = c .before .before .before .before .before .before .before .before .before in
+    interrupts-within (one .before .before .args .set) (counted one)
+
+returns-6 : tie.Need-returns-6
+returns-6 c =
+    let five = c .before in
+    let four = five .before .before in
+    let three = four .before .before in
+    let two = three .before .before .before in
+    let one = two .before .before in
+    c .interrupts-overflow .ensures
+    ∙ sym (ask-rows (one .before .before .args .set) (counted one) (once two) (opened three) (tasked four) (sym (five .before .masked-overflows .ensures) ∙ five .if5 .left) refl)
 
 pub asks-spec : {M : Type 1} → statement M
 asks-spec =
@@ -63,4 +86,6 @@ asks-spec =
     tasks-overflow-requires
     returns-4
     (λ c κs. search needs)
-    returns-5)
+    returns-5
+    interrupts-overflow-requires
+    returns-6)

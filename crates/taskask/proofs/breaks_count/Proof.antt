@@ -1,21 +1,31 @@
--- Row 3: the count is 0, or it is past the most.
+-- Row 3: the count is 0, or past the most, or that of the interrupts is.
 -- Assumes nothing.
-use mathlib.Core.Path.{sym, ap}
-use mathlib.Core.Bool.{Bool, _||_}
-use lib.Dec.{ltb}
-use borrow.Author.Tests.{eq-eqb, ne-eqb}
+use Prim.Native.Nat.{_≤_, _<_}
+use native.Mathlib.Omega.{arith}
+use mathlib.Core.Path.{refl, sym}
+use borrow.Author.Tests.{eq-eqb, ne-eqb, lt-ltb, le-ltb}
 use Rattle.tasks.specs.Set.{mostTasks}
-use Rattle.taskask.specs.Ask.{countRow}
+use Rattle.taskask.proofs.Carried.{count-rows}
 use Rattle.taskask.proofs.breaks_count.Statement.{statement}
 use Rattle.taskask.proofs.breaks_count.Tie as tie
 
 returns : tie.Need-returns
-unfolding countRow
-returns c = let n = c .before .before .args .set .count in sym (ap (λ (b : Bool). (b || ltb mostTasks n)) (eq-eqb n 0 (c .if1 .taken)))
+returns c = sym (count-rows (c .before .before .args .set) (eq-eqb _ _ (c .if1 .taken)) refl refl)
 
 returns-2 : tie.Need-returns-2
-unfolding countRow
-returns-2 c = let n = c .before .before .before .args .set .count in sym (ap (λ (b : Bool). (b || ltb mostTasks n)) (ne-eqb n 0 (c .before .if1 .left)))
+returns-2 c =
+    let some = c .before .before in
+    let set = some .before .before .args .set in
+    let past : mostTasks < set .count = omega (arith, c .if2 .taken) in
+    sym (count-rows set (ne-eqb _ _ (some .if1 .left)) (lt-ltb _ _ past) refl)
+
+returns-3 : tie.Need-returns-3
+returns-3 c =
+    let most = c .before .before in
+    let some = most .before .before in
+    let set = some .before .before .args .set in
+    let few : set .count ≤ mostTasks = omega (arith, most .if2 .left) in
+    sym (count-rows set (ne-eqb _ _ (some .if1 .left)) (le-ltb _ _ few) refl)
 
 pub breaks-count-spec : {M : Type 1} → statement M
-breaks-count-spec = tie.close (tie.spec returns returns-2)
+breaks-count-spec = tie.close (tie.spec returns returns-2 returns-3)

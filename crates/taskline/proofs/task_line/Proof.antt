@@ -17,7 +17,7 @@ use Rattle.taskfile.specs.File.{taskAt}
 use Rattle.listedline.specs.Answer.{taskOr}
 use Rattle.frameread.proofs.KindLaws.{kind-formed, kind-none}
 use Rattle.taskfile.proofs.Lines.{admits-none}
-use Rattle.taskfile.proofs.Standing.{tag-formed, other-frame, said-line, said-order, said-masked}
+use Rattle.taskfile.proofs.Standing.{tag-formed, other-task, said-line, said-order, said-masked}
 use borrow.Author.Needs.{needs}
 use Rattle.taskline.proofs.task_line.Statement.{statement}
 use Rattle.taskline.proofs.task_line.Tie as tie
@@ -33,7 +33,7 @@ returns : tie.Need-returns
 returns c =
     let s = c .before .before .before .before .before in
     let nothing : kindAt (rest s) ≡ Found.Nothing = sym (c .before .before .kind-at .ensures) ∙ c .enum-told .given .1 in
-    sym (ap (given s) (said-line (s .pre .0) (s .pre .1 .0) (admits-none (rest s) (kind-none (rest s) nothing))))
+    sym (ap (given s) (said-line (s .pre .0 .taken) (s .pre .1 .0) (admits-none (rest s) (kind-none (rest s) nothing))))
 
 -- the frame that was found is formed
 is-formed : (c : tie.After-known-told) → formed (c .before .found .given .0 .0) (rest (c .before .before .before .before .before .before)) ≡ true
@@ -43,7 +43,7 @@ is-formed c =
 listed-line-requires : tie.Need-listed-line-requires
 listed-line-requires c κs =
     let s = c .before .before .before .before .before .before .before .before in
-    (s .pre .0, (s .pre .1 .1, ap (λ (f : Frame). formed f (rest s)) (sym (c .enum-told2 .given .1)) ∙ is-formed (c .before .before)))
+    (s .pre .0, (s .pre .1 .1 .0, ap (λ (f : Frame). formed f (rest s)) (sym (c .enum-told2 .given .1)) ∙ is-formed (c .before .before)))
 
 returns-2 : tie.Need-returns-2
 returns-2 c =
@@ -52,15 +52,15 @@ returns-2 c =
     sym
     (ap (given s)
     (⊎-elim
-    (λ (header : tagOf the-type frame ≡ 0). said-order (s .pre .0) (tag-formed frame Frame.Header (rest s) header (is-formed (c .before))))
-    (λ (masked : tagOf the-type frame ≡ 2). said-masked (s .pre .0) (tag-formed frame Frame.Masked (rest s) masked (is-formed (c .before))))
+    (λ (header : tagOf the-type frame ≡ 0). said-order (s .pre .0 .taken) (tag-formed frame Frame.Header (rest s) header (is-formed (c .before))))
+    (λ (masked : tagOf the-type frame ≡ 2). said-masked (s .pre .0 .taken) (tag-formed frame Frame.Masked (rest s) masked (is-formed (c .before))))
     (c .match2 .keys1)))
 
 returns-4 : tie.Need-returns-4
 returns-4 c =
     let s = c .before .before .before .before .before .before .before in
-    let other = other-frame (c .before .before .found .given .0 .0) (rest s) (c .match2 .keys3) (is-formed (c .before)) in
-    sym (ap (given s) (said-line (s .pre .0) (s .pre .1 .0) other))
+    let other = other-task (c .before .before .found .given .0 .0) (rest s) (c .match2 .keys3) (is-formed (c .before)) (s .pre .1 .1 .1) in
+    sym (ap (given s) (said-line (s .pre .0 .taken) (s .pre .1 .0) other))
 
 pub task-line-spec : {M : Type 1} → statement M
 task-line-spec =

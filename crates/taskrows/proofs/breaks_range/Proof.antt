@@ -1,27 +1,12 @@
--- `breaks_range` meets its contract: each way out is told by the tests that led there.
-use borrow.Author.Tests.{lt-leb, le-leb}
+-- `breaks_range` meets its contract: the task's figures are out of range.
+use borrow.Author.Needs.{needs}
 use Rattle.taskrows.specs.Rows.{rangeRow}
-use Rattle.taskrows.proofs.Bools.{below-not-most}
 use Rattle.taskrows.proofs.breaks_range.Statement.{statement}
 use Rattle.taskrows.proofs.breaks_range.Tie as tie
 
 returns : tie.Need-returns
 unfolding rangeRow
-returns c = simp (lt-leb _ _ (c .if1 .taken))
-
-returns-2 : tie.Need-returns-2
-unfolding rangeRow
-returns-2 c = simp (le-leb _ _ (c .before .before .if1 .left), lt-leb _ _ (c .if2 .taken))
-
-returns-3 : tie.Need-returns-3
-unfolding rangeRow
-returns-3 c = simp (le-leb _ _ (c .before .before .before .before .if1 .left), le-leb _ _ (c .before .before .if2 .left), lt-leb _ _ (c .if3 .taken))
-
-returns-4 : tie.Need-returns-4
-unfolding rangeRow
-returns-4 c =
-    simp (le-leb _ _ (c .before .before .before .before .before .if1 .left), le-leb _ _ (c .before .before .before .if2 .left), le-leb _ _ (c .before .if3 .left))
-    (below-not-most 1000000 (c .before .before .before .before .before .before .before .args .task .period))
+returns c = c .out-of-range .ensures
 
 pub breaks-range-spec : {M : Type 1} → statement M
-breaks-range-spec = tie.close (tie.spec returns returns-2 returns-3 returns-4)
+breaks-range-spec = tie.close (tie.spec (λ c κs. search needs) returns)

@@ -8,8 +8,11 @@ use Rattle.digits.specs.Stored.{stored}
 use Rattle.frames.specs.Table.{widthsOf, fieldsIn}
 use Rattle.frames.specs.declared.table.Frame.{Frame}
 use Rattle.framelines.proofs.FillLaws.{Filled, filled-none, filled-next, filled-all}
+use Rattle.framelines.proofs.EachLaws.{figures-each, figures-at}
+use Rattle.tasks.specs.Set.{zeroTask}
+use Rattle.tasks.specs.Values.{taskValues}
 use Rattle.tasktext.specs.Text.{mostFigures, taskFigures}
-use Rattle.tasktext.proofs.TextLaws.{figures-each, figures-at}
+use Rattle.tasktext.proofs.TextLaws.{task-sized}
 use Rattle.tasktext.proofs.task_figures.Statement.{statement}
 use Rattle.tasktext.proofs.task_figures.Tie as tie
 
@@ -44,14 +47,14 @@ loop-again c =
     let l = turn .before .loop in
     let tasks = turn .before .before .args .t1 .tasks in
     let there = c .before .before .before .before .task-values .ensures in
-    filled-next (taskFigures tasks) (fieldsIn Frame.Task) (figures-each tasks) (omega arith) (l .inv) (turn .loop-test .taken)
-    (c .before .put-figures .ensures ∙ ap (stored (l .values) (4 * l .i)) (there ∙ figures-at tasks (l .i))) (c .before .put-figures .kept .0)
+    filled-next (taskFigures tasks) (fieldsIn Frame.Task) (figures-each Frame.Task taskValues zeroTask tasks task-sized) (omega arith) (l .inv) (turn .loop-test .taken)
+    (c .before .put-figures .ensures ∙ ap (stored (l .values) (4 * l .i)) (there ∙ figures-at Frame.Task taskValues zeroTask tasks (l .i))) (c .before .put-figures .kept .0)
 
 returns : tie.Need-returns Inv-loop μ-loop
 unfolding widthsOf
 returns c =
     let tasks = c .before .before .args .t1 .tasks in
-    filled-all (taskFigures tasks) (fieldsIn Frame.Task) (figures-each tasks) (omega arith) (c .before .loop .inv) (c .loop-test .left)
+    filled-all (taskFigures tasks) (fieldsIn Frame.Task) (figures-each Frame.Task taskValues zeroTask tasks task-sized) (omega arith) (c .before .loop .inv) (c .loop-test .left)
 
 pub task-figures-spec : {M : Type 1} → statement M
 task-figures-spec =

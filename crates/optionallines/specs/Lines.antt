@@ -1,0 +1,29 @@
+-- The lines that a task file may do without.
+-- Document 02, Req 04: a 05 line behind the 01 line; Req 08: 07 lines after all tasks.
+use Prim.Native.Nat.{ℕ, _*_}
+use mathlib.Core.List.{List, [], _∷_}
+use Rattle.framewrite.specs.Line.{lineOf}
+use Rattle.framelines.specs.Each.{eachLine, eachFigures}
+use Rattle.frames.specs.declared.table.Frame.{Frame}
+use Rattle.tasks.specs.declared.set.Interrupt.{Interrupt}
+use Rattle.tasks.specs.declared.set.Optional.{Optional}
+use Rattle.tasks.specs.declared.set.Optional.the-variants.{Absent, Given}
+use Rattle.tasks.specs.Set.{mostInterrupts, zeroInterrupt}
+use Rattle.tasks.specs.Values.{interruptValues}
+
+-- the 05 line, where the set has one
+unfoldable pub maskedLine : Optional → List ℕ
+maskedLine Absent = []
+maskedLine (Given masked) = lineOf Frame.Masked (masked ∷ [])
+
+-- the 07 lines, one for each interrupt, in file order
+abbrev pub interruptLines : List Interrupt → List ℕ
+interruptLines is = eachLine Frame.Interrupt interruptValues is
+
+-- the figures of the 07 line of interrupt k, from 1
+abbrev pub interruptFigures : List Interrupt → ℕ → List ℕ
+interruptFigures is = eachFigures interruptValues zeroInterrupt is
+
+-- the figures of as many 07 lines as a set has room for
+abbrev pub mostFigures : ℕ
+mostFigures = 5 * mostInterrupts

@@ -1,0 +1,28 @@
+// How many bytes reading a task file looks at.
+use frames::table::MOST_FIELDS;
+use frames::table::TABLE;
+use tasks::set::TaskSet;
+ghost use mathlib.Core.Path.{_≡_};
+ghost use Rattle.readbytes.specs.Furthest.{furthest};
+
+// The bytes of an 01, an 02, a 05 and an 07 line with its LF, by the table.
+const HEADER_BYTES: usize = TABLE[0].starts[MOST_FIELDS] as usize + 1;
+
+const TASK_BYTES: usize = TABLE[1].starts[MOST_FIELDS] as usize + 1;
+
+const MASKED_BYTES: usize = TABLE[2].starts[MOST_FIELDS] as usize + 1;
+
+const INTERRUPT_BYTES: usize = TABLE[3].starts[MOST_FIELDS] as usize + 1;
+
+// The bytes that reading looks at: a buffer of so many holds all that decides an answer.
+pub const FURTHEST: usize = HEADER_BYTES
+    + MASKED_BYTES
+    + TASK_BYTES * TaskSet::MOST_TASKS
+    + INTERRUPT_BYTES * TaskSet::MOST_INTERRUPTS
+    + HEADER_BYTES;
+
+pub fn looks_at() -> usize
+    ensures { λ r. ⌜ r ≡ furthest ⌝ }
+{
+    FURTHEST
+}
