@@ -1,2 +1,4 @@
 pub mod RangesLaws
 pub mod GainedLaws
+pub mod BeginsLaws
+pub mod EarlyLaws

@@ -24,37 +24,35 @@ least-as {n = n} {t = t} extra same value l =
           omega (arith, value t (l .begins) (l .within), value x a inside, l .first x a b (sym (same x a inside) ∙ e));
     }
 
-module _ {p : ℕ → Bool} {v : ℕ → ℕ} {from hi : ℕ} (some : 1 ≤ from) (none : (x : ℕ) → x < from → p x ≡ true → ⊥) where
-  -- where none has p before the lower end, it is the least of all
-  pub least-all : {t : ℕ} → LeastFrom p v from hi t → Least p v hi t
-  least-all l =
-      record {
-        there = omega (arith, l .begins);
-        within = l .within;
-        has = l .has;
-        least = λ x a b e. ⊎-elim (λ (k : from ≤ x). l .least x k b e) (λ (k : x < from). absurd (none x k e)) (le-or-lt from x);
-        first = λ x a b e. ⊎-elim (λ (k : from ≤ x). l .first x k b e) (λ (k : x < from). absurd (none x k e)) (le-or-lt from x);
-      }
+-- where none has p before the lower end, it is the least of all
+pub least-all : {p : ℕ → Bool} {v : ℕ → ℕ} {from hi t : ℕ} → 1 ≤ from → ((x : ℕ) → x < from → p x ≡ true → ⊥) → LeastFrom p v from hi t → Least p v hi t
+least-all {from = from} some none l =
+    record {
+      there = omega (arith, l .begins);
+      within = l .within;
+      has = l .has;
+      least = λ x a b e. ⊎-elim (λ (k : from ≤ x). l .least x k b e) (λ (k : x < from). absurd (none x k e)) (le-or-lt from x);
+      first = λ x a b e. ⊎-elim (λ (k : from ≤ x). l .first x k b e) (λ (k : x < from). absurd (none x k e)) (le-or-lt from x);
+    }
 
+module _ {p : ℕ → Bool} {v : ℕ → ℕ} {from hi : ℕ} where
   -- the least of the lower range, where none of the upper range has a smaller value
   pub least-near : {cut near : ℕ} → 1 ≤ cut → cut ≤ hi → LeastFrom p v from (cut - 1) near →
-      ((x : ℕ) → cut ≤ x → x ≤ hi → p x ≡ true → v near ≤ v x) → Least p v hi near
+      ((x : ℕ) → cut ≤ x → x ≤ hi → p x ≡ true → v near ≤ v x) → LeastFrom p v from hi near
   least-near {cut} {near} begun within l upper =
-      least-all
-      (record {
+      record {
         begins = l .begins;
         within = omega (arith, l .within);
         has = l .has;
         least = λ x a b e.
             ⊎-elim (λ (k : cut ≤ x). upper x k b e) (λ (k : x < cut). l .least x a (omega arith) e) (le-or-lt cut x);
         first = l .first;
-      })
+      }
 
   -- the least of the upper range, where it has a smaller value
-  pub least-far : {cut near far : ℕ} → from < cut → LeastFrom p v from (cut - 1) near → LeastFrom p v cut hi far → v far < v near → Least p v hi far
+  pub least-far : {cut near far : ℕ} → from < cut → LeastFrom p v from (cut - 1) near → LeastFrom p v cut hi far → v far < v near → LeastFrom p v from hi far
   least-far {cut} {near} {far} apart l u less =
-      least-all
-      (record {
+      record {
         begins = omega (arith, u .begins);
         within = u .within;
         has = u .has;
@@ -62,4 +60,4 @@ module _ {p : ℕ → Bool} {v : ℕ → ℕ} {from hi : ℕ} (some : 1 ≤ from
             ⊎-elim (λ (k : cut ≤ x). u .least x k b e) (λ (k : x < cut). omega (arith, l .least x a (omega arith) e)) (le-or-lt cut x);
         first = λ x a b e.
             ⊎-elim (λ (k : cut ≤ x). u .first x k b e) (λ (k : x < cut). omega (arith, l .least x a (omega arith) e)) (le-or-lt cut x);
-      })
+      }

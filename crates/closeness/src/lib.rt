@@ -1,45 +1,75 @@
-// How close it is where the demand gains: the closest of the lengths that gain and the closest of those past them, whichever is closer.
+// How close it is where the demand gains: the closest of the lengths before the gain, of those that gain, and of those past them, whichever
+// is closer.
 use masking::Gain;
 use slack::closest;
+ghost use mathlib.Core.Bool.{true};
 ghost use mathlib.Core.Path.{_≡_};
 ghost use Prim.Native.Nat.{_≤_};
-ghost use Rattle.demand.specs.Load.{Loaded, loadsOf};
+ghost use Rattle.demand.specs.Load.{loadsOf};
 ghost use Rattle.demand.specs.Demand.{demand};
 ghost use Rattle.demand.specs.Supply.{supplyPast};
+ghost use Rattle.interrupting.specs.Interrupts.{asked};
+ghost use Rattle.interrupting.specs.Interrupted.{Interrupted};
 ghost use Rattle.search.specs.Search.{Searched, NoneIn, short};
 ghost use Rattle.steps.specs.Stepping.{steps};
-ghost use Rattle.slack.specs.Least.{leastUpTo};
+ghost use Rattle.slack.specs.Least.{leastFrom, leastUpTo};
 ghost use Rattle.slack.specs.Slack.{slackPast};
-ghost use Rattle.masking.specs.Masking.{Gains, gaining};
+ghost use Rattle.masking.specs.Masking.{Gains, gaining, gainsSome};
+ghost use Rattle.closeness.specs.Begins.{Begins, soonerOf};
 
 // The ticks to spare at a length, without the gain.
 fn spare(loads: &[u64], n: usize, slot: u64, gap: u64, t: u64) -> u64
-    requires { ⌜ Loaded (now loads) n ⌝ }
+    requires { ⌜ Interrupted (now loads) n ⌝ }
     requires { ⌜ Searched slot gap 0 t ⌝ }
-    requires { ⌜ demand (loadsOf (now loads) n) t ≤ supplyPast slot gap t ⌝ }
-    ensures { λ r. ⌜ r ≡ slackPast (demand (loadsOf (now (loads .entry)) n)) slot gap t ⌝ }
+    requires { ⌜ asked (now loads) n t ≤ supplyPast slot gap t ⌝ }
+    ensures { λ r. ⌜ r ≡ slackPast (asked (now (loads .entry)) n) slot gap t ⌝ }
 {
     let supply = demand::supply_at(slot, gap, t);
-    supply - demand::demand_at(loads, n, t)
+    supply - interrupting::asked_at(loads, n, t)
 }
 
-// The smallest length with the smallest slack, of those up to hi where the demand steps; 0 where it never does.
-pub fn closest_of(loads: &[u64], n: usize, gain: Gain, slot: u64, gap: u64, hi: u64) -> u64
-    requires { ⌜ Loaded (now loads) n ⌝ }
-    requires { ⌜ Searched slot gap 0 hi ⌝ }
-    requires { ⌜ Gains gain (loadsOf (now loads) n) hi ⌝ }
-    requires { ⌜ NoneIn (short (gaining gain (demand (loadsOf (now loads) n))) slot gap 0) 0 hi ⌝ }
-    ensures { λ r. ⌜ r ≡ leastUpTo (steps (gaining gain (demand (loadsOf (now (loads .entry)) n)))) (slackPast (gaining gain (demand (loadsOf (now (loads .entry)) n))) slot gap) hi ⌝ }
+// The smaller of a first length, where there is one, and another length.
+fn sooner(first: u64, d: u64) -> u64
+    ensures { λ r. ⌜ r ≡ soonerOf first d ⌝ }
 {
-    if n == 0 {
-        return 0;
+    if first == 0 {
+        return d;
     }
+    if d < first {
+        return d;
+    }
+    first
+}
+
+// The first length at which loads or interrupts ask for something, from that of the loads.
+fn first_asked(loads: &[u64], n: usize, own: u64) -> u64
+    requires { ⌜ Interrupted (now loads) n ⌝ }
+    requires { ⌜ Begins (demand (loadsOf (now loads) n)) own ⌝ }
+    ensures { λ r. ⌜ Begins (asked (now (loads .entry)) n) r ⌝ }
+{
+    let from = 3 * n;
+    let count = (loads.len() - from) / 4;
+    let mut first = own;
+    let mut i: usize = 0;
+    while i < count {
+        let at = from + 4 * i;
+        first = sooner(first, loads[at + 2]);
+        i += 1;
+    }
+    first
+}
+
+// The closest from the first length that gains on: of those that gain, and of those past them.
+fn closest_gained(loads: &[u64], n: usize, gain: Gain, slot: u64, gap: u64, hi: u64) -> u64
+    requires { ⌜ Interrupted (now loads) n ⌝ }
+    requires { ⌜ Searched slot gap 0 hi ⌝ }
+    requires { ⌜ Gains gain (loadsOf (now loads) n) hi × (gainsSome gain ≡ true) ⌝ }
+    requires { ⌜ NoneIn (short (gaining gain (asked (now loads) n)) slot gap 0) 0 hi ⌝ }
+    ensures { λ r. ⌜ r ≡ leastFrom (steps (gaining gain (asked (now (loads .entry)) n))) (slackPast (gaining gain (asked (now (loads .entry)) n)) slot gap) (gain .from) hi ⌝ }
+{
     let extra = gain.extra;
     let from = gain.from;
     let until = gain.until;
-    if !gain.gains() {
-        return closest(loads, n, slot, gap, from, hi);
-    }
     let gained = until - 1;
     let near = closest(loads, n, slot, gap, from, gained);
     let far = closest(loads, n, slot, gap, until, hi);
@@ -47,4 +77,35 @@ pub fn closest_of(loads: &[u64], n: usize, gain: Gain, slot: u64, gap: u64, hi: 
         return far;
     }
     near
+}
+
+// The smallest length with the smallest slack, of those up to hi where the demand steps; 0 where it never does.
+pub fn closest_of(loads: &[u64], n: usize, gain: Gain, slot: u64, gap: u64, hi: u64) -> u64
+    requires { ⌜ Interrupted (now loads) n ⌝ }
+    requires { ⌜ Searched slot gap 0 hi ⌝ }
+    requires { ⌜ Gains gain (loadsOf (now loads) n) hi ⌝ }
+    requires { ⌜ NoneIn (short (gaining gain (asked (now loads) n)) slot gap 0) 0 hi ⌝ }
+    ensures { λ r. ⌜ r ≡ leastUpTo (steps (gaining gain (asked (now (loads .entry)) n))) (slackPast (gaining gain (asked (now (loads .entry)) n)) slot gap) hi ⌝ }
+{
+    let from = gain.from;
+    let first = first_asked(loads, n, from);
+    if first == 0 {
+        return 0;
+    }
+    if hi < first {
+        return 0;
+    }
+    if !gain.gains() {
+        return closest(loads, n, slot, gap, first, hi);
+    }
+    let late = closest_gained(loads, n, gain, slot, gap, hi);
+    if from <= first {
+        return late;
+    }
+    let early = closest(loads, n, slot, gap, first, from - 1);
+    let room = spare(loads, n, slot, gap, early) + gain.at(late);
+    if spare(loads, n, slot, gap, late) < room {
+        return late;
+    }
+    early
 }

@@ -239,20 +239,6 @@ module _ (numbers : List ℕ) where
   demand-next i t =
       rw (loads-next i) (demand-snoc (loadsOf numbers i) (loadAt numbers i) t)
 
-  -- it adds nothing before its deadline, and its term from there on
-  pub next-none : (i : ℕ) {t : ℕ} → t < loadAt numbers i .deadline → demand (loadsOf numbers (i + 1)) t ≡ demand (loadsOf numbers i) t
-  next-none i {t} h =
-      demand-next i t ∙
-      ap (λ (j : ℕ). demand (loadsOf numbers i) t + loadAt numbers i .cost * j) (jobs-none (loadAt numbers i .period) h) ∙
-      omega (arith, mul-zero (loadAt numbers i .cost))
-
-  pub next-due : (i : ℕ) {t : ℕ} → loadAt numbers i .deadline ≤ t →
-      demand (loadsOf numbers (i + 1)) t ≡
-      demand (loadsOf numbers i) t + loadAt numbers i .cost * ((t - loadAt numbers i .deadline) / loadAt numbers i .period + 1)
-  next-due i {t} h =
-      demand-next i t ∙
-      ap (λ (j : ℕ). demand (loadsOf numbers i) t + loadAt numbers i .cost * j) (jobs-due (loadAt numbers i .period) h)
-
   -- the demand of the first i of few loads leaves room in 64 bits
   pub demand-room : (n i t : ℕ) → Loaded numbers n → i ≤ n → t < 2 ^ 36 → demand (loadsOf numbers i) t < 2 ^ 63
   demand-room n i t h g p =

@@ -1,12 +1,24 @@
 // Demand and supply of a server at one length.
 // The loads stand in one slice of numbers, three for each: cost, deadline, period.
 ghost use mathlib.Core.Path.{_≡_};
-ghost use Prim.Native.Nat.{_<_, _≤_, _^_};
+ghost use Prim.Native.Nat.{_*_, _<_, _≤_, _^_};
 ghost use Rattle.demand.specs.Load.{Loaded, loadsOf};
-ghost use Rattle.demand.specs.Demand.{demand};
+ghost use Rattle.demand.specs.Demand.{demand, jobs};
 ghost use Rattle.demand.specs.Supply.{Allowed, gap, lastWith, supplyPast};
 
-// The ticks that the first n loads must have had in a window of length t.
+// The ticks that one load must have had in a window of length t.
+pub fn term_at(cost: u64, deadline: u64, period: u64, t: u64) -> u64
+    requires { ⌜ (1 ≤ period) × (t < 2 ^ 36) ⌝ }
+    requires { ⌜ cost * jobs deadline period t < 2 ^ 63 ⌝ }
+    ensures { λ r. ⌜ r ≡ cost * jobs deadline period t ⌝ }
+{
+    if deadline <= t {
+        return cost * ((t - deadline) / period + 1);
+    }
+    0
+}
+
+// The ticks that the first n loads must have had.
 pub fn demand_at(loads: &[u64], n: usize, t: u64) -> u64
     requires { ⌜ Loaded (now loads) n × (t < 2 ^ 36) ⌝ }
     ensures { λ r. ⌜ r ≡ demand (loadsOf (now (loads .entry)) n) t ⌝ }
@@ -15,10 +27,7 @@ pub fn demand_at(loads: &[u64], n: usize, t: u64) -> u64
     let mut i: usize = 0;
     while i < n {
         let at = 3 * i;
-        let d = loads[at + 1];
-        if d <= t {
-            sum += loads[at] * ((t - d) / loads[at + 2] + 1);
-        }
+        sum += term_at(loads[at], loads[at + 1], loads[at + 2], t);
         i += 1;
     }
     sum
@@ -37,11 +46,14 @@ pub fn supply_at(slot: u64, gap: u64, t: u64) -> u64
     whole + (rest - gap)
 }
 
-// The last length whose supply is the given one.
+// The last length whose supply is the given one. Without a gap it is that number, and nothing is divided.
 pub fn last_with(slot: u64, gap: u64, supply: u64) -> u64
     requires { ⌜ (gap < slot) × (lastWith slot gap supply < 2 ^ 36) ⌝ }
     ensures { λ r. ⌜ r ≡ lastWith slot gap supply ⌝ }
 {
+    if gap == 0 {
+        return supply;
+    }
     let usable = slot - gap;
     supply / usable * slot + gap + supply % usable
 }

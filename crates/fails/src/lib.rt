@@ -1,29 +1,30 @@
 // The search over a demand that gains where interrupts can be held off. It rises but for the end of the gain, so the searches go over
-// the lengths that gain and over those past them, each with a demand that never falls: below the smallest deadline none is short.
+// the lengths before the gain, over those that gain and over those past them, each with a demand that never falls.
 use masking::Gain;
 use search::first_short;
 use search::last_short;
 ghost use mathlib.Core.Path.{_≡_};
 ghost use lib.Dec.{eqb};
-ghost use Rattle.demand.specs.Load.{Loaded, loadsOf};
-ghost use Rattle.demand.specs.Demand.{demand};
+ghost use Rattle.demand.specs.Load.{loadsOf};
+ghost use Rattle.interrupting.specs.Interrupts.{asked};
+ghost use Rattle.interrupting.specs.Interrupted.{Interrupted};
 ghost use Rattle.search.specs.Search.{Searched, firstUpTo, short};
 ghost use Rattle.masking.specs.Masking.{Gains, gaining};
 
 // Whether no length up to hi is short. The smallest deadline is looked at first: too large an extra mostly shows where the least is
 // supplied. A length that is short without the extra is short with it.
 pub fn none_fails(loads: &[u64], n: usize, gain: Gain, slot: u64, gap: u64, hi: u64) -> bool
-    requires { ⌜ Loaded (now loads) n ⌝ }
+    requires { ⌜ Interrupted (now loads) n ⌝ }
     requires { ⌜ Searched slot gap 0 hi ⌝ }
     requires { ⌜ Gains gain (loadsOf (now loads) n) hi ⌝ }
-    ensures { λ r. ⌜ r ≡ eqb (firstUpTo (short (gaining gain (demand (loadsOf (now (loads .entry)) n))) slot gap 0) hi) 0 ⌝ }
+    ensures { λ r. ⌜ r ≡ eqb (firstUpTo (short (gaining gain (asked (now (loads .entry)) n)) slot gap 0) hi) 0 ⌝ }
 {
     let extra = gain.extra;
     let from = gain.from;
     let until = gain.until;
     let gains = gain.gains();
     if gains {
-        let w = demand::demand_at(loads, n, from) + extra;
+        let w = interrupting::asked_at(loads, n, from) + extra;
         if demand::supply_at(slot, gap, from) < w {
             return false;
         }
@@ -41,10 +42,10 @@ pub fn none_fails(loads: &[u64], n: usize, gain: Gain, slot: u64, gap: u64, hi: 
 
 // The smallest length up to hi that is short, or 0.
 pub fn first_fails(loads: &[u64], n: usize, gain: Gain, slot: u64, gap: u64, hi: u64) -> u64
-    requires { ⌜ Loaded (now loads) n ⌝ }
+    requires { ⌜ Interrupted (now loads) n ⌝ }
     requires { ⌜ Searched slot gap 0 hi ⌝ }
     requires { ⌜ Gains gain (loadsOf (now loads) n) hi ⌝ }
-    ensures { λ r. ⌜ r ≡ firstUpTo (short (gaining gain (demand (loadsOf (now (loads .entry)) n))) slot gap 0) hi ⌝ }
+    ensures { λ r. ⌜ r ≡ firstUpTo (short (gaining gain (asked (now (loads .entry)) n)) slot gap 0) hi ⌝ }
 {
     let extra = gain.extra;
     let from = gain.from;
@@ -52,8 +53,13 @@ pub fn first_fails(loads: &[u64], n: usize, gain: Gain, slot: u64, gap: u64, hi:
     if !gain.gains() {
         return first_short(loads, n, slot, gap, 0, 0, hi);
     }
+    let before = from - 1;
+    let early = first_short(loads, n, slot, gap, 0, 0, before);
+    if early != 0 {
+        return early;
+    }
     let gained = until - 1;
-    let near = first_short(loads, n, slot, gap, extra, from - 1, gained);
+    let near = first_short(loads, n, slot, gap, extra, before, gained);
     if near != 0 {
         return near;
     }

@@ -13,17 +13,12 @@ use Rattle.demand.specs.Demand.{demand}
 use Rattle.demand.specs.Steps.{Some, Step}
 use Rattle.demand.proofs.Demand.{demand-nil, demand-cons, term-none}
 use Rattle.masking.specs.declared.Gain.{Gain}
-use Rattle.masking.specs.Masking.{soonestOf, soonest, latest, gaining, gainOf, maskedDemand, gainsSome, Maskable, Gains}
+use Rattle.masking.specs.Masking.{soonestOf, soonest, latest, gainOf, gainsSome, Maskable, Gains}
 use Rattle.masking.proofs.EndsLaws.{soonest-first, soonest-each, soonest-some, latest-found, latest-below, sound-due}
 use Rattle.masking.proofs.GainLaws.{gains-somewhere}
 use Rattle.masking.proofs.MaskedLaws.{step-at, soonest-step}
 
--- the demand that gains so is the loads' own with B
-pub own-demand : {k : Gain} (B : ℕ) (ls : List Load) → k ≡ gainOf B ls → gaining k (demand ls) ≡ maskedDemand B ls
-unfolding maskedDemand
-own-demand B ls e = ap (λ (k : Gain). gaining k (demand ls)) e
-
--- and it is what a search asks, where B is small and the deadlines are within the bound
+-- the loads' own gain is what a search asks, where B is small and the deadlines are within the bound
 pub own-gains : {k : Gain} (B : ℕ) (ls : List Load) {H : ℕ} → k ≡ gainOf B ls → Maskable B ls H → Gains k ls H
 unfolding gainOf
 own-gains {k} B ls e m =

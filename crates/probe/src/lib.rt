@@ -1,19 +1,20 @@
 // What the benchmark calls from Rust: the searches for a short length and for the closest alone, with no file and no plan around them.
 ghost use mathlib.Core.Path.{_≡_};
 ghost use lib.Dec.{eqb};
-ghost use Rattle.demand.specs.Load.{Loaded, loadsOf};
-ghost use Rattle.demand.specs.Demand.{demand};
+ghost use Rattle.demand.specs.Load.{loadsOf};
+ghost use Rattle.interrupting.specs.Interrupts.{asked};
+ghost use Rattle.interrupting.specs.Interrupted.{Interrupted};
 ghost use Rattle.search.specs.Search.{Searched, NoneIn, firstUpTo, lastUpTo, short};
 ghost use Rattle.steps.specs.Stepping.{steps};
 ghost use Rattle.slack.specs.Least.{leastUpTo};
 ghost use Rattle.slack.specs.Slack.{slackPast};
-ghost use Rattle.masking.specs.Masking.{Maskable, maskedDemand};
+ghost use Rattle.masking.specs.Masking.{Maskable, gaining, gainOf};
 
 #[no_mangle]
 pub extern "C" fn probe_last_short(loads: &[u64], n: usize, slot: u64, gap: u64, hi: u64) -> u64
-    requires { ⌜ Loaded (now loads) n ⌝ }
+    requires { ⌜ Interrupted (now loads) n ⌝ }
     requires { ⌜ Searched slot gap 0 hi ⌝ }
-    ensures { λ r. ⌜ r ≡ lastUpTo (short (demand (loadsOf (now (loads .entry)) n)) slot gap 0) hi ⌝ }
+    ensures { λ r. ⌜ r ≡ lastUpTo (short (asked (now (loads .entry)) n) slot gap 0) hi ⌝ }
 {
     search::last_short(loads, n, slot, gap, 0, hi)
 }
@@ -27,10 +28,10 @@ pub extern "C" fn probe_none_fails(
     gap: u64,
     hi: u64,
 ) -> bool
-    requires { ⌜ Loaded (now loads) n ⌝ }
+    requires { ⌜ Interrupted (now loads) n ⌝ }
     requires { ⌜ Searched slot gap 0 hi ⌝ }
     requires { ⌜ Maskable masked (loadsOf (now loads) n) hi ⌝ }
-    ensures { λ r. ⌜ r ≡ eqb (firstUpTo (short (maskedDemand masked (loadsOf (now (loads .entry)) n)) slot gap 0) hi) 0 ⌝ }
+    ensures { λ r. ⌜ r ≡ eqb (firstUpTo (short (gaining (gainOf masked (loadsOf (now (loads .entry)) n)) (asked (now (loads .entry)) n)) slot gap 0) hi) 0 ⌝ }
 {
     let gain = masking::gain_of(loads, n, masked);
     fails::none_fails(loads, n, gain, slot, gap, hi)
@@ -45,11 +46,11 @@ pub extern "C" fn probe_closest(
     gap: u64,
     hi: u64,
 ) -> u64
-    requires { ⌜ Loaded (now loads) n ⌝ }
+    requires { ⌜ Interrupted (now loads) n ⌝ }
     requires { ⌜ Searched slot gap 0 hi ⌝ }
     requires { ⌜ Maskable masked (loadsOf (now loads) n) hi ⌝ }
-    requires { ⌜ NoneIn (short (maskedDemand masked (loadsOf (now loads) n)) slot gap 0) 0 hi ⌝ }
-    ensures { λ r. ⌜ r ≡ leastUpTo (steps (maskedDemand masked (loadsOf (now (loads .entry)) n))) (slackPast (maskedDemand masked (loadsOf (now (loads .entry)) n)) slot gap) hi ⌝ }
+    requires { ⌜ NoneIn (short (gaining (gainOf masked (loadsOf (now loads) n)) (asked (now loads) n)) slot gap 0) 0 hi ⌝ }
+    ensures { λ r. ⌜ r ≡ leastUpTo (steps (gaining (gainOf masked (loadsOf (now (loads .entry)) n)) (asked (now (loads .entry)) n))) (slackPast (gaining (gainOf masked (loadsOf (now (loads .entry)) n)) (asked (now (loads .entry)) n)) slot gap) hi ⌝ }
 {
     let own = masking::gain_of(loads, n, masked);
     closeness::closest_of(loads, n, own, slot, gap, hi)

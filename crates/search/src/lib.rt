@@ -1,22 +1,22 @@
 // The searches over lengths: the largest and the smallest length up to a bound at which demand, with an extra, exceeds supply.
 // What they mean stands in specs/Search.antt.
 ghost use mathlib.Core.Path.{_≡_};
-ghost use Rattle.demand.specs.Load.{Loaded, loadsOf};
-ghost use Rattle.demand.specs.Demand.{demand};
+ghost use Rattle.interrupting.specs.Interrupts.{asked};
+ghost use Rattle.interrupting.specs.Interrupted.{Interrupted};
 ghost use Rattle.search.specs.Search.{Searched, lastUpTo, firstAfter, short};
 
 // From hi down. Where the demand w at t is covered, so is every length up to t whose supply reaches w: the search goes on at
 // the last length whose supply is w - 1. Either that length is short, or its demand is below w, so that a step lies between
 // the two. With no extra there are thus never more turns than steps up to hi, plus one.
 pub fn last_short(loads: &[u64], n: usize, slot: u64, gap: u64, extra: u64, hi: u64) -> u64
-    requires { ⌜ Loaded (now loads) n ⌝ }
+    requires { ⌜ Interrupted (now loads) n ⌝ }
     requires { ⌜ Searched slot gap extra hi ⌝ }
-    ensures { λ r. ⌜ r ≡ lastUpTo (short (demand (loadsOf (now (loads .entry)) n)) slot gap extra) hi ⌝ }
+    ensures { λ r. ⌜ r ≡ lastUpTo (short (asked (now (loads .entry)) n) slot gap extra) hi ⌝ }
 {
     let mut t = hi;
     let mut supply = demand::supply_at(slot, gap, hi);
     while 0 < t {
-        let w = demand::demand_at(loads, n, t) + extra;
+        let w = interrupting::asked_at(loads, n, t) + extra;
         if supply < w {
             return t;
         }
@@ -40,9 +40,9 @@ pub fn first_short(
     lo: u64,
     hi: u64,
 ) -> u64
-    requires { ⌜ Loaded (now loads) n ⌝ }
+    requires { ⌜ Interrupted (now loads) n ⌝ }
     requires { ⌜ Searched slot gap extra hi ⌝ }
-    ensures { λ r. ⌜ r ≡ firstAfter (short (demand (loadsOf (now (loads .entry)) n)) slot gap extra) lo hi ⌝ }
+    ensures { λ r. ⌜ r ≡ firstAfter (short (asked (now (loads .entry)) n) slot gap extra) lo hi ⌝ }
 {
     let mut low = lo;
     let mut top = last_short(loads, n, slot, gap, extra, hi);

@@ -4,8 +4,8 @@ use steps::last_step;
 ghost use mathlib.Core.Path.{_≡_};
 ghost use mathlib.Core.Bool.{true};
 ghost use Prim.Native.Nat.{pred, _≤_};
-ghost use Rattle.demand.specs.Load.{Loaded, loadsOf};
-ghost use Rattle.demand.specs.Demand.{demand};
+ghost use Rattle.interrupting.specs.Interrupts.{asked};
+ghost use Rattle.interrupting.specs.Interrupted.{Interrupted};
 ghost use Rattle.search.specs.Search.{Searched, NoneIn, short};
 ghost use Rattle.steps.specs.Stepping.{steps};
 ghost use Rattle.slack.specs.Least.{leastFrom};
@@ -17,18 +17,18 @@ ghost use Rattle.slack.specs.Slack.{slackPast};
 // and no more supply: it is the closest so far, and before it the demand is below w, so the search goes on where the supply is one less.
 // Of two turns that follow each other one stands past another step, so there are at most two for each step, and one more.
 pub fn closest(loads: &[u64], n: usize, slot: u64, gap: u64, from: u64, hi: u64) -> u64
-    requires { ⌜ Loaded (now loads) n ⌝ }
+    requires { ⌜ Interrupted (now loads) n ⌝ }
     requires { ⌜ Searched slot gap 0 hi ⌝ }
-    requires { ⌜ (steps (demand (loadsOf (now loads) n)) from ≡ true) × (from ≤ hi) ⌝ }
-    requires { ⌜ NoneIn (short (demand (loadsOf (now loads) n)) slot gap 0) (pred from) hi ⌝ }
-    ensures { λ r. ⌜ r ≡ leastFrom (steps (demand (loadsOf (now (loads .entry)) n))) (slackPast (demand (loadsOf (now (loads .entry)) n)) slot gap) from hi ⌝ }
+    requires { ⌜ (steps (asked (now loads) n) from ≡ true) × (from ≤ hi) ⌝ }
+    requires { ⌜ NoneIn (short (asked (now loads) n) slot gap 0) (pred from) hi ⌝ }
+    ensures { λ r. ⌜ r ≡ leastFrom (steps (asked (now (loads .entry)) n)) (slackPast (asked (now (loads .entry)) n) slot gap) from hi ⌝ }
 {
     let mut best = from;
     let spare = demand::supply_at(slot, gap, best);
-    let mut least = spare - demand::demand_at(loads, n, best);
+    let mut least = spare - interrupting::asked_at(loads, n, best);
     let mut t = hi;
     let mut supply = demand::supply_at(slot, gap, hi);
-    let mut w = demand::demand_at(loads, n, hi);
+    let mut w = interrupting::asked_at(loads, n, hi);
     while from <= t {
         if w + least < supply {
             supply = w + least;
@@ -39,7 +39,7 @@ pub fn closest(loads: &[u64], n: usize, slot: u64, gap: u64, from: u64, hi: u64)
             supply = reached - 1;
         }
         t = demand::last_with(slot, gap, supply);
-        w = demand::demand_at(loads, n, t);
+        w = interrupting::asked_at(loads, n, t);
     }
     best
 }

@@ -1,3 +1,4 @@
 pub mod StepLaws
+pub mod LastLaws
+pub mod RisenLaws
 pub mod Claims
-pub mod LastFound

@@ -3,14 +3,13 @@
 use Prim.Native.Nat.{ℕ, zero, suc, _+_, _*_, _-_, _/_, _≤_, _<_}
 use mathlib.Core.Path.{_≡_, ap, sym, subst, _∙_}
 use mathlib.Core.Bool.{true, false}
-use mathlib.Core.Logic.{_⊎_, inl, inr, ⊎-elim}
-use mathlib.Core.List.{List, [], _∷_, _++_}
+use mathlib.Core.Logic.{⊎-elim}
+use mathlib.Core.List.{List, [], _∷_}
 use native.Mathlib.Nat.{le-suc-iff, le-trans, le-of-eq, add-lt-add-of-lt-of-le, add-lt-add-of-le-of-lt, mul-le-mul-left, mul-lt-mul-of-pos-left}
 use native.Mathlib.Numerals.{unary-clauses}
 use native.Mathlib.Omega.{arith}
 use lib.Arith.{digits-div}
 use borrow.Author.Tests.{lt-ltb, ltb-true, ltb-false}
-use Rattle.laws.proofs.Tests.{never-true}
 use Rattle.laws.proofs.Orders.{le-or-lt}
 use Rattle.demand.specs.Load.{Load, Sound, Every}
 use Rattle.demand.specs.Demand.{jobs, demand}
@@ -75,7 +74,7 @@ some-step g (suc x) none some =
 -- ---- one load
 
 -- at a deadline there is one job more than before
-jobs-step : (d T j : ℕ) → 1 ≤ d → d ≤ T → jobs d T (d + j * T - 1) < jobs d T (d + j * T)
+pub jobs-step : (d T j : ℕ) → 1 ≤ d → d ≤ T → jobs d T (d + j * T - 1) < jobs d T (d + j * T)
 jobs-step d T j h g =
     let before : d + j * T - 1 + T - d ≡ j * T + (T - 1) = omega arith in
     let there : d + j * T + T - d ≡ (j + 1) * T + 0 = omega arith in
@@ -108,42 +107,3 @@ some-steps (l ∷ ls) x sound st =
 -- and it steps there only
 pub steps-some : (ls : List Load) (x : ℕ) → Every Sound ls → StepsAt (demand ls) x → Step ls x
 steps-some ls x sound h = steps-rise (Step ls) (demand ls) x (rises-at ls sound) h
-
--- the test of sound loads, by their deadlines
-module _ (ls : List Load) (x : ℕ) (sound : Every Sound ls) where
-  pub step-tested : Step ls x → steps (demand ls) x ≡ true
-  step-tested st = does-step (demand ls) x (some-steps ls x sound (st .1))
-
-  pub none-tested : (Step ls x → ⊥) → steps (demand ls) x ≡ false
-  none-tested none =
-      never-true (steps (demand ls) x) (λ (e : steps (demand ls) x ≡ true). none (steps-some ls x sound (has-stepped (demand ls) x e)))
-
--- ---- one load more
-
-module _ (P : Load → Type 0) (l : Load) where
-  some-snoc : (ls : List Load) → Some P (ls ++ (l ∷ [])) → Some P ls ⊎ P l
-  some-snoc [] st = ⊎-elim (λ (a : P l). inr a) (λ (b : ⊥). absurd b) st
-  some-snoc (k ∷ ls) st =
-      ⊎-elim
-      (λ (a : P k). inl (inl a))
-      (λ (b : Some P (ls ++ (l ∷ []))). ⊎-elim (λ (c : Some P ls). inl (inr c)) (λ (c : P l). inr c) (some-snoc ls b))
-      st
-
-  snoc-front : (ls : List Load) → Some P ls → Some P (ls ++ (l ∷ []))
-  snoc-front [] st = absurd st
-  snoc-front (k ∷ ls) st = ⊎-elim (λ (a : P k). inl a) (λ (b : Some P ls). inr (snoc-front ls b)) st
-
-  snoc-last : (ls : List Load) → P l → Some P (ls ++ (l ∷ []))
-  snoc-last [] a = inl a
-  snoc-last (k ∷ ls) a = inr (snoc-last ls a)
-
--- a step of the loads with one more is one of theirs, or its own
-pub step-snoc : (ls : List Load) (l : Load) (x : ℕ) → Step (ls ++ (l ∷ [])) x → Step ls x ⊎ StepOf l x
-step-snoc ls l x st =
-    ⊎-elim (λ (a : Some (λ (k : Load). StepOf k x) ls). inl (st .0, a)) (λ (b : StepOf l x). inr b) (some-snoc (λ (k : Load). StepOf k x) l ls (st .1))
-
-pub step-front : (ls : List Load) (l : Load) (x : ℕ) → Step ls x → Step (ls ++ (l ∷ [])) x
-step-front ls l x st = (st .0, snoc-front (λ (k : Load). StepOf k x) l ls (st .1))
-
-pub step-last : (ls : List Load) (l : Load) (x : ℕ) → Sound l → StepOf l x → Step (ls ++ (l ∷ [])) x
-step-last ls l x s st = (omega (arith, st .1), snoc-last (λ (k : Load). StepOf k x) l ls st)

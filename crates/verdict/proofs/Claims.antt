@@ -55,7 +55,7 @@ pub any-horizon : AnyHorizon
 any-horizon = same-verdict
 
 pub own-horizon : OwnHorizon
-own-horizon = own-lawful
+own-horizon B ls m bs S sound bound slot = own-lawful ls bs S sound bound slot B m
 
 pub passing-stays : PassingStays
 passing-stays = passing-rises

@@ -25,13 +25,13 @@ beside C = record { cost = 1; deadline = 3; period = 6 } ∷ record { cost = C; 
 
 pub record Worked : Type 0 where
   -- E. S 4, task 2/7/8: R = 1 fails first at length 7, demand 2, supply 1; the smallest R is 2
-  pub E-horizon : ownHorizon 4 (alone 2 7 8) ≡ 8
+  pub E-horizon : ownHorizon 4 (alone 2 7 8) [] ≡ 8
   pub E : verdictOf (demand (alone 2 7 8)) 8 4 0 1 ≡ No (record { length = 7; demand = 2; supply = 1 })
   pub E-reserve : smallestReserve (demand (alone 2 7 8)) 8 4 0 ≡ 2
   -- F. S 4, task 2/5/8, R = 1: fails first at 5, demand 2, supply 1
   pub F : verdictOf (demand (alone 2 5 8)) 8 4 0 1 ≡ No (record { length = 5; demand = 2; supply = 1 })
   -- G. S 10, task 3/10/10, ResD 1: R = 4, and with it the verdict is yes: at length 10 all of the supply of 3 is asked for
-  pub G-horizon : ownHorizon 10 (alone 3 10 10) ≡ 10
+  pub G-horizon : ownHorizon 10 (alone 3 10 10) [] ≡ 10
   pub G-reserve : smallestReserve (demand (alone 3 10 10)) 10 10 1 ≡ 4
   pub G : verdictOf (demand (alone 3 10 10)) 10 10 1 4 ≡ Yes (record { length = 10; demand = 3; supply = 3 })
   -- S 3, tasks 1/3/6 and 1/5/6, R = 2: the slack is 1 at length 3, demand 1, supply 2, and at 5, demand 2, supply 3; the smaller is named

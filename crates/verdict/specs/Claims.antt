@@ -1,5 +1,5 @@
 -- What is claimed of the definitions of this crate, each claim as a type. They are proved in proofs/Claims.antt.
-use Prim.Native.Nat.{ℕ, _-_, _≤_, _<_}
+use Prim.Native.Nat.{ℕ, _+_, _-_, _≤_, _<_}
 use mathlib.Core.Path.{_≡_}
 use mathlib.Core.Logic.{_↔_}
 use mathlib.Core.Bool.{true, false}
@@ -9,6 +9,7 @@ use Rattle.demand.specs.Load.{Load, Sound, Every}
 use Rattle.demand.specs.Lawful.{Lawful}
 use Rattle.demand.specs.Supply.{Allowed, supply}
 use Rattle.demand.specs.Passes.{Passes}
+use Rattle.interrupting.specs.Interrupts.{Bound, EveryBound, greatest}
 use Rattle.masking.specs.Masking.{maskedDemand}
 use Rattle.steps.specs.Stepping.{StepsAt}
 use Rattle.verdict.specs.Verdict.{firstFailing, verdictOf, readingOf, passing, ownHorizon}
@@ -79,9 +80,12 @@ AnyHorizon =
     (g : ℕ → ℕ) (H H′ S L R : ℕ) → Lawful g H → Lawful g H′ → 1 ≤ S
     → verdictOf g H S L R ≡ verdictOf g H′ S L R
 
--- the demand of sound loads is lawful under their own horizon, however long interrupts are held off
+-- the demand of sound loads and the greatest of sound interrupts are lawful together under their own horizon, however long interrupts
+-- are held off
 abbrev pub OwnHorizon : Type 0
-OwnHorizon = (B : ℕ) (ls : List Load) (S : ℕ) → Every Sound ls → 1 ≤ S → Lawful (maskedDemand B ls) (ownHorizon S ls)
+OwnHorizon =
+    (B : ℕ) (ls : List Load) (m : ℕ) (bs : List Bound) (S : ℕ) → Every Sound ls → EveryBound (λ (b : Bound). Sound (b .load)) bs → 1 ≤ S
+    → Lawful (λ t. maskedDemand B ls t + greatest m bs t) (ownHorizon S ls bs)
 
 -- a larger allowed reserve never turns yes into no, whatever the demand and the horizon
 abbrev pub PassingStays : Type 0

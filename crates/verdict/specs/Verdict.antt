@@ -3,11 +3,12 @@
 -- Lengths up to a horizon H are looked at; Claims says when they decide for all.
 use Prim.Native.Nat.{ℕ, zero, suc, _^_, _≤_, _<_}
 use mathlib.Core.Bool.{Bool, true, false}
-use mathlib.Core.List.{List, map}
+use mathlib.Core.List.{List, map, _++_}
 use lib.Dec.{ltb}
 use Rattle.wholes.specs.Multiple.{leastMultipleOf}
 use Rattle.demand.specs.Load.{Load}
 use Rattle.demand.specs.Supply.{supplyPast, supply}
+use Rattle.interrupting.specs.Interrupts.{Bound}
 use Rattle.search.specs.Search.{firstUpTo}
 use Rattle.steps.specs.Stepping.{steps}
 use Rattle.slack.specs.Least.{leastUpTo}
@@ -57,9 +58,9 @@ readingOf (No r) = r
 unfoldable pub passing : (g : ℕ → ℕ) → (H S L R : ℕ) → Bool
 passing g H S L R = isYes (verdictOf g H S L R)
 
--- the horizon of a server alone: the least common multiple of S and the periods of its loads
-unfoldable pub ownHorizon : ℕ → List Load → ℕ
-ownHorizon S ls = leastMultipleOf S (map (λ (l : Load). l .period) ls)
+-- the horizon of a server alone: the least common multiple of S, the periods of its loads and those of the interrupts
+unfoldable pub ownHorizon : ℕ → List Load → List Bound → ℕ
+ownHorizon S ls bs = leastMultipleOf S (map (λ (l : Load). l .period) ls ++ map (λ (b : Bound). b .load .period) bs)
 
 -- what the test asks of its numbers
 pub record Testable (H S L : ℕ) : Type 0 where

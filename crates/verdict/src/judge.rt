@@ -10,10 +10,11 @@ use masking::Gain;
 use masking::gain_of;
 ghost use mathlib.Core.Path.{_≡_};
 ghost use Prim.Native.Nat.{_<_, _≤_, _^_};
-ghost use Rattle.demand.specs.Load.{Loaded, loadsOf};
-ghost use Rattle.demand.specs.Demand.{demand};
+ghost use Rattle.demand.specs.Load.{loadsOf};
 ghost use Rattle.demand.specs.Supply.{Allowed};
-ghost use Rattle.masking.specs.Masking.{Gains, Maskable, gaining, maskedDemand};
+ghost use Rattle.interrupting.specs.Interrupts.{asked};
+ghost use Rattle.interrupting.specs.Interrupted.{Interrupted};
+ghost use Rattle.masking.specs.Masking.{Gains, Maskable, gaining, gainOf};
 ghost use Rattle.verdict.specs.Verdict.{Testable, passing, readingPast, verdictOf};
 
 // Whether the loads pass with a gain that is theirs.
@@ -26,11 +27,11 @@ pub fn passes_gaining(
     reserve: u64,
     horizon: u64,
 ) -> bool
-    requires { ⌜ Loaded (now loads) n ⌝ }
+    requires { ⌜ Interrupted (now loads) n ⌝ }
     requires { ⌜ Testable horizon slot loss ⌝ }
     requires { ⌜ Allowed slot loss reserve ⌝ }
     requires { ⌜ Gains gain (loadsOf (now loads) n) horizon ⌝ }
-    ensures { λ r. ⌜ r ≡ passing (gaining gain (demand (loadsOf (now (loads .entry)) n))) horizon slot loss reserve ⌝ }
+    ensures { λ r. ⌜ r ≡ passing (gaining gain (asked (now (loads .entry)) n)) horizon slot loss reserve ⌝ }
 {
     let gap = demand::gap_of(slot, loss, reserve);
     none_fails(loads, n, gain, slot, gap, horizon)
@@ -46,11 +47,11 @@ pub fn passes(
     reserve: u64,
     horizon: u64,
 ) -> bool
-    requires { ⌜ Loaded (now loads) n ⌝ }
+    requires { ⌜ Interrupted (now loads) n ⌝ }
     requires { ⌜ Testable horizon slot loss ⌝ }
     requires { ⌜ Allowed slot loss reserve ⌝ }
     requires { ⌜ Maskable masked (loadsOf (now loads) n) horizon ⌝ }
-    ensures { λ r. ⌜ r ≡ passing (maskedDemand masked (loadsOf (now (loads .entry)) n)) horizon slot loss reserve ⌝ }
+    ensures { λ r. ⌜ r ≡ passing (gaining (gainOf masked (loadsOf (now (loads .entry)) n)) (asked (now (loads .entry)) n)) horizon slot loss reserve ⌝ }
 {
     let own = gain_of(loads, n, masked);
     passes_gaining(loads, n, own, slot, loss, reserve, horizon)
@@ -58,12 +59,12 @@ pub fn passes(
 
 // A length with the demand and the supply there.
 fn reading(loads: &[u64], n: usize, gain: Gain, slot: u64, gap: u64, length: u64) -> Reading
-    requires { ⌜ Loaded (now loads) n × (length < 2 ^ 36) ⌝ }
+    requires { ⌜ Interrupted (now loads) n × (length < 2 ^ 36) ⌝ }
     requires { ⌜ gain .extra < 2 ^ 36 ⌝ }
     requires { ⌜ (1 ≤ slot) × (gap ≤ slot) ⌝ }
-    ensures { λ r. ⌜ r ≡ readingPast (gaining gain (demand (loadsOf (now (loads .entry)) n))) slot gap length ⌝ }
+    ensures { λ r. ⌜ r ≡ readingPast (gaining gain (asked (now (loads .entry)) n)) slot gap length ⌝ }
 {
-    let asked = demand::demand_at(loads, n, length) + gain.at(length);
+    let asked = interrupting::asked_at(loads, n, length) + gain.at(length);
     let supply = demand::supply_at(slot, gap, length);
     Reading {
         length,
@@ -81,11 +82,11 @@ pub fn verdict(
     reserve: u64,
     horizon: u64,
 ) -> Verdict
-    requires { ⌜ Loaded (now loads) n ⌝ }
+    requires { ⌜ Interrupted (now loads) n ⌝ }
     requires { ⌜ Testable horizon slot loss ⌝ }
     requires { ⌜ Allowed slot loss reserve ⌝ }
     requires { ⌜ Maskable masked (loadsOf (now loads) n) horizon ⌝ }
-    ensures { λ r. ⌜ r ≡ verdictOf (maskedDemand masked (loadsOf (now (loads .entry)) n)) horizon slot loss reserve ⌝ }
+    ensures { λ r. ⌜ r ≡ verdictOf (gaining (gainOf masked (loadsOf (now (loads .entry)) n)) (asked (now (loads .entry)) n)) horizon slot loss reserve ⌝ }
 {
     let gap = demand::gap_of(slot, loss, reserve);
     let gain = gain_of(loads, n, masked);

@@ -3,8 +3,10 @@
 use crate::judge::passes_gaining;
 use masking::gain_of;
 ghost use mathlib.Core.Path.{_≡_};
-ghost use Rattle.demand.specs.Load.{Loaded, loadsOf};
-ghost use Rattle.masking.specs.Masking.{Maskable, maskedDemand};
+ghost use Rattle.demand.specs.Load.{loadsOf};
+ghost use Rattle.interrupting.specs.Interrupts.{asked};
+ghost use Rattle.interrupting.specs.Interrupted.{Interrupted};
+ghost use Rattle.masking.specs.Masking.{Maskable, gaining, gainOf};
 ghost use Rattle.verdict.specs.Verdict.{Testable};
 ghost use Rattle.verdict.specs.Reserve.{smallestReserve};
 
@@ -17,10 +19,10 @@ pub fn smallest_reserve(
     loss: u64,
     horizon: u64,
 ) -> u64
-    requires { ⌜ Loaded (now loads) n ⌝ }
+    requires { ⌜ Interrupted (now loads) n ⌝ }
     requires { ⌜ Testable horizon slot loss ⌝ }
     requires { ⌜ Maskable masked (loadsOf (now loads) n) horizon ⌝ }
-    ensures { λ r. ⌜ r ≡ smallestReserve (maskedDemand masked (loadsOf (now (loads .entry)) n)) horizon slot loss ⌝ }
+    ensures { λ r. ⌜ r ≡ smallestReserve (gaining (gainOf masked (loadsOf (now (loads .entry)) n)) (asked (now (loads .entry)) n)) horizon slot loss ⌝ }
 {
     let gain = gain_of(loads, n, masked);
     let mut lo = loss;

@@ -1,48 +1,78 @@
--- `closest_of` meets its contract: the closest of the lengths that gain, or the closest past them where that is closer.
+-- `closest_of` meets its contract: the closest from the first length at which something is asked, or of those before the gain and those
+-- from there on, whichever has less to spare.
 -- Assumes nothing.
-use Prim.Native.Nat.{ℕ, _-_, _≤_, _<_}
-use mathlib.Core.Path.{_≡_, sym, _∙_}
+use Prim.Native.Nat.{ℕ, _+_, _-_, _≤_, _<_}
+use mathlib.Core.Path.{_≡_, ap, sym, _∙_}
 use mathlib.Core.Bool.{true}
-use mathlib.Core.List.{List}
 use borrow.Author.Needs.{needs}
 use borrow.Author.Tests.{not-true, not-false}
-use native.Mathlib.Nat.{le-trans}
 use native.Mathlib.Omega.{arith}
-use lib.ListN.{length}
-use Rattle.demand.specs.Load.{Load, loadsOf}
-use Rattle.demand.specs.Demand.{demand}
+use Rattle.demand.specs.Load.{loadsOf}
 use Rattle.demand.specs.Supply.{supplyPast}
-use Rattle.demand.proofs.Demand.{loads-length}
 use Rattle.demand.proofs.Supply.{supply-within}
+use Rattle.interrupting.specs.Interrupts.{asked}
+use Rattle.interrupting.proofs.AskedLaws.{asked-above}
 use Rattle.search.specs.Search.{Searched}
 use Rattle.steps.specs.Stepping.{steps}
 use Rattle.slack.specs.Slack.{slackPast}
 use Rattle.slack.proofs.LeastLaws.{LeastFrom}
-use Rattle.masking.specs.Masking.{gainsSome}
-use Rattle.closeness.proofs.GainedLaws.{closest-nothing, plain-covered, plain-met, from-steps, until-steps, from-some, from-within, closest-ungained, apart, near-plain, far-plain, far-closest, near-closest}
+use Rattle.masking.specs.Masking.{gaining, gainAt, gainsSome}
+use Rattle.masking.proofs.GainLaws.{gains-somewhere, gain-most, gaining-after}
+use Rattle.closeness.specs.Begins.{Begins}
+use Rattle.closeness.proofs.BeginsLaws.{begins-steps, own-first, gains-there, gains-nothing, from-steps}
+use Rattle.closeness.proofs.GainedLaws.{plain-met, plain-covered}
+use Rattle.closeness.proofs.EarlyLaws.{closest-none, closest-ungained, late-least, late-alone, early-plain, late-closest, early-closest}
 use Rattle.closeness.proofs.closest_of.Statement.{statement}
 use Rattle.closeness.proofs.closest_of.Tie as tie
 
-abbrev loadsAt : tie.Start → List Load
-loadsAt s = loadsOf (s .args .loads .now) (s .args .n)
+-- what is asked without the gain
+abbrev asking : tie.Start → ℕ → ℕ
+asking s = asked (s .args .loads .now) (s .args .n)
+
+first-asked-requires : tie.Need-first-asked-requires
+first-asked-requires c κs =
+    let s = c .before in
+    (s .pre .0, own-first (loadsOf (s .args .loads .now) (s .args .n)) (s .pre .1 .1 .0) (s .pre .0 .loads .sound))
+
+-- where nothing is asked up to hi there is no closest
+nothing : (s : tie.Start) → ((x : ℕ) → x ≤ s .args .hi → asking s x ≡ 0) → (x : ℕ) → x ≤ s .args .hi → gaining (s .args .gain) (asking s) x ≡ 0
+nothing s none x h =
+    let ls = loadsOf (s .args .loads .now) (s .args .n) in
+    let over : s .args .gain .until ≡ 0 =
+    gains-nothing ls (s .pre .1 .1 .0) (s .pre .0 .loads .sound)
+    (λ y b. omega (arith, asked-above (s .args .loads .now) (s .args .n) (s .pre .0) y, none y b)) in
+    gaining-after (s .args .gain) x (asking s) (omega arith) ∙ none x h
 
 returns : tie.Need-returns
 returns c =
-    let s = c .before .before in
+    let s = c .before .before .before in
     let a = s .args in
-    closest-nothing (a .gain) (loadsAt s) (a .slot) (a .gap) (a .hi) (s .pre .1 .1 .0) (loads-length (a .loads .now) (a .n) ∙ c .if1 .taken)
+    closest-none (a .gain) (asking s) (a .slot) (a .gap) (a .hi) (nothing s (λ x h. c .before .first-asked .ensures .never (c .if1 .taken) x))
 
--- past the first test there is a load
-there : (c : tie.Else1) → 1 ≤ length (loadsAt (c .before .before))
-there c =
-    let a = c .before .before .args in
-    omega (arith, loads-length (a .loads .now) (a .n), c .if1 .left)
+returns-2 : tie.Need-returns-2
+returns-2 c =
+    let f = c .before .before in
+    let s = f .before .before in
+    let a = s .args in
+    closest-none (a .gain) (asking s) (a .slot) (a .gap) (a .hi) (nothing s (λ x h. f .first-asked .ensures .none x (omega (arith, c .if2 .taken))))
 
--- past the second some length gains
-gained : (c : tie.Else2) → gainsSome (c .before .before .before .before .args .gain) ≡ true
-gained c = sym (c .before .gains .ensures) ∙ not-false _ (c .if2 .left)
+-- past these tests there is a first length, up to hi
+abbrev start : tie.Else2 → tie.Start
+start c = c .before .before .before .before
 
--- what `closest` asks of a range that begins at a step
+abbrev first : tie.Else2 → ℕ
+first c = c .before .before .first-asked .result
+
+begins : (c : tie.Else2) → Begins (asking (start c)) (first c)
+begins c = c .before .before .first-asked .ensures
+
+some : (c : tie.Else2) → 1 ≤ first c
+some c = omega (arith, c .before .if1 .left)
+
+within : (c : tie.Else2) → first c ≤ start c .args .hi
+within c = omega (arith, c .if2 .left)
+
+-- what `closest` asks of a range that ends at b
 searched : (s : tie.Start) (b : ℕ) → b ≤ s .args .hi → Searched (s .args .slot) (s .args .gap) 0 b
 searched s b h =
     record { usable = s .pre .1 .0 .usable; small-extra = s .pre .1 .0 .small-extra; small = omega (arith, s .pre .1 .0 .small) }
@@ -50,131 +80,178 @@ searched s b h =
 closest-requires : tie.Need-closest-requires
 closest-requires c κs =
     let e = c .before .before in
-    let s = e .before .before in
+    let s = start e in
     let a = s .args in
-    let own = s .pre .1 .1 .0 in
-    (s .pre .0, (s .pre .1 .0, ((from-steps (a .gain) (loadsAt s) (a .slot) (a .gap) own (s .pre .0 .sound) (there e), from-within (a .gain) (loadsAt s) (a .slot) (a .gap) own (s .pre .0 .sound) (there e)), plain-covered (a .gain) (loadsAt s) (a .slot) (a .gap) own (s .pre .0 .sound) (s .pre .1 .1 .1) _ (a .hi) (omega arith))))
+    (s .pre .0, (s .pre .1 .0, ((begins-steps (begins e) (some e), within e), plain-covered (a .gain) (asking s) (a .slot) (a .gap) (a .hi) (s .pre .1 .1 .1) _ (a .hi) (omega arith))))
 
-returns-2 : tie.Need-returns-2
-returns-2 c =
+returns-3 : tie.Need-returns-3
+returns-3 c =
     let g = c .before .before in
-    let s = g .before .before .before in
+    let e = g .before in
+    let s = start e in
     let a = s .args in
-    closest-ungained (a .gain) (loadsAt s) (a .slot) (a .gap) (s .pre .1 .1 .0) (s .pre .0 .sound) (there (g .before)) (sym (g .gains .ensures) ∙ not-true _ (c .before .if2 .taken)) (c .closest .ensures)
+    closest-ungained (a .gain) (asking s) (a .slot) (a .gap) (a .hi) (begins e) (some e) (within e) (sym (g .gains .ensures) ∙ not-true _ (c .before .if3 .taken)) (c .closest .ensures)
 
-apart-at : (c : tie.Else2) → c .before .before .before .before .args .gain .from < c .before .before .before .before .args .gain .until
-apart-at c =
-    let s = c .before .before .before .before in
+-- past the third test some length gains
+gained : (c : tie.Else3) → gainsSome (start (c .before .before) .args .gain) ≡ true
+gained c = sym (c .before .gains .ensures) ∙ not-false _ (c .if3 .left)
+
+gain-steps : (c : tie.Else3) → let s = start (c .before .before) in steps (asking s) (s .args .gain .from) ≡ true
+gain-steps c =
+    let s = start (c .before .before) in
+    from-steps (s .args .loads .now) (s .args .n) (s .pre .0) (s .pre .1 .1 .0)
+    (gains-there (loadsOf (s .args .loads .now) (s .args .n)) (s .pre .1 .1 .0) (gained c))
+
+closest-gained-requires : tie.Need-closest-gained-requires
+closest-gained-requires c κs =
+    let s = start (c .before .before) in
+    (s .pre .0, (s .pre .1 .0, ((s .pre .1 .1 .0, gained c), s .pre .1 .1 .1)))
+
+-- the closest from the gain on
+late-at : (c : tie.After-closest-gained) → let s = start (c .before .before .before) in let a = s .args in
+    LeastFrom (steps (gaining (a .gain) (asking s))) (slackPast (gaining (a .gain) (asking s)) (a .slot) (a .gap)) (a .gain .from) (a .hi) (c .closest-gained .result)
+late-at c =
+    let e = c .before in
+    let t = e .before .before in
+    let s = start t in
     let a = s .args in
-    apart (a .gain) (loadsAt s) (a .slot) (a .gap) (s .pre .1 .1 .0) (s .pre .0 .sound) (there (c .before .before)) (gained c) (s .pre .1 .0 .usable) (s .pre .1 .1 .1)
+    late-least (a .gain) (asking s) (a .slot) (a .gap) (a .hi) (begins t) (some t) (s .pre .1 .1 .0 .due) (gain-steps e) (gained e) (s .pre .1 .1 .1) (c .closest-gained .ensures)
 
-sub-gained : tie.Need-sub-gained
-sub-gained c = omega (arith, apart-at c)
+returns-4 : tie.Need-returns-4
+returns-4 c =
+    let e = c .before .before in
+    let t = e .before .before in
+    let s = start t in
+    let a = s .args in
+    let alone : a .gain .from ≤ first t = omega (arith, c .if4 .taken) in
+    late-alone (a .gain) (asking s) (a .slot) (a .gap) (a .hi) (begins t) (some t) (s .pre .1 .1 .0 .due) (gain-steps e) (gained e) (s .pre .1 .1 .1) (c .before .closest-gained .ensures) alone
+
+-- past the fourth something is asked before the gain
+before-gain : (c : tie.Else4) → let t = c .before .before .before .before in first t < start t .args .gain .from
+before-gain c = omega (arith, c .if4 .left)
+
+sub-closest : tie.Need-sub-closest
+sub-closest c = omega (arith, before-gain c)
+
+-- the gain's ends lie within hi
+inside : (c : tie.Else3) → start (c .before .before) .args .gain .from ≤ start (c .before .before) .args .hi
+inside c =
+    let s = start (c .before .before) in
+    omega (arith, gains-somewhere (s .args .gain) (gained c) .1, s .pre .1 .1 .0 .due)
 
 closest-requires-2 : tie.Need-closest-requires-2
 closest-requires-2 c κs =
     let e = c .before .before in
-    let s = e .before .before in
+    let t = e .before .before in
+    let s = start t in
     let a = s .args in
-    let own = s .pre .1 .1 .0 in
-    let within = from-within (a .gain) (loadsAt s) (a .slot) (a .gap) own (s .pre .0 .sound) (there e) in
-    (s .pre .0, (searched s _ (omega (arith, own .due)), ((from-steps (a .gain) (loadsAt s) (a .slot) (a .gap) own (s .pre .0 .sound) (there e), omega (arith, within, apart-at c)), plain-covered (a .gain) (loadsAt s) (a .slot) (a .gap) own (s .pre .0 .sound) (s .pre .1 .1 .1) _ _ (omega (arith, own .due)))))
+    (s .pre .0, (searched s _ (omega (arith, inside e)), ((begins-steps (begins t) (some t), omega (arith, before-gain c)), plain-covered (a .gain) (asking s) (a .slot) (a .gap) (a .hi) (s .pre .1 .1 .1) _ _ (omega (arith, inside e)))))
 
-closest-requires-3 : tie.Need-closest-requires-3
-closest-requires-3 c κs =
-    let e = c .before .before .before in
-    let s = e .before .before in
+-- the closest before it
+early-at : (c : tie.After-closest2) → let t = c .before .before .before .before .before in let s = start t in let a = s .args in
+    LeastFrom (steps (asking s)) (slackPast (asking s) (a .slot) (a .gap)) (first t) (a .gain .from - 1) (c .closest2 .result)
+early-at c =
+    let l = c .before .before in
+    let e = l .before in
+    let t = e .before .before in
+    let s = start t in
     let a = s .args in
-    let own = s .pre .1 .1 .0 in
-    (s .pre .0, (s .pre .1 .0, ((until-steps (a .gain) (loadsAt s) (a .slot) (a .gap) own (s .pre .0 .sound) (there e), own .due), plain-covered (a .gain) (loadsAt s) (a .slot) (a .gap) own (s .pre .0 .sound) (s .pre .1 .1 .1) _ (a .hi) (omega arith))))
+    early-plain (a .gain) (asking s) (a .slot) (a .gap) (a .hi) (begins t) (some t) (s .pre .1 .1 .0 .due) (gain-steps e) (gained e) (s .pre .1 .1 .1) (l .closest-gained .ensures) (before-gain (c .before)) (c .closest2 .ensures)
 
-abbrev start : tie.After-closest3 → tie.Start
-start c = c .before .before .before .before .before .before
-
--- the closest of each range
-near-at : (c : tie.After-closest3) → let a = start c .args in
-    LeastFrom (steps (demand (loadsAt (start c)))) (slackPast (demand (loadsAt (start c))) (a .slot) (a .gap)) (a .gain .from) (a .gain .until - 1) (c .before .closest2 .result)
-near-at c =
-    let s = start c in
-    let a = s .args in
-    let g = c .before .before in
-    near-plain (a .gain) (loadsAt s) (a .slot) (a .gap) (s .pre .1 .1 .0) (s .pre .0 .sound) (there (g .before .before)) (gained g) (s .pre .1 .0 .usable) (s .pre .1 .1 .1) (c .before .closest2 .ensures) (c .closest3 .ensures)
-
-far-at : (c : tie.After-closest3) → let a = start c .args in
-    LeastFrom (steps (demand (loadsAt (start c)))) (slackPast (demand (loadsAt (start c))) (a .slot) (a .gap)) (a .gain .until) (a .hi) (c .closest3 .result)
-far-at c =
-    let s = start c in
-    let a = s .args in
-    let g = c .before .before in
-    far-plain (a .gain) (loadsAt s) (a .slot) (a .gap) (s .pre .1 .1 .0) (s .pre .0 .sound) (there (g .before .before)) (gained g) (s .pre .1 .0 .usable) (s .pre .1 .1 .1) (c .before .closest2 .ensures) (c .closest3 .ensures)
-
--- the loads' own demand is met there
-met-at : (s : tie.Start) (x : ℕ) → 1 ≤ x → x ≤ s .args .hi → demand (loadsAt s) x ≤ supplyPast (s .args .slot) (s .args .gap) x
+-- what is asked without the gain is met
+met-at : (s : tie.Start) (x : ℕ) → 1 ≤ x → x ≤ s .args .hi → asking s x ≤ supplyPast (s .args .slot) (s .args .gap) x
 met-at s x h g =
     let a = s .args in
-    plain-met (a .gain) (loadsAt s) (a .slot) (a .gap) (s .pre .1 .1 .0) (s .pre .0 .sound) (s .pre .1 .1 .1) x h g
+    plain-met (a .gain) (asking s) (a .slot) (a .gap) (a .hi) (s .pre .1 .1 .1) x h g
 
 spare-requires : tie.Need-spare-requires
 spare-requires c κs =
-    let s = start c in
-    let f = far-at c in
-    (s .pre .0, (searched s (c .closest3 .result) (f .within), met-at s (c .closest3 .result) (omega (arith, f .begins, apart-at (c .before .before))) (f .within)))
+    let e = c .before .before .before in
+    let t = e .before .before in
+    let s = start t in
+    let early = early-at c in
+    let low : c .closest2 .result ≤ s .args .hi = omega (arith, early .within, inside e) in
+    (s .pre .0, (searched s (c .closest2 .result) low, met-at s (c .closest2 .result) (omega (arith, early .begins, some t)) low))
 
-add-if3 : tie.Need-add-if3
+add-room : tie.Need-add-room
 unfolding slackPast
-add-if3 c =
-    let s = start (c .before) in
+add-room c =
+    let p = c .before .before in
+    let e = p .before .before .before in
+    let s = start (e .before .before) in
+    let gained : c .at .result ≤ s .args .gain .extra = rw (c .at .ensures) (gain-most _ _) in
     omega (
       arith,
-      c .spare .ensures,
-      far-at (c .before) .within,
+      c .before .spare .ensures,
+      early-at p .within,
+      inside e,
       s .pre .1 .0 .small,
       s .pre .1 .1 .0 .small-extra,
-      supply-within (s .args .slot) (s .args .gap) (c .before .closest3 .result),
+      supply-within (s .args .slot) (s .args .gap) (p .closest2 .result),
     )
 
 spare-requires-2 : tie.Need-spare-requires-2
 spare-requires-2 c κs =
-    let n = near-at (c .before) in
-    let s = start (c .before) in
-    let a = s .args in
-    let e = c .before .before .before .before .before in
-    let inside : c .before .before .closest2 .result ≤ a .hi = omega (arith, n .within, s .pre .1 .1 .0 .due) in
-    let some : 1 ≤ c .before .before .closest2 .result =
-    le-trans (from-some (a .gain) (loadsAt s) (a .slot) (a .gap) (s .pre .1 .1 .0) (s .pre .0 .sound) (there e)) (n .begins) in
-    (s .pre .0, (searched s (c .before .before .closest2 .result) inside, met-at s (c .before .before .closest2 .result) some inside))
+    let l = c .before .before .before .before in
+    let t = l .before .before .before in
+    let s = start t in
+    let late = late-at l in
+    (s .pre .0, (searched s (l .closest-gained .result) (late .within), met-at s (l .closest-gained .result) (omega (arith, late .begins, before-gain (c .before .before .before))) (late .within)))
 
-returns-3 : tie.Need-returns-3
-returns-3 c =
-    let p = c .before .before .before in
-    let s = start p in
-    let a = s .args in
-    let g = p .before .before in
-    far-closest (a .gain) (loadsAt s) (a .slot) (a .gap) (s .pre .1 .1 .0) (s .pre .0 .sound) (there (g .before .before)) (gained g) (s .pre .1 .0 .usable) (s .pre .1 .1 .1)
-    (p .before .closest2 .ensures) (p .closest3 .ensures) (c .before .before .spare .ensures) (c .before .spare2 .ensures) (omega (arith, c .if3 .taken))
+-- what the two have to spare decides
+module _ (c : tie.After-spare2) where
+  abbrev earlier : tie.After-closest2
+  earlier = c .before .before .before
 
-returns-4 : tie.Need-returns-4
-returns-4 c =
-    let p = c .before .before .before in
-    let s = start p in
+  abbrev later : tie.After-closest-gained
+  later = earlier .before .before
+
+  abbrev past : tie.Else3
+  past = later .before
+
+  abbrev tested : tie.Else2
+  tested = past .before .before
+
+  room : c .before .before .spare .result + c .before .at .result ≡ c .before .before .spare .result + gainAt (start tested .args .gain) (later .closest-gained .result)
+  room = ap (λ (x : ℕ). c .before .before .spare .result + x) (c .before .at .ensures)
+
+returns-5 : tie.Need-returns-5
+returns-5 c =
+    let p = c .before in
+    let e = past p in
+    let t = tested p in
+    let s = start t in
     let a = s .args in
-    let g = p .before .before in
-    near-closest (a .gain) (loadsAt s) (a .slot) (a .gap) (s .pre .1 .1 .0) (s .pre .0 .sound) (there (g .before .before)) (gained g) (s .pre .1 .0 .usable) (s .pre .1 .1 .1)
-    (p .before .closest2 .ensures) (p .closest3 .ensures) (c .before .before .spare .ensures) (c .before .spare2 .ensures) (omega (arith, c .if3 .left))
+    late-closest (a .gain) (asking s) (a .slot) (a .gap) (a .hi) (begins t) (some t) (s .pre .1 .1 .0 .due) (gain-steps e) (gained e) (s .pre .1 .1 .1) (later p .closest-gained .ensures)
+    (before-gain (earlier p .before)) (earlier p .closest2 .ensures) (p .spare2 .ensures) (p .before .before .spare .ensures) (omega (arith, c .if5 .taken, room p))
+
+returns-6 : tie.Need-returns-6
+returns-6 c =
+    let p = c .before in
+    let e = past p in
+    let t = tested p in
+    let s = start t in
+    let a = s .args in
+    early-closest (a .gain) (asking s) (a .slot) (a .gap) (a .hi) (begins t) (some t) (s .pre .1 .1 .0 .due) (gain-steps e) (gained e) (s .pre .1 .1 .1) (later p .closest-gained .ensures)
+    (before-gain (earlier p .before)) (earlier p .closest2 .ensures) (p .spare2 .ensures) (p .before .before .spare .ensures) (omega (arith, c .if5 .left, room p))
 
 pub closest-of-spec : {M : Type 1} → statement M
 closest-of-spec =
     tie.close
     (tie.spec
+    first-asked-requires
     returns
+    returns-2
     (λ c κs. search needs)
     closest-requires
-    returns-2
-    sub-gained
-    closest-requires-2
-    closest-requires-3
-    spare-requires
-    add-if3
-    spare-requires-2
     returns-3
-    returns-4)
+    closest-gained-requires
+    returns-4
+    sub-closest
+    closest-requires-2
+    spare-requires
+    (λ c κs. search needs)
+    add-room
+    spare-requires-2
+    returns-5
+    returns-6)

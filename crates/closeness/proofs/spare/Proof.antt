@@ -9,7 +9,7 @@ use Rattle.closeness.proofs.spare.Tie as tie
 
 returns : tie.Need-returns
 unfolding slackPast
-returns c = ap₂ _-_ (c .before .supply-at .ensures) (c .demand-at .ensures)
+returns c = ap₂ _-_ (c .before .supply-at .ensures) (c .asked-at .ensures)
 
 pub spare-spec : {M : Type 1} → statement M
 spare-spec = tie.close (tie.spec (λ c κs. search needs) (λ c κs. search needs) (λ c. search needs) returns)

@@ -5,8 +5,8 @@ use mathlib.Core.Bool.{true}
 use borrow.Author.Needs.{needs}
 use borrow.Author.Tests.{not-true, not-false}
 use native.Mathlib.Omega.{arith}
-use Rattle.demand.specs.Load.{loadsOf}
-use Rattle.demand.proofs.Demand.{demand-room}
+use Rattle.interrupting.specs.Interrupts.{asked}
+use Rattle.interrupting.proofs.SlicesLaws.{asked-room}
 use Rattle.masking.specs.Masking.{gainsSome}
 use Rattle.fails.proofs.FailsLaws.{none-ungained, some-anyway, own-apart, from-some, near-decides}
 use Rattle.fails.proofs.none_fails.Statement.{statement}
@@ -16,35 +16,35 @@ use Rattle.fails.proofs.none_fails.Tie as tie
 gained : (c : tie.Then1) → gainsSome (c .before .before .before .args .gain) ≡ true
 gained c = sym (c .before .gains .ensures) ∙ c .if1 .taken
 
-demand-at-requires : tie.Need-demand-at-requires
-demand-at-requires c κs =
+asked-at-requires : tie.Need-asked-at-requires
+asked-at-requires c κs =
     let s = c .before .before .before in
     let a = s .args in
-    (s .pre .0, omega (arith, own-apart (a .gain) (loadsOf (a .loads .now) (a .n)) (a .slot) (a .gap) (s .pre .1 .1) (s .pre .0 .sound) (gained c), s .pre .1 .1 .due, s .pre .1 .0 .small))
+    (s .pre .0, omega (arith, own-apart (a .gain) (asked (a .loads .now) (a .n)) (a .slot) (a .gap) (s .pre .1 .1) (s .pre .0 .loads .sound) (gained c), s .pre .1 .1 .due, s .pre .1 .0 .small))
 
 add-w : tie.Need-add-w
 add-w c =
     let s = c .before .before .before .before in
     let a = s .args in
-    let within = demand-at-requires (c .before) (s .κs) .1 in
-    omega (arith, c .demand-at .ensures, demand-room (a .loads .now) (a .n) (a .n) _ (s .pre .0) (omega arith) within)
+    let within = asked-at-requires (c .before) (s .κs) .1 in
+    omega (arith, c .asked-at .ensures, asked-room (a .loads .now) (a .n) (s .pre .0) _ within)
 
 returns : tie.Need-returns
 returns c =
     let s = c .before .before .before .before .before .before in
     let a = s .args in
-    from-some (a .gain) (loadsOf (a .loads .now) (a .n)) (a .slot) (a .gap) (s .pre .1 .1) (s .pre .0 .sound) (gained (c .before .before .before))
-    (omega (arith, c .if2 .taken, c .before .supply-at .ensures, c .before .before .demand-at .ensures))
+    from-some (a .gain) (asked (a .loads .now) (a .n)) (a .slot) (a .gap) (s .pre .1 .1) (s .pre .0 .loads .sound) (gained (c .before .before .before))
+    (omega (arith, c .if2 .taken, c .before .supply-at .ensures, c .before .before .asked-at .ensures))
 
 returns-2 : tie.Need-returns-2
 returns-2 c =
     let a = c .before .before .before .before .before .args in
-    some-anyway (a .gain) (loadsOf (a .loads .now) (a .n)) (a .slot) (a .gap) (a .hi) (c .before .last-short .ensures) (omega (arith, c .if3 .taken))
+    some-anyway (a .gain) (asked (a .loads .now) (a .n)) (a .slot) (a .gap) (a .hi) (c .before .last-short .ensures) (omega (arith, c .if3 .taken))
 
 returns-3 : tie.Need-returns-3
 returns-3 c =
     let a = c .before .before .before .before .before .before .args in
-    none-ungained (a .gain) (loadsOf (a .loads .now) (a .n)) (a .slot) (a .gap) (a .hi)
+    none-ungained (a .gain) (asked (a .loads .now) (a .n)) (a .slot) (a .gap) (a .hi)
     (sym (c .before .before .before .before .gains .ensures) ∙ not-true _ (c .if4 .taken))
     (c .before .before .last-short .ensures)
     (omega (arith, c .before .if3 .left))
@@ -57,14 +57,14 @@ sub-gained : tie.Need-sub-gained
 sub-gained c =
     let s = c .before .before .before .before .before .before in
     let a = s .args in
-    omega (arith, own-apart (a .gain) (loadsOf (a .loads .now) (a .n)) (a .slot) (a .gap) (s .pre .1 .1) (s .pre .0 .sound) (gained-still c))
+    omega (arith, own-apart (a .gain) (asked (a .loads .now) (a .n)) (a .slot) (a .gap) (s .pre .1 .1) (s .pre .0 .loads .sound) (gained-still c))
 
 returns-4 : tie.Need-returns-4
 returns-4 c =
     let e = c .before in
     let s = e .before .before .before .before .before .before in
     let a = s .args in
-    near-decides (a .gain) (loadsOf (a .loads .now) (a .n)) (a .slot) (a .gap) (s .pre .1 .1) (s .pre .0 .sound) (gained-still e)
+    near-decides (a .gain) (asked (a .loads .now) (a .n)) (a .slot) (a .gap) (s .pre .1 .1) (s .pre .0 .loads .sound) (gained-still e)
     (e .before .before .last-short .ensures) (omega (arith, e .before .if3 .left)) (c .last-short2 .ensures)
 
 pub none-fails-spec : {M : Type 1} → statement M
@@ -72,7 +72,7 @@ none-fails-spec =
     tie.close
     (tie.spec
     (λ c κs. search needs)
-    demand-at-requires
+    asked-at-requires
     add-w
     (λ c κs. search needs)
     returns

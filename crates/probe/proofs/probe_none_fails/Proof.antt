@@ -5,8 +5,11 @@ use lib.Dec.{eqb}
 use borrow.Author.Needs.{needs}
 use native.Mathlib.Omega.{arith}
 use Rattle.demand.specs.Load.{loadsOf}
+use Rattle.interrupting.specs.Interrupts.{asked}
 use Rattle.search.specs.Search.{firstUpTo, short}
-use Rattle.masking.proofs.OwnLaws.{own-demand, own-gains}
+use Rattle.masking.specs.declared.Gain.{Gain}
+use Rattle.masking.specs.Masking.{gaining}
+use Rattle.masking.proofs.OwnLaws.{own-gains}
 use Rattle.probe.proofs.probe_none_fails.Statement.{statement}
 use Rattle.probe.proofs.probe_none_fails.Tie as tie
 
@@ -22,7 +25,7 @@ returns : tie.Need-returns
 returns c =
     let a = c .before .before .before .args in
     c .none-fails .ensures ∙
-    ap (λ (g : ℕ → ℕ). eqb (firstUpTo (short g (a .slot) (a .gap) 0) (a .hi)) 0) (own-demand (a .masked) (loadsOf (a .loads .now) (a .n)) (c .before .gain-of .ensures))
+    ap (λ (g : ℕ → ℕ). eqb (firstUpTo (short g (a .slot) (a .gap) 0) (a .hi)) 0) (ap (λ (k : Gain). gaining k (asked (a .loads .now) (a .n))) (c .before .gain-of .ensures))
 
 pub probe-none-fails-spec : {M : Type 1} → statement M
 probe-none-fails-spec = tie.close (tie.spec (λ c κs. search needs) none-fails-requires returns)

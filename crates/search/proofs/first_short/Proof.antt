@@ -3,22 +3,21 @@
 use Prim.Native.Nat.{ℕ, _+_, _-_, _/_, _≤_, _<_}
 use mathlib.Core.Bool.{Bool}
 use native.Mathlib.Omega.{arith}
-use Rattle.demand.specs.Load.{loadsOf}
-use Rattle.demand.specs.Demand.{demand}
+use Rattle.interrupting.specs.Interrupts.{asked}
 use Rattle.search.specs.Search.{short}
 use Rattle.search.proofs.Halving.{Halved, halving-starts, halving-none, halving-up, halving-down, halving-ends}
 use Rattle.search.proofs.first_short.Statement.{statement}
 use Rattle.search.proofs.first_short.Tie as tie
 
 abbrev Inv-loop : tie.InvT-loop
-Inv-loop loads n slot gap extra lo hi low₀ top₀ low top = Halved (short (demand (loadsOf loads n)) slot gap extra) lo hi low top
+Inv-loop loads n slot gap extra lo hi low₀ top₀ low top = Halved (short (asked loads n) slot gap extra) lo hi low top
 
 abbrev μ-loop : tie.MeasureT-loop
 μ-loop loads n slot gap extra lo hi low₀ top₀ low top = top - low
 
 -- the property searched for
 abbrev sought : tie.Start Inv-loop μ-loop → ℕ → Bool
-sought s = short (demand (loadsOf (s .args .loads .now) (s .args .n))) (s .args .slot) (s .args .gap) (s .args .extra)
+sought s = short (asked (s .args .loads .now) (s .args .n)) (s .args .slot) (s .args .gap) (s .args .extra)
 
 last-short-requires : tie.Need-last-short-requires Inv-loop μ-loop
 last-short-requires c κs = c .before .pre

@@ -3,28 +3,27 @@
 use Prim.Native.Nat.{ℕ, _+_, _-_, _<_}
 use native.Mathlib.Omega.{arith}
 use borrow.Author.Needs.{needs}
-use Rattle.demand.specs.Load.{loadsOf}
-use Rattle.demand.specs.Demand.{demand}
 use Rattle.demand.specs.Supply.{lastWith}
 use Rattle.demand.specs.Lawful.{Rising}
-use Rattle.demand.proofs.Demand.{demand-room}
-use Rattle.demand.proofs.Claims.{loads-lawful}
+use Rattle.interrupting.specs.Interrupts.{asked}
+use Rattle.interrupting.proofs.SlicesLaws.{asked-room}
+use Rattle.interrupting.proofs.AskedLaws.{asked-rising}
 use Rattle.search.proofs.Descent.{Descended, descent-starts, descent-finds, descent-ends, descent-clears, descent-next}
 use Rattle.search.proofs.last_short.Statement.{statement}
 use Rattle.search.proofs.last_short.Tie as tie
 
 abbrev Inv-loop : tie.InvT-loop
-Inv-loop loads n slot gap extra hi t₀ supply₀ t supply = Descended (demand (loadsOf loads n)) slot gap extra hi t supply
+Inv-loop loads n slot gap extra hi t₀ supply₀ t supply = Descended (asked loads n) slot gap extra hi t supply
 
 abbrev μ-loop : tie.MeasureT-loop
 μ-loop loads n slot gap extra hi t₀ supply₀ t supply = t
 
--- the demand of the loads, and why it never falls
-abbrev asked : tie.Start Inv-loop μ-loop → ℕ → ℕ
-asked s = demand (loadsOf (s .args .loads .now) (s .args .n))
+-- what is asked, and why it never falls
+abbrev asking : tie.Start Inv-loop μ-loop → ℕ → ℕ
+asking s = asked (s .args .loads .now) (s .args .n)
 
-rising : (s : tie.Start Inv-loop μ-loop) → Rising (asked s)
-rising s = loads-lawful .rising (loadsOf (s .args .loads .now) (s .args .n)) (s .pre .0 .sound)
+rising : (s : tie.Start Inv-loop μ-loop) → Rising (asking s)
+rising s = asked-rising (s .args .loads .now) (s .args .n) (s .pre .0)
 
 supply-at-requires : tie.Need-supply-at-requires Inv-loop μ-loop
 supply-at-requires c κs = omega arith
@@ -36,18 +35,18 @@ add-w : tie.Need-add-w Inv-loop μ-loop
 add-w c =
     let s = c .before .before .before .before .before in
     let a = s .args in
-    let room = demand-room (a .loads .now) (a .n) (a .n) (c .before .before .loop .t) (s .pre .0) (omega arith) (omega arith) in
-    omega (arith, c .demand-at .ensures, room)
+    let room = asked-room (a .loads .now) (a .n) (s .pre .0) (c .before .before .loop .t) (omega arith) in
+    omega (arith, c .asked-at .ensures, room)
 
 returns : tie.Need-returns Inv-loop μ-loop
 returns c =
     let l = c .before .before .before .loop in
-    descent-finds (l .inv) (c .before .before .loop-test .taken) (omega (arith, c .if1 .taken, c .before .demand-at .ensures))
+    descent-finds (l .inv) (c .before .before .loop-test .taken) (omega (arith, c .if1 .taken, c .before .asked-at .ensures))
 
 returns-2 : tie.Need-returns-2 Inv-loop μ-loop
 returns-2 c =
     let s = c .before .before .before .before .before .before .before in
-    descent-clears (rising s) (c .before .before .before .before .loop .inv) (omega (arith, c .if2 .taken, c .before .before .demand-at .ensures))
+    descent-clears (rising s) (c .before .before .before .before .loop .inv) (omega (arith, c .if2 .taken, c .before .before .asked-at .ensures))
 
 sub-supply : tie.Need-sub-supply Inv-loop μ-loop
 sub-supply c = omega arith
@@ -55,12 +54,12 @@ sub-supply c = omega arith
 -- the turn's jump
 next : (c : tie.Else2 Inv-loop μ-loop) →
     let s = c .before .before .before .before .before .before .before in
-    let v = c .before .before .demand-at .result + s .args .extra - 1 in
-    Descended (asked s) (s .args .slot) (s .args .gap) (s .args .extra) (s .args .hi) (lastWith (s .args .slot) (s .args .gap) v) v
+    let v = c .before .before .asked-at .result + s .args .extra - 1 in
+    Descended (asking s) (s .args .slot) (s .args .gap) (s .args .extra) (s .args .hi) (lastWith (s .args .slot) (s .args .gap) v) v
     × (lastWith (s .args .slot) (s .args .gap) v < c .before .before .before .before .loop .t)
 next c =
     let s = c .before .before .before .before .before .before .before in
-    let w = c .before .before .demand-at in
+    let w = c .before .before .asked-at in
     descent-next (rising s) (c .before .before .before .before .loop .inv) (w .result + s .args .extra) (s .pre .1 .usable) (omega (arith, w .ensures)) (c .if2 .left) (c .before .if1 .left)
 
 last-with-requires : tie.Need-last-with-requires Inv-loop μ-loop

@@ -5,12 +5,11 @@ use mathlib.Core.Path.{_≡_, ap₂}
 use mathlib.Core.Bool.{true}
 use mathlib.Core.Logic.{⊎-elim}
 use native.Mathlib.Omega.{arith}
-use Rattle.demand.specs.Load.{loadsOf}
-use Rattle.demand.specs.Demand.{demand}
 use Rattle.demand.specs.Supply.{supplyPast, lastWith}
 use Rattle.demand.specs.Lawful.{Rising}
 use Rattle.demand.proofs.Supply.{supply-within}
-use Rattle.demand.proofs.Claims.{loads-lawful}
+use Rattle.interrupting.specs.Interrupts.{asked}
+use Rattle.interrupting.proofs.AskedLaws.{asked-rising}
 use Rattle.steps.specs.Stepping.{steps}
 use Rattle.steps.proofs.StepLaws.{has-stepped, steps-from}
 use Rattle.slack.proofs.Closing.{Covered, covered, asks-some, Closing, Closer, closing-starts, closing-ends, closing-passes, last-covers, closing-moves}
@@ -19,26 +18,26 @@ use Rattle.slack.proofs.closest.Tie as tie
 
 abbrev Inv-loop : tie.InvT-loop
 Inv-loop loads n slot gap from hi best₀ spare least₀ t₀ supply₀ w₀ best least t supply w =
-    Closing (demand (loadsOf loads n)) slot gap from hi t supply best least × (w ≡ demand (loadsOf loads n) t)
+    Closing (asked loads n) slot gap from hi t supply best least × (w ≡ asked loads n t)
 
 abbrev μ-loop : tie.MeasureT-loop
 μ-loop loads n slot gap from hi best₀ spare least₀ t₀ supply₀ w₀ best least t supply w = t
 
--- the demand of the loads: it steps at `from`, it never falls, and from there to hi it is covered
-abbrev asked : tie.Start Inv-loop μ-loop → ℕ → ℕ
-asked s = demand (loadsOf (s .args .loads .now) (s .args .n))
+-- what is asked: it steps at `from`, it never falls, and from there to hi it is covered
+abbrev asking : tie.Start Inv-loop μ-loop → ℕ → ℕ
+asking s = asked (s .args .loads .now) (s .args .n)
 
-begins : (s : tie.Start Inv-loop μ-loop) → steps (asked s) (s .args .from) ≡ true
+begins : (s : tie.Start Inv-loop μ-loop) → steps (asking s) (s .args .from) ≡ true
 begins s = s .pre .1 .1 .0 .0
 
 some : (s : tie.Start Inv-loop μ-loop) → 1 ≤ s .args .from
-some s = steps-from (asked s) (s .args .from) (has-stepped (asked s) (s .args .from) (begins s))
+some s = steps-from (asking s) (s .args .from) (has-stepped (asking s) (s .args .from) (begins s))
 
-rising : (s : tie.Start Inv-loop μ-loop) → Rising (asked s)
-rising s = loads-lawful .rising (loadsOf (s .args .loads .now) (s .args .n)) (s .pre .0 .sound)
+rising : (s : tie.Start Inv-loop μ-loop) → Rising (asking s)
+rising s = asked-rising (s .args .loads .now) (s .args .n) (s .pre .0)
 
-all : (s : tie.Start Inv-loop μ-loop) → Covered (asked s) (s .args .slot) (s .args .gap) (s .args .from) (s .args .hi)
-all s = covered (asked s) (s .args .slot) (s .args .gap) (s .args .from) (some s) (s .pre .1 .1 .1)
+all : (s : tie.Start Inv-loop μ-loop) → Covered (asking s) (s .args .slot) (s .args .gap) (s .args .from) (s .args .hi)
+all s = covered (asking s) (s .args .slot) (s .args .gap) (s .args .from) (some s) (s .pre .1 .1 .1)
 
 abbrev start : tie.At-loop Inv-loop μ-loop → tie.Start Inv-loop μ-loop
 start c = c .before .before .before .before .before .before
@@ -77,21 +76,21 @@ room c =
 supply-at-requires : tie.Need-supply-at-requires Inv-loop μ-loop
 supply-at-requires c κs = enough (c .before)
 
-demand-at-requires : tie.Need-demand-at-requires Inv-loop μ-loop
-demand-at-requires c κs =
+asked-at-requires : tie.Need-asked-at-requires Inv-loop μ-loop
+asked-at-requires c κs =
     let s = c .before .before in
     (s .pre .0, omega (arith, s .pre .1 .1 .0 .1, s .pre .1 .0 .small))
 
 sub-least : tie.Need-sub-least Inv-loop μ-loop
 sub-least c =
     let s = c .before .before .before in
-    omega (arith, c .demand-at .ensures, c .before .supply-at .ensures, all s (s .args .from) (omega arith) (s .pre .1 .1 .0 .1))
+    omega (arith, c .asked-at .ensures, c .before .supply-at .ensures, all s (s .args .from) (omega arith) (s .pre .1 .1 .0 .1))
 
 supply-at-requires-2 : tie.Need-supply-at-requires-2 Inv-loop μ-loop
 supply-at-requires-2 c κs = enough (c .before .before .before)
 
-demand-at-requires-2 : tie.Need-demand-at-requires-2 Inv-loop μ-loop
-demand-at-requires-2 c κs =
+asked-at-requires-2 : tie.Need-asked-at-requires-2 Inv-loop μ-loop
+asked-at-requires-2 c κs =
     let s = c .before .before .before .before in
     (s .pre .0, s .pre .1 .0 .small)
 
@@ -99,9 +98,9 @@ loop-holds : tie.Need-loop-holds Inv-loop μ-loop
 loop-holds c =
     let d = c .before .before in
     let s = d .before .before .before in
-    let least : d .before .supply-at .result - d .demand-at .result ≡ supplyPast (s .args .slot) (s .args .gap) (s .args .from) - asked s (s .args .from) =
-    ap₂ _-_ (d .before .supply-at .ensures) (d .demand-at .ensures) in
-    (closing-starts (asked s) (s .args .slot) (s .args .gap) (s .args .from) (s .args .hi) (all s) (begins s) (s .pre .1 .1 .0 .1) least (c .before .supply-at2 .ensures), c .demand-at2 .ensures)
+    let least : d .before .supply-at .result - d .asked-at .result ≡ supplyPast (s .args .slot) (s .args .gap) (s .args .from) - asking s (s .args .from) =
+    ap₂ _-_ (d .before .supply-at .ensures) (d .asked-at .ensures) in
+    (closing-starts (asking s) (s .args .slot) (s .args .gap) (s .args .from) (s .args .hi) (all s) (begins s) (s .pre .1 .1 .0 .1) least (c .before .supply-at2 .ensures), c .asked-at2 .ensures)
 
 add-if1 : tie.Need-add-if1 Inv-loop μ-loop
 add-if1 c = omega (arith, room c)
@@ -131,13 +130,13 @@ sub-supply : tie.Need-sub-supply Inv-loop μ-loop
 sub-supply c =
     let l = c .before .before .before .before in
     let s = start l in
-    omega (arith, met-last c, l .loop .inv .1, asks-some (asked s) {t = l .loop .t} (rising s) (begins s) (past (c .before .before .before)))
+    omega (arith, met-last c, l .loop .inv .1, asks-some (asking s) {t = l .loop .t} (rising s) (begins s) (past (c .before .before .before)))
 
 -- the turn's jump, by either way
 turned : (c : tie.Joined1 Inv-loop μ-loop) →
     let l = c .before .before in
     let a = start l .args in
-    Closer (asked (start l)) (a .slot) (a .gap) (a .from) (a .hi) (l .loop .t) (c .if1 .supply) (c .if1 .best) (c .if1 .least)
+    Closer (asking (start l)) (a .slot) (a .gap) (a .from) (a .hi) (l .loop .t) (c .if1 .supply) (c .if1 .best) (c .if1 .least)
 turned c =
     let l = c .before .before in
     let s = start l in
@@ -160,14 +159,14 @@ small c =
 last-with-requires : tie.Need-last-with-requires Inv-loop μ-loop
 last-with-requires c κs = (start (c .before .before) .pre .1 .0 .usable, small c)
 
-demand-at-requires-3 : tie.Need-demand-at-requires-3 Inv-loop μ-loop
-demand-at-requires-3 c κs = (start (c .before .before .before) .pre .0, rw (c .last-with .ensures) (small (c .before)))
+asked-at-requires-3 : tie.Need-asked-at-requires-3 Inv-loop μ-loop
+asked-at-requires-3 c κs = (start (c .before .before .before) .pre .0, rw (c .last-with .ensures) (small (c .before)))
 
 loop-less : tie.Need-loop-less Inv-loop μ-loop
 loop-less c = rw (c .before .last-with .ensures) (turned (c .before .before) .1)
 
 loop-again : tie.Need-loop-again Inv-loop μ-loop
-loop-again c = (rw (c .before .last-with .ensures) (turned (c .before .before) .0), c .demand-at3 .ensures)
+loop-again c = (rw (c .before .last-with .ensures) (turned (c .before .before) .0), c .asked-at3 .ensures)
 
 returns : tie.Need-returns Inv-loop μ-loop
 returns c = closing-ends (c .before .loop .inv .0) (some (start (c .before))) (omega (arith, c .loop-test .left))
@@ -179,10 +178,10 @@ closest-spec =
     Inv-loop
     μ-loop
     supply-at-requires
-    demand-at-requires
+    asked-at-requires
     sub-least
     supply-at-requires-2
-    demand-at-requires-2
+    asked-at-requires-2
     loop-holds
     add-if1
     add-supply
@@ -191,7 +190,7 @@ closest-spec =
     sub-least-2
     sub-supply
     last-with-requires
-    demand-at-requires-3
+    asked-at-requires-3
     loop-less
     loop-again
     returns)

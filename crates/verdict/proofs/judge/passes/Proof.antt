@@ -4,7 +4,10 @@ use mathlib.Core.Path.{ap, _∙_}
 use borrow.Author.Needs.{needs}
 use native.Mathlib.Omega.{arith}
 use Rattle.demand.specs.Load.{loadsOf}
-use Rattle.masking.proofs.OwnLaws.{own-demand, own-gains}
+use Rattle.interrupting.specs.Interrupts.{asked}
+use Rattle.masking.specs.declared.Gain.{Gain}
+use Rattle.masking.specs.Masking.{gaining}
+use Rattle.masking.proofs.OwnLaws.{own-gains}
 use Rattle.verdict.specs.Verdict.{passing}
 use Rattle.verdict.proofs.judge.passes.Statement.{statement}
 use Rattle.verdict.proofs.judge.passes.Tie as tie
@@ -21,7 +24,7 @@ returns : tie.Need-returns
 returns c =
     let a = c .before .before .before .args in
     c .passes-gaining .ensures ∙
-    ap (λ (g : ℕ → ℕ). passing g (a .horizon) (a .slot) (a .loss) (a .reserve)) (own-demand (a .masked) (loadsOf (a .loads .now) (a .n)) (c .before .gain-of .ensures))
+    ap (λ (g : ℕ → ℕ). passing g (a .horizon) (a .slot) (a .loss) (a .reserve)) (ap (λ (k : Gain). gaining k (asked (a .loads .now) (a .n))) (c .before .gain-of .ensures))
 
 pub passes-spec : {M : Type 1} → statement M
 passes-spec = tie.close (tie.spec (λ c κs. search needs) passes-gaining-requires returns)

@@ -1,16 +1,15 @@
 -- `passes_gaining` meets its contract: no short length up to the horizon is what passing means. Assumes nothing.
 use Prim.Native.Nat.{ℕ}
 use native.Mathlib.Omega.{arith}
-use Rattle.demand.specs.Load.{loadsOf}
-use Rattle.demand.specs.Demand.{demand}
+use Rattle.interrupting.specs.Interrupts.{asked}
 use Rattle.masking.specs.Masking.{gaining}
 use Rattle.verdict.proofs.Judged.{gap-asked, gap-usable, none-passing}
 use Rattle.verdict.proofs.judge.passes_gaining.Statement.{statement}
 use Rattle.verdict.proofs.judge.passes_gaining.Tie as tie
 
--- the demand of the loads with the gain
-abbrev asked : tie.Start → ℕ → ℕ
-asked s = gaining (s .args .gain) (demand (loadsOf (s .args .loads .now) (s .args .n)))
+-- what is asked with the gain
+abbrev asking : tie.Start → ℕ → ℕ
+asking s = gaining (s .args .gain) (asked (s .args .loads .now) (s .args .n))
 
 gap-of-requires : tie.Need-gap-of-requires
 gap-of-requires c κs = let s = c .before in gap-asked (s .pre .1 .0) (s .pre .1 .1 .0)
@@ -25,7 +24,7 @@ none-fails-requires c κs =
 returns : tie.Need-returns
 returns c =
     let s = c .before .before .before in
-    none-passing (asked s) (s .args .horizon) (s .args .loss) (s .args .reserve) (s .pre .1 .0 .slot-some) (c .before .gap-of .ensures)
+    none-passing (asking s) (s .args .horizon) (s .args .loss) (s .args .reserve) (s .pre .1 .0 .slot-some) (c .before .gap-of .ensures)
     (c .none-fails .ensures)
 
 pub passes-gaining-spec : {M : Type 1} → statement M

@@ -2,7 +2,7 @@
 use Prim.Native.Nat.{_≤_}
 use borrow.Author.Needs.{needs}
 use native.Mathlib.Omega.{arith}
-use Rattle.demand.proofs.Demand.{demand-room}
+use Rattle.interrupting.proofs.SlicesLaws.{asked-room}
 use Rattle.masking.specs.Masking.{gaining}
 use Rattle.masking.proofs.GainLaws.{gain-most}
 use Rattle.verdict.specs.Verdict.{readingPast}
@@ -16,14 +16,14 @@ add-asked c =
     let gained : c .at .result ≤ a .gain .extra = rw (c .at .ensures) (gain-most _ _) in
     omega (
       arith,
-      c .before .demand-at .ensures,
-      demand-room (a .loads .now) (a .n) (a .n) (a .length) (s .pre .0 .0) (omega arith) (s .pre .0 .1),
+      c .before .asked-at .ensures,
+      asked-room (a .loads .now) (a .n) (s .pre .0 .0) (a .length) (s .pre .0 .1),
       s .pre .1 .0,
     )
 
 returns : tie.Need-returns
 unfolding readingPast gaining
-returns c = rw (c .before .before .demand-at .ensures, c .before .at .ensures, c .supply-at .ensures)
+returns c = rw (c .before .before .asked-at .ensures, c .before .at .ensures, c .supply-at .ensures)
 
 pub reading-spec : {M : Type 1} → statement M
 reading-spec = tie.close (tie.spec (λ c κs. search needs) (λ c κs. search needs) add-asked (λ c κs. search needs) returns)

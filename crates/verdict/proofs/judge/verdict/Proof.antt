@@ -6,14 +6,15 @@ use borrow.Author.Needs.{needs}
 use native.Mathlib.Omega.{arith}
 use native.Mathlib.Nat.{le-of-lt}
 use Rattle.demand.specs.Load.{Load, loadsOf}
-use Rattle.demand.specs.Demand.{demand}
+use Rattle.interrupting.specs.Interrupts.{asked}
 use Rattle.search.specs.Search.{short}
 use Rattle.search.proofs.Bounded.{first-within}
 use Rattle.steps.specs.Stepping.{steps}
 use Rattle.slack.specs.Slack.{slackPast}
 use Rattle.slack.proofs.LeastLaws.{least-within}
-use Rattle.masking.specs.Masking.{Gains, gaining, maskedDemand}
-use Rattle.masking.proofs.OwnLaws.{own-demand, own-gains}
+use Rattle.masking.specs.declared.Gain.{Gain}
+use Rattle.masking.specs.Masking.{Gains, gaining, gainOf}
+use Rattle.masking.proofs.OwnLaws.{own-gains}
 use Rattle.verdict.specs.Verdict.{verdictOf}
 use Rattle.verdict.proofs.Judged.{gap-asked, gap-usable, searched, none-short, judged-yes, judged-no}
 use Rattle.verdict.proofs.judge.verdict.Statement.{statement}
@@ -25,9 +26,9 @@ start c = c .before .before .before
 abbrev loadsAt : tie.After-gain-of → List Load
 loadsAt c = loadsOf (start c .args .loads .now) (start c .args .n)
 
--- the demand of the loads with the gain
-abbrev asked : tie.After-gain-of → ℕ → ℕ
-asked c = gaining (c .gain-of .result) (demand (loadsAt c))
+-- what is asked, with the gain
+abbrev asking : tie.After-gain-of → ℕ → ℕ
+asking c = gaining (c .gain-of .result) (asked (start c .args .loads .now) (start c .args .n))
 
 -- the gain is the loads' own
 own : (c : tie.After-gain-of) → Gains (c .gain-of .result) (loadsAt c) (start c .args .horizon)
@@ -35,13 +36,13 @@ own c =
     let m = start c .pre .1 .1 .1 in
     own-gains _ (loadsAt c) (c .gain-of .ensures) (record { masked-small = omega (arith, m .masked-small); due = m .due })
 
--- so the verdict on it is that on the masked demand
+-- so the verdict on it is that with their gain
 masked : (c : tie.After-gain-of) →
     let a = start c .args in
-    verdictOf (asked c) (a .horizon) (a .slot) (a .loss) (a .reserve) ≡ verdictOf (maskedDemand (a .masked) (loadsAt c)) (a .horizon) (a .slot) (a .loss) (a .reserve)
+    verdictOf (asking c) (a .horizon) (a .slot) (a .loss) (a .reserve) ≡ verdictOf (gaining (gainOf (a .masked) (loadsAt c)) (asked (a .loads .now) (a .n))) (a .horizon) (a .slot) (a .loss) (a .reserve)
 masked c =
     let a = start c .args in
-    ap (λ (g : ℕ → ℕ). verdictOf g (a .horizon) (a .slot) (a .loss) (a .reserve)) (own-demand (a .masked) (loadsAt c) (c .gain-of .ensures))
+    ap (λ (g : ℕ → ℕ). verdictOf g (a .horizon) (a .slot) (a .loss) (a .reserve)) (ap (λ (k : Gain). gaining k (asked (a .loads .now) (a .n))) (c .gain-of .ensures))
 
 gap-of-requires : tie.Need-gap-of-requires
 gap-of-requires c κs = let s = c .before in gap-asked (s .pre .1 .0) (s .pre .1 .1 .0)
@@ -56,7 +57,7 @@ closest-of-requires c κs =
     let g = c .before .before in
     let s = start g in
     let f = g .before .gap-of in
-    let none = none-short (asked g) (s .args .slot) (f .result) (s .args .horizon) (c .before .first-fails .ensures) (c .if1 .taken) in
+    let none = none-short (asking g) (s .args .slot) (f .result) (s .args .horizon) (c .before .first-fails .ensures) (c .if1 .taken) in
     (s .pre .0, (searched (s .pre .1 .0) (s .pre .1 .1 .0) (f .ensures) (omega arith) (omega (arith, s .pre .1 .0)), (own g, none)))
 
 reading-requires : tie.Need-reading-requires
@@ -64,7 +65,7 @@ reading-requires c κs =
     let g = c .before .before .before in
     let s = start g in
     let f = g .before .gap-of in
-    let within = least-within (steps (asked g)) (slackPast (asked g) (s .args .slot) (f .result)) (s .args .horizon) in (
+    let within = least-within (steps (asking g)) (slackPast (asking g) (s .args .slot) (f .result)) (s .args .horizon) in (
       (s .pre .0, omega (arith, s .pre .1 .0 .horizon-small, c .closest-of .ensures, within)),
       (own g .small-extra, (s .pre .1 .0 .slot-some, le-of-lt (gap-usable (s .pre .1 .0) (s .pre .1 .1 .0) (f .ensures)))),
     )
@@ -74,7 +75,7 @@ returns c =
     let g = c .before .before .before .before in
     let s = start g in
     let f = g .before .gap-of in
-    judged-yes (asked g) (s .args .horizon) (s .args .loss) (s .args .reserve) (s .pre .1 .0 .slot-some) (f .ensures)
+    judged-yes (asking g) (s .args .horizon) (s .args .loss) (s .args .reserve) (s .pre .1 .0 .slot-some) (f .ensures)
     (c .before .before .before .first-fails .ensures) (c .before .before .if1 .taken) (c .before .closest-of .ensures) (c .reading .ensures) ∙
     masked g
 
@@ -83,7 +84,7 @@ reading-requires-2 c κs =
     let g = c .before .before in
     let s = start g in
     let f = g .before .gap-of in
-    let within = first-within (short (asked g) (s .args .slot) (f .result) 0) (s .args .horizon) in (
+    let within = first-within (short (asking g) (s .args .slot) (f .result) 0) (s .args .horizon) in (
       (s .pre .0, omega (arith, s .pre .1 .0 .horizon-small, c .before .first-fails .ensures, within)),
       (own g .small-extra, (s .pre .1 .0 .slot-some, le-of-lt (gap-usable (s .pre .1 .0) (s .pre .1 .1 .0) (f .ensures)))),
     )
@@ -93,7 +94,7 @@ returns-2 c =
     let g = c .before .before .before in
     let s = start g in
     let f = g .before .gap-of in
-    judged-no (asked g) (s .args .horizon) (s .args .loss) (s .args .reserve) (s .pre .1 .0 .slot-some) (f .ensures)
+    judged-no (asking g) (s .args .horizon) (s .args .loss) (s .args .reserve) (s .pre .1 .0 .slot-some) (f .ensures)
     (c .before .before .first-fails .ensures) (c .before .if1 .left) (c .reading2 .ensures) ∙
     masked g
 

@@ -5,15 +5,17 @@ use mathlib.Core.Path.{_≡_, ap, _∙_}
 use borrow.Author.Needs.{needs}
 use native.Mathlib.Omega.{arith}
 use Rattle.demand.specs.Load.{loadsOf}
-use Rattle.masking.specs.Masking.{maskedDemand}
-use Rattle.masking.proofs.OwnLaws.{own-demand, own-gains}
+use Rattle.interrupting.specs.Interrupts.{asked}
+use Rattle.masking.specs.declared.Gain.{Gain}
+use Rattle.masking.specs.Masking.{gaining, gainOf}
+use Rattle.masking.proofs.OwnLaws.{own-gains}
 use Rattle.verdict.specs.Verdict.{passing}
 use Rattle.verdict.proofs.Sizing.{Sized, sizing-starts, sizing-ring, sizing-down, sizing-up, sizing-ends}
 use Rattle.verdict.proofs.reserve.smallest_reserve.Statement.{statement}
 use Rattle.verdict.proofs.reserve.smallest_reserve.Tie as tie
 
 abbrev Inv-loop : tie.InvT-loop
-Inv-loop loads n masked slot loss horizon gain lo₀ hi₀ lo hi = Sized (maskedDemand masked (loadsOf loads n)) horizon slot loss lo hi
+Inv-loop loads n masked slot loss horizon gain lo₀ hi₀ lo hi = Sized (gaining (gainOf masked (loadsOf loads n)) (asked loads n)) horizon slot loss lo hi
 
 abbrev μ-loop : tie.MeasureT-loop
 μ-loop loads n masked slot loss horizon gain lo₀ hi₀ lo hi = hi - lo
@@ -42,17 +44,17 @@ passes-gaining-requires c κs =
     let own = own-gains _ (loadsOf (a .loads .now) (a .n)) (g .gain-of .ensures) (record { masked-small = omega (arith, m .masked-small); due = m .due }) in
     (s .pre .0, (record { slot-some = t .slot-some; slot-small = t .slot-small; loss-small = t .loss-small; horizon-small = omega (arith, t) }, (ring, own)))
 
--- what the middle answers is said of the masked demand
+-- what the middle answers is said of the loads' own gain
 middle : (c : tie.After-passes-gaining Inv-loop μ-loop) →
     let l = c .before .before .loop in
     let a = c .before .before .before .before .before .args in
-    c .passes-gaining .result ≡ passing (maskedDemand (a .masked) (loadsOf (a .loads .now) (a .n))) (a .horizon) (a .slot) (a .loss) (l .lo + (l .hi - l .lo) / 2)
+    c .passes-gaining .result ≡ passing (gaining (gainOf (a .masked) (loadsOf (a .loads .now) (a .n))) (asked (a .loads .now) (a .n))) (a .horizon) (a .slot) (a .loss) (l .lo + (l .hi - l .lo) / 2)
 middle c =
     let l = c .before .before .loop in
     let g = c .before .before .before in
     let a = g .before .before .args in
     c .passes-gaining .ensures ∙
-    ap (λ (f : ℕ → ℕ). passing f (a .horizon) (a .slot) (a .loss) (l .lo + (l .hi - l .lo) / 2)) (own-demand (a .masked) (loadsOf (a .loads .now) (a .n)) (g .gain-of .ensures))
+    ap (λ (f : ℕ → ℕ). passing f (a .horizon) (a .slot) (a .loss) (l .lo + (l .hi - l .lo) / 2)) (ap (λ (k : Gain). gaining k (asked (a .loads .now) (a .n))) (g .gain-of .ensures))
 
 loop-less : tie.Need-loop-less Inv-loop μ-loop
 loop-less c = omega arith

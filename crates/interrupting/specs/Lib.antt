@@ -1,0 +1,3 @@
+pub mod Interrupts
+pub mod Interrupted
+pub mod Claims
