@@ -18,6 +18,7 @@ use Rattle.tasks.specs.Set.{maskedTicks}
 use Rattle.places.specs.Places.{chosen}
 use Rattle.loads.specs.Charge.{cacheOf, chargedIn, serverLoads, Member}
 use Rattle.loads.proofs.ChargeLaws.{loads-sound}
+use Rattle.members.specs.Server.{Board, SoundBoard}
 use Rattle.members.proofs.ServerLaws.{masked-fails}
 use Rattle.taking.specs.Soonest.{soonestIn}
 use Rattle.taking.specs.Takes.{takes}
@@ -90,28 +91,28 @@ module _ (B d s : ℕ) where
 
 -- ---- a server that B alone keeps the task out of does not take it
 
-module _ (h : Header) (done : List Load) (placement : List ℕ) (l : Load) (q : ℕ) (some : 1 ≤ h .slot)
-    (members : Every (Member h) (done ++ (l ∷ []))) where
-  pub kept-out : maskedOut (maskedTicks h) (soonestIn h (l ∷ [])) (soonestIn h (chosen done placement q)) ≡ true → takes h done placement l q ≡ false
+module _ (b : Board) (done : List Load) (placement : List ℕ) (l : Load) (q : ℕ) (sound : SoundBoard b)
+    (members : Every (Member (b .header)) (done ++ (l ∷ []))) where
+  pub kept-out : maskedOut (maskedTicks (b .header)) (soonestIn (b .header) (l ∷ [])) (soonestIn (b .header) (chosen done placement q)) ≡ true → takes b done placement l q ≡ false
   unfolding takes
   kept-out out =
-      masked-fails h (chosen done placement q ++ (l ∷ [])) ok some
-      (rw (loads-joined h (chosen done placement q) l) (omega (arith, from-is, latest-next ls k, soonest-latest ls, w .1)))
-      (rw (loads-joined h (chosen done placement q) l) (omega (arith, from-is, w .2)))
+      masked-fails b (chosen done placement q ++ (l ∷ [])) ok sound
+      (rw (loads-joined (b .header) (chosen done placement q) l) (omega (arith, from-is, latest-next ls k, soonest-latest ls, w .1)))
+      (rw (loads-joined (b .header) (chosen done placement q) l) (omega (arith, from-is, w .2)))
     where
-      ok : Every (Member h) (chosen done placement q ++ (l ∷ []))
-      ok = members-with h done placement l members q
+      ok : Every (Member (b .header)) (chosen done placement q ++ (l ∷ []))
+      ok = members-with (b .header) done placement l members q
 
       ls : List Load
-      ls = serverLoads h (chosen done placement q)
+      ls = serverLoads (b .header) (chosen done placement q)
 
       k : Load
-      k = chargedIn h (h .cpmdo) l
+      k = chargedIn (b .header) (b .header .cpmdo) l
 
-      w : (1 ≤ soonest ls) × (min (k .deadline) (soonest ls) < max (k .deadline) (soonest ls)) × (min (k .deadline) (soonest ls) ≤ maskedTicks h)
-      w = out-says (maskedTicks h) (k .deadline) (soonest ls) (rw (due-alone h l) out)
+      w : (1 ≤ soonest ls) × (min (k .deadline) (soonest ls) < max (k .deadline) (soonest ls)) × (min (k .deadline) (soonest ls) ≤ maskedTicks (b .header))
+      w = out-says (maskedTicks (b .header)) (k .deadline) (soonest ls) (rw (due-alone (b .header) l) out)
 
       from-is : soonest (ls ++ (k ∷ [])) ≡ min (soonest ls) (k .deadline)
       from-is =
-          soonest-joined ls k (loads-sound h (chosen done placement q) (every-front (Member h) (chosen done placement q) l ok)) ∙
+          soonest-joined ls k (loads-sound (b .header) (chosen done placement q) (every-front (Member (b .header)) (chosen done placement q) l ok)) ∙
           with-some (soonest ls) (k .deadline) (λ (z : soonest ls ≡ 0). absurd (omega (arith, w .0)))

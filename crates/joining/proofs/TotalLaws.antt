@@ -10,7 +10,7 @@ use Rattle.demand.proofs.Demand.{every-snoc, every-front, every-last}
 use Rattle.tasks.specs.declared.set.Header.{Header}
 use Rattle.places.specs.Places.{chosen}
 use Rattle.loads.specs.Charge.{cacheOf, chargedIn, serverLoads, Member}
-use Rattle.members.specs.Server.{totalOf}
+use Rattle.members.specs.Server.{Board, SoundBoard, totalOf}
 use Rattle.taking.specs.Takes.{takes}
 use Rattle.taking.specs.Totals.{totalIn}
 use Rattle.members.proofs.ServerLaws.{total-fails}
@@ -32,16 +32,16 @@ total-more h H members l =
 
 -- ---- a server whose total leaves no room for the task's share does not take it
 
-module _ (h : Header) (H : ℕ) (done : List Load) (placement : List ℕ) (l : Load) (q : ℕ) (some : 1 ≤ h .slot) (positive : 1 ≤ H)
-    (members : Every (Member h) (done ++ (l ∷ []))) (periods : Every (λ (k : Load). k .period ∣ H) (done ++ (l ∷ []))) where
+module _ (b : Board) (H : ℕ) (done : List Load) (placement : List ℕ) (l : Load) (q : ℕ) (sound : SoundBoard b) (positive : 1 ≤ H)
+    (members : Every (Member (b .header)) (done ++ (l ∷ []))) (periods : Every (λ (k : Load). k .period ∣ H) (done ++ (l ∷ []))) where
   periods-with : Every (λ (k : Load). k .period ∣ H) (chosen done placement q ++ (l ∷ []))
   periods-with =
       every-snoc (λ (k : Load). k .period ∣ H) (chosen done placement q) l
       (every-chosen (λ (k : Load). k .period ∣ H) done placement q (every-front (λ (k : Load). k .period ∣ H) done l periods))
       (every-last (λ (k : Load). k .period ∣ H) done l periods)
 
-  pub no-room : H < totalIn h H (chosen done placement q) + totalIn h H (l ∷ []) → takes h done placement l q ≡ false
+  pub no-room : H < totalIn (b .header) H (chosen done placement q) + totalIn (b .header) H (l ∷ []) → takes b done placement l q ≡ false
   unfolding takes
   no-room above =
-      total-fails h (chosen done placement q ++ (l ∷ [])) (members-with h done placement l members q) some H positive periods-with
-      (omega (arith, total-more h H (chosen done placement q) l))
+      total-fails b (chosen done placement q ++ (l ∷ [])) (members-with (b .header) done placement l members q) sound H positive periods-with
+      (omega (arith, total-more (b .header) H (chosen done placement q) l))

@@ -13,14 +13,15 @@ ghost use Prim.Native.Nat.{_+_, _≤_};
 ghost use lib.ListN.{length, take};
 ghost use Rattle.demand.specs.Load.{loadAt, loadsOf};
 ghost use Rattle.tasks.specs.Set.{mostTasks};
-ghost use Rattle.members.specs.Server.{Filed};
+ghost use Rattle.members.specs.Server.{boardOf, Filed, Bounded};
 ghost use Rattle.taking.specs.Takes.{takes};
 ghost use Rattle.joining.specs.Join.{firstFit, join};
 ghost use Rattle.joining.specs.Soonest.{Soonest};
 ghost use Rattle.joining.specs.Totals.{Totals};
 
 // One step of placing: the lowest-numbered server above lo that takes task i, otherwise a new one. A server whose total leaves no room
-// for the task's share, or that B alone keeps it out of, cannot take it, and its members are not looked at.
+// for the task's share, or that B alone keeps it out of, cannot take it, and its members are not looked at. B is asked first, so that
+// the compiler makes one branch of both.
 pub fn server_for(
     header: Header,
     figures: &[u64],
@@ -30,13 +31,15 @@ pub fn server_for(
     i: usize,
     lo: u64,
     count: u64,
+    interrupts: &[u64],
     horizon: u64,
 ) -> u64
     requires { ⌜ Filed header (now figures) (i + 1) horizon ⌝ }
+    requires { ⌜ Bounded header (now interrupts) horizon ⌝ }
     requires { ⌜ (i ≤ length (now placement)) × (count ≤ mostTasks) ⌝ }
     requires { ⌜ Totals header horizon (loadsOf (now figures) i) (take i (now placement)) (now totals) ⌝ }
     requires { ⌜ Soonest header (loadsOf (now figures) i) (take i (now placement)) (now soonest) ⌝ }
-    ensures { λ r. ⌜ r ≡ join firstFit (takes header (loadsOf (now (figures .entry)) i) (take i (now (placement .entry))) (loadAt (now (figures .entry)) i)) lo count ⌝ }
+    ensures { λ r. ⌜ r ≡ join firstFit (takes (boardOf header (now (interrupts .entry))) (loadsOf (now (figures .entry)) i) (take i (now (placement .entry))) (loadAt (now (figures .entry)) i)) lo count ⌝ }
 {
     let own = share(header, figures, i, horizon);
     if horizon < own {
@@ -49,9 +52,10 @@ pub fn server_for(
     while q < count {
         let before = q as usize;
         q += 1;
+        let apart = masked_out(d, soonest[before], masked);
         if totals[before] <= room {
-            if !masked_out(d, soonest[before], masked) {
-                if takes_task(header, figures, placement, i, q, horizon) {
+            if !apart {
+                if takes_task(header, figures, placement, i, q, interrupts, horizon) {
                     return q;
                 }
             }

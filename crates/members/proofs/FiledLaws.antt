@@ -61,7 +61,7 @@ every-chosen P (l ∷ ls) (a ∷ placement) q e = kept (eqb a q) (every-chosen P
     kept false rest = rest
 
 -- load i of the first n
-loads-at : (figures : List ℕ) (n i : ℕ) (d : Load) → i < n → getD (loadsOf figures n) i d ≡ loadAt figures i
+pub loads-at : (figures : List ℕ) (n i : ℕ) (d : Load) → i < n → getD (loadsOf figures n) i d ≡ loadAt figures i
 unfolding loadsOf
 loads-at figures zero i d h = absurd (omega arith)
 loads-at figures (suc n) i d h =

@@ -1,6 +1,6 @@
--- A server of members that may be charged: its demand is lawful, its horizon divides the file's, and when it passes.
+-- A server of members that may be charged, on a sound board: its demand is lawful, its horizon divides the file's, and when it passes.
 -- Assumes nothing.
-use Prim.Native.Nat.{ℕ, _+_, _*_, _≤_, _<_, _∣_}
+use Prim.Native.Nat.{ℕ, zero, suc, _+_, _*_, _≤_, _<_, _∣_}
 use native.Mathlib.Omega.{arith}
 use native.Mathlib.Nat.{le-of-dvd}
 use mathlib.Core.Path.{_≡_, refl, ap₂}
@@ -13,15 +13,17 @@ use Rattle.demand.specs.Lawful.{Lawful}
 use Rattle.demand.specs.Passes.{Passes}
 use Rattle.demand.proofs.Demand.{jobs-full}
 use Rattle.demand.proofs.Supply.{supply-all}
+use Rattle.interrupting.specs.Interrupts.{Bound, EveryBound, boundTo, interruptDemand, greatest}
 use Rattle.masking.specs.Masking.{soonest, latest}
 use Rattle.masking.proofs.MaskedLaws.{masked-above, masked-short}
 use Rattle.masking.proofs.Claims.{alone-passes}
-use Rattle.verdict.proofs.Horizons.{own-lawful, own-due}
+use Rattle.verdict.proofs.Claims.{own-horizon}
+use Rattle.verdict.proofs.Horizons.{own-due}
 use Rattle.verdict.proofs.Verdict.{passing-passes, passes-passing}
 use Rattle.tasks.specs.declared.set.Header.{Header}
 use Rattle.tasks.specs.Set.{maskedTicks}
 use Rattle.loads.specs.Charge.{cacheOf, chargedIn, serverLoads, serverLoss, Member}
-use Rattle.members.specs.Server.{serverDemand, serverHorizon, passesWith, fits, totalOf}
+use Rattle.members.specs.Server.{Board, SoundBoard, uninterrupted, serverDemand, serverHorizon, passesWith, fits, totalOf}
 use Rattle.members.proofs.HorizonLaws.{own-divides}
 use Rattle.loads.proofs.ChargeLaws.{charged-sound, loads-sound, loads-period}
 
@@ -33,63 +35,82 @@ total-demand H [] e v = refl
 total-demand H (l ∷ ls) e v =
     ap₂ (λ (j w : ℕ). l .cost * j + w) (jobs-full (l .deadline) (l .period) H (e .0 .due) (e .0 .constrained) (v .0)) (total-demand H ls (e .1) (v .1))
 
-module _ (h : Header) (ms : List Load) (ok : Every (Member h) ms) where
-  -- the horizon divides every multiple of the slot and the periods, and is at most each that is positive
-  pub server-divides : (H : ℕ) → h .slot ∣ H → Every (λ (l : Load). l .period ∣ H) ms → serverHorizon h ms ∣ H
-  server-divides H s v = own-divides (h .slot) (serverLoads h ms) H s (loads-period h ms (λ (p : ℕ). p ∣ H) v)
-
-  pub server-within : (H : ℕ) → 1 ≤ H → h .slot ∣ H → Every (λ (l : Load). l .period ∣ H) ms → serverHorizon h ms ≤ H
-  server-within H some s v = le-of-dvd some (server-divides H s v)
-
-  module _ (slot : 1 ≤ h .slot) where
+module _ (b : Board) (ms : List Load) (ok : Every (Member (b .header)) ms) where
+  module _ (sound : SoundBoard b) where
     -- its demand is lawful under its own horizon
-    pub server-lawful : Lawful (serverDemand h ms) (serverHorizon h ms)
-    server-lawful = own-lawful (maskedTicks h) (serverLoads h ms) (h .slot) (loads-sound h ms ok) slot
+    pub server-lawful : Lawful (serverDemand b ms) (serverHorizon b ms)
+    server-lawful =
+        own-horizon (maskedTicks (b .header)) (serverLoads (b .header) ms) (b .header .processors) (b .interrupts) (b .header .slot)
+        (loads-sound (b .header) ms ok) (sound .sound) (sound .slot)
 
     -- no deadline lies past it
-    pub server-due : latest (serverLoads h ms) ≤ serverHorizon h ms
-    server-due = own-due (serverLoads h ms) (h .slot) (loads-sound h ms ok) slot
+    pub server-due : latest (serverLoads (b .header) ms) ≤ serverHorizon b ms
+    server-due = own-due (serverLoads (b .header) ms) (b .interrupts) (b .header .slot) (loads-sound (b .header) ms ok) (sound .sound) (sound .slot)
 
     -- the test with a reserve is whether demand ≤ supply at every length
-    pub with-passes : (R : ℕ) → passesWith h ms R ≡ true → Passes (serverDemand h ms) (h .slot) (serverLoss h ms) R
+    pub with-passes : (R : ℕ) → passesWith b ms R ≡ true → Passes (serverDemand b ms) (b .header .slot) (serverLoss (b .header) ms) R
     unfolding passesWith
-    with-passes R e = passing-passes (serverDemand h ms) (serverHorizon h ms) (h .slot) (serverLoss h ms) R server-lawful slot e
+    with-passes R e =
+        passing-passes (serverDemand b ms) (serverHorizon b ms) (b .header .slot) (serverLoss (b .header) ms) R server-lawful (sound .slot) e
 
-    pub passes-with : (R : ℕ) → Passes (serverDemand h ms) (h .slot) (serverLoss h ms) R → passesWith h ms R ≡ true
+    pub passes-with : (R : ℕ) → Passes (serverDemand b ms) (b .header .slot) (serverLoss (b .header) ms) R → passesWith b ms R ≡ true
     unfolding passesWith
-    passes-with R p = passes-passing (serverDemand h ms) (serverHorizon h ms) (h .slot) (serverLoss h ms) R p
+    passes-with R p = passes-passing (serverDemand b ms) (serverHorizon b ms) (b .header .slot) (serverLoss (b .header) ms) R p
 
-    pub fits-passes : fits h ms ≡ true → Passes (serverDemand h ms) (h .slot) (serverLoss h ms) (h .slot)
+    pub fits-passes : fits b ms ≡ true → Passes (serverDemand b ms) (b .header .slot) (serverLoss (b .header) ms) (b .header .slot)
     unfolding fits
-    fits-passes e = with-passes (h .slot) e
+    fits-passes e = with-passes (b .header .slot) e
 
-    pub passes-fits : Passes (serverDemand h ms) (h .slot) (serverLoss h ms) (h .slot) → fits h ms ≡ true
+    pub passes-fits : Passes (serverDemand b ms) (b .header .slot) (serverLoss (b .header) ms) (b .header .slot) → fits b ms ≡ true
     unfolding fits
-    passes-fits p = passes-with (h .slot) p
+    passes-fits p = passes-with (b .header .slot) p
 
-    -- more than H ticks asked of H never fit
-    pub total-fails : (H : ℕ) → 1 ≤ H → Every (λ (l : Load). l .period ∣ H) ms → H < totalOf H (serverLoads h ms) → fits h ms ≡ false
+    -- more than H ticks asked of H never fit, whatever the interrupts ask beside them
+    pub total-fails : (H : ℕ) → 1 ≤ H → Every (λ (l : Load). l .period ∣ H) ms → H < totalOf H (serverLoads (b .header) ms) → fits b ms ≡ false
     total-fails H some v more =
-        never-true (fits h ms)
+        never-true (fits b ms)
         (λ e. absurd (omega (
           arith,
           fits-passes e H some,
-          masked-above (maskedTicks h) (serverLoads h ms) H,
-          supply-all (h .slot) (serverLoss h ms) (h .slot) H refl,
-          total-demand H (serverLoads h ms) (loads-sound h ms ok) (loads-period h ms (λ (p : ℕ). p ∣ H) v),
+          masked-above (maskedTicks (b .header)) (serverLoads (b .header) ms) H,
+          supply-all (b .header .slot) (serverLoss (b .header) ms) (b .header .slot) H refl,
+          total-demand H (serverLoads (b .header) ms) (loads-sound (b .header) ms ok) (loads-period (b .header) ms (λ (p : ℕ). p ∣ H) v),
         )))
 
     -- nor does a demand that gains at a length of at most B
-    pub masked-fails : soonest (serverLoads h ms) < latest (serverLoads h ms) → soonest (serverLoads h ms) ≤ maskedTicks h → fits h ms ≡ false
+    pub masked-fails : soonest (serverLoads (b .header) ms) < latest (serverLoads (b .header) ms) → soonest (serverLoads (b .header) ms) ≤ maskedTicks (b .header) →
+        fits b ms ≡ false
     masked-fails gain small =
-        let at = soonest (serverLoads h ms) in
-        let short = masked-short (maskedTicks h) (serverLoads h ms) (loads-sound h ms ok) gain small in
-        never-true (fits h ms)
-        (λ e. absurd (omega (arith, fits-passes e at (short .0), supply-all (h .slot) (serverLoss h ms) (h .slot) at refl, short .1)))
+        let at = soonest (serverLoads (b .header) ms) in
+        let short = masked-short (maskedTicks (b .header)) (serverLoads (b .header) ms) (loads-sound (b .header) ms ok) gain small in
+        never-true (fits b ms)
+        (λ e. absurd (omega (arith, fits-passes e at (short .0), supply-all (b .header .slot) (serverLoss (b .header) ms) (b .header .slot) at refl, short .1)))
 
--- a task alone whose charged cost is no more than its charged deadline fits
-pub alone-fits : (h : Header) (l : Load) → Member h l → 1 ≤ h .slot → Meets (chargedIn h (h .cpmdo) l) → fits h (l ∷ []) ≡ true
+  -- the horizon divides every multiple of the slot and the periods, and is at most each that is positive
+  pub server-divides : (H : ℕ) → b .header .slot ∣ H → Every (λ (l : Load). l .period ∣ H) ms → EveryBound (λ (x : Bound). x .load .period ∣ H) (b .interrupts) →
+      serverHorizon b ms ∣ H
+  server-divides H s v i =
+      own-divides (b .header .slot) (serverLoads (b .header) ms) (b .interrupts) H s (loads-period (b .header) ms (λ (p : ℕ). p ∣ H) v) i
+
+  pub server-within : (H : ℕ) → 1 ≤ H → b .header .slot ∣ H → Every (λ (l : Load). l .period ∣ H) ms →
+      EveryBound (λ (x : Bound). x .load .period ∣ H) (b .interrupts) → serverHorizon b ms ≤ H
+  server-within H some s v i = le-of-dvd some (server-divides H s v i)
+
+-- ---- a task alone, without interrupts
+
+-- no interrupts ask for nothing
+greatest-none : (m t : ℕ) → greatest m [] t ≡ 0
+unfolding greatest interruptDemand boundTo demand
+greatest-none zero t = refl
+greatest-none (suc m) t = omega (arith, greatest-none m t)
+
+-- a task whose charged cost is no more than its charged deadline fits
+pub alone-fits : (h : Header) (l : Load) → Member h l → 1 ≤ h .slot → Meets (chargedIn h (h .cpmdo) l) → fits (uninterrupted h) (l ∷ []) ≡ true
 unfolding serverLoads cacheOf
 alone-fits h l m slot meets =
-    passes-fits h (l ∷ []) (m, tt) slot
-    (alone-passes (maskedTicks h) (chargedIn h (h .cpmdo) l) (h .slot) (serverLoss h (l ∷ [])) (charged-sound h (h .cpmdo) l m) meets)
+    passes-fits (uninterrupted h) (l ∷ []) (m, tt) (record { slot = slot; sound = tt })
+    (λ t some. omega (
+      arith,
+      alone-passes (maskedTicks h) (chargedIn h (h .cpmdo) l) (h .slot) (serverLoss h (l ∷ [])) (charged-sound h (h .cpmdo) l m) meets t some,
+      greatest-none (h .processors) t,
+    ))

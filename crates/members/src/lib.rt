@@ -1,14 +1,16 @@
-// What a server loses at each entry, and the horizon of its loads with the slot.
-// What they mean stands in specs/Server.antt. Loads stand in a slice of numbers, three for each.
+// What a server loses at each entry, and the horizon of its loads and of interrupts with the slot.
+// What they mean stands in specs/Server.antt. Loads stand in a slice of numbers, three for each, interrupts in one, four for each.
 use tasks::set::Header;
 use wholes::Multiple;
 ghost use mathlib.Core.Path.{_≡_};
-ghost use Prim.Native.Nat.{_<_, _^_};
-ghost use Rattle.wholes.specs.Multiple.{within};
+ghost use Prim.Native.Nat.{_<_, _^_, _/_};
+ghost use lib.ListN.{length};
+ghost use Rattle.wholes.specs.Multiple.{leastMultipleOf, within};
 ghost use Rattle.charging.specs.Charging.{entryLoss};
 ghost use Rattle.demand.specs.Load.{loadsOf};
+ghost use Rattle.interrupting.specs.Interrupts.{boundsOf};
 ghost use Rattle.verdict.specs.Verdict.{ownHorizon};
-ghost use Rattle.members.specs.Server.{Timed};
+ghost use Rattle.members.specs.Server.{spaced, Apart, Timed};
 
 // The entry loss of a server of this cache cost.
 pub fn loss(header: Header, cache: u64) -> u64
@@ -18,24 +20,42 @@ pub fn loss(header: Header, cache: u64) -> u64
     charging::entry_loss(header.resd as u64, cache)
 }
 
-// The least common multiple of the slot and the periods of the first n loads, or none past the limit. Multiples of positive
-// numbers only grow, so the first that is past the limit decides.
-pub fn horizon_of(loads: &[u64], n: usize, slot: u64, limit: u64) -> Multiple
-    requires { ⌜ Timed (now loads) n slot ⌝ }
-    ensures { λ r. ⌜ r ≡ within limit (ownHorizon slot (loadsOf (now (loads .entry)) n)) ⌝ }
+// The least common multiple of a first number and of those of a slice from a place on, so far apart, so many; or none past the limit.
+// Multiples of positive numbers only grow, so the first that is past the limit decides.
+pub fn multiple_of(
+    numbers: &[u64],
+    from: usize,
+    stride: usize,
+    count: usize,
+    first: u64,
+    limit: u64,
+) -> Multiple
+    requires { ⌜ Apart (now numbers) from stride count first ⌝ }
+    ensures { λ r. ⌜ r ≡ within limit (leastMultipleOf first (spaced (now (numbers .entry)) from stride count)) ⌝ }
 {
-    if limit < slot {
+    if limit < first {
         return Multiple::Past;
     }
-    let mut m = slot;
+    let mut m = first;
     let mut i = 0;
-    while i < n {
-        let at = 3 * i + 2;
-        let Multiple::Within(next) = wholes::least_multiple(m, loads[at], limit) else {
+    while i < count {
+        let at = from + stride * i;
+        let Multiple::Within(next) = wholes::least_multiple(m, numbers[at], limit) else {
             return Multiple::Past;
         };
         m = next;
         i += 1;
     }
     Multiple::Within(m)
+}
+
+// The least common multiple of the slot and the periods of the first n loads and of interrupts, or none past the limit.
+pub fn horizon_of(loads: &[u64], n: usize, interrupts: &[u64], slot: u64, limit: u64) -> Multiple
+    requires { ⌜ Timed (now loads) n (now interrupts) slot ⌝ }
+    ensures { λ r. ⌜ r ≡ within limit (ownHorizon slot (loadsOf (now (loads .entry)) n) (boundsOf (now (interrupts .entry)) 0 (length (now (interrupts .entry)) / 4))) ⌝ }
+{
+    let Multiple::Within(own) = multiple_of(loads, 2, 3, n, slot, limit) else {
+        return Multiple::Past;
+    };
+    multiple_of(interrupts, 3, 4, interrupts.len() / 4, own, limit)
 }

@@ -13,13 +13,12 @@ use Rattle.demand.specs.Load.{Load, Sound, Every}
 use Rattle.demand.specs.Demand.{demand}
 use Rattle.demand.proofs.Claims.{loads-lawful}
 use Rattle.masking.proofs.MaskedLaws.{masked-above}
-use Rattle.tasks.specs.declared.set.Header.{Header}
 use Rattle.tasks.specs.Set.{maskedTicks}
 use Rattle.places.specs.Places.{keep, chosen}
 use Rattle.places.proofs.PlacesLaws.{in-joined, in-apart, in-some}
 use Rattle.loads.specs.Charge.{Member, serverLoads}
 use Rattle.loads.proofs.ChargeLaws.{loads-sound, loads-many}
-use Rattle.members.specs.Server.{serverDemand, fits}
+use Rattle.members.specs.Server.{Board, SoundBoard, serverDemand, fits}
 use Rattle.members.proofs.FiledLaws.{every-chosen}
 use Rattle.servers.specs.Placement.{serversIn}
 use Rattle.taking.specs.Takes.{takes}
@@ -42,8 +41,8 @@ abbrev pub InRange : (placement : List ℕ) (q : ℕ) → Type 0
 InRange placement q = (1 ≤ q) × (q ≤ suc (serversIn placement))
 
 -- a server that takes the task, or a new one, is
-pub in-range : (h : Header) (done : List Load) (placement : List ℕ) (l : Load) (q : ℕ) → TakesOrNew h done placement l q → InRange placement q
-in-range h done placement l q o =
+pub in-range : (b : Board) (done : List Load) (placement : List ℕ) (l : Load) (q : ℕ) → TakesOrNew b done placement l q → InRange placement q
+in-range b done placement l q o =
     ⊎-elim (λ w. (w .0, omega (arith, w .1))) (λ (e : q ≡ suc (serversIn placement)). (omega arith, omega arith)) o
 
 -- ---- one server for each task, and none empty
@@ -98,9 +97,9 @@ parted-none : Parted [] []
 unfolding serversIn
 parted-none = record { one-each = refl; there = λ i h. absurd (omega arith); none-empty = λ q a b. absurd (omega arith) }
 
-pub fitting-none : (h : Header) → Fitting h [] []
+pub fitting-none : (b : Board) → Fitting b [] []
 unfolding serversIn
-fitting-none h = record { parted = parted-none; passes = λ q a b. absurd (omega arith) }
+fitting-none b = record { parted = parted-none; passes = λ q a b. absurd (omega arith) }
 
 -- there are never more servers than tasks
 pub few-more : (placement : List ℕ) (q : ℕ) → InRange placement q → serversIn placement ≤ length placement →
@@ -109,35 +108,35 @@ few-more placement q o h = omega (arith, servers-more placement q, length-append
 
 -- ---- every server passes
 
-module _ (h : Header) (done : List Load) (placement : List ℕ) (l : Load) (q : ℕ) (some : 1 ≤ h .slot)
-    (members : Every (Member h) (done ++ (l ∷ []))) (alone : fits h (l ∷ []) ≡ true) where
+module _ (b : Board) (done : List Load) (placement : List ℕ) (l : Load) (q : ℕ) (sound : SoundBoard b)
+    (members : Every (Member (b .header)) (done ++ (l ∷ []))) (alone : fits b (l ∷ []) ≡ true) where
   -- the server that the task joins fits
-  joined-fits : TakesOrNew h done placement l q → fits h (chosen done placement q ++ (l ∷ [])) ≡ true
+  joined-fits : TakesOrNew b done placement l q → fits b (chosen done placement q ++ (l ∷ [])) ≡ true
   unfolding takes
   joined-fits o = ⊎-elim (λ w. w .2) new o
     where
-      new : q ≡ suc (serversIn placement) → fits h (chosen done placement q ++ (l ∷ [])) ≡ true
-      new e = ap (λ (ks : List Load). fits h (ks ++ (l ∷ []))) (in-none done placement q (omega arith)) ∙ alone
+      new : q ≡ suc (serversIn placement) → fits b (chosen done placement q ++ (l ∷ [])) ≡ true
+      new e = ap (λ (ks : List Load). fits b (ks ++ (l ∷ []))) (in-none done placement q (omega arith)) ∙ alone
 
   -- every server passes still
-  still-pass : Fitting h done placement → TakesOrNew h done placement l q → (x : ℕ) → 1 ≤ x → x ≤ serversIn (placement ++ (q ∷ [])) →
-      PassesWhole h (chosen (done ++ (l ∷ [])) (placement ++ (q ∷ [])) x)
+  still-pass : Fitting b done placement → TakesOrNew b done placement l q → (x : ℕ) → 1 ≤ x → x ≤ serversIn (placement ++ (q ∷ [])) →
+      PassesWhole b (chosen (done ++ (l ∷ [])) (placement ++ (q ∷ [])) x)
   still-pass w o x first there = by (ℕ-discrete q x)
     where
-      by : Dec (q ≡ x) → PassesWhole h (chosen (done ++ (l ∷ [])) (placement ++ (q ∷ [])) x)
+      by : Dec (q ≡ x) → PassesWhole b (chosen (done ++ (l ∷ [])) (placement ++ (q ∷ [])) x)
       by (yes e) =
-          subst (PassesWhole h)
+          subst (PassesWhole b)
           (sym (in-joined done placement l q q (w .parted .one-each) refl) ∙ ap (chosen (done ++ (l ∷ [])) (placement ++ (q ∷ []))) e)
-          (fits-passes h (chosen done placement q ++ (l ∷ [])) (members-with h done placement l members q) some (joined-fits o))
+          (fits-passes b (chosen done placement q ++ (l ∷ [])) (members-with (b .header) done placement l members q) sound (joined-fits o))
       by (no n) =
-          subst (PassesWhole h) (sym (in-apart done placement l q x (w .parted .one-each) n))
-          (w .passes x first (omega (arith, there, n, servers-more placement q, in-range h done placement l q o .1)))
+          subst (PassesWhole b) (sym (in-apart done placement l q x (w .parted .one-each) n))
+          (w .passes x first (omega (arith, there, n, servers-more placement q, in-range b done placement l q o .1)))
 
   -- a fitting placement with one task more
-  pub fitting-more : Fitting h done placement → TakesOrNew h done placement l q → Fitting h (done ++ (l ∷ [])) (placement ++ (q ∷ []))
+  pub fitting-more : Fitting b done placement → TakesOrNew b done placement l q → Fitting b (done ++ (l ∷ [])) (placement ++ (q ∷ []))
   fitting-more w o =
       record {
-        parted = parted-more placement q done l (w .parted) (in-range h done placement l q o);
+        parted = parted-more placement q done l (w .parted) (in-range b done placement l q o);
         passes = still-pass w o;
       }
 
@@ -149,11 +148,11 @@ some-demand [] e h = absurd (omega arith)
 some-demand (l ∷ ls) e h = (l .deadline, loads-lawful .some l ls (e .0))
 
 -- so does each server, since none is empty
-pub fitting-asks : (h : Header) (figures : List Load) (placement : List ℕ) (q : ℕ) → Every (Member h) figures → Fitting h figures placement →
-    1 ≤ q → q ≤ serversIn placement → (t : ℕ) × (1 ≤ serverDemand h (chosen figures placement q) t)
-fitting-asks h figures placement q members w first there =
+pub fitting-asks : (b : Board) (figures : List Load) (placement : List ℕ) (q : ℕ) → Every (Member (b .header)) figures → Fitting b figures placement →
+    1 ≤ q → q ≤ serversIn placement → (t : ℕ) × (1 ≤ serverDemand b (chosen figures placement q) t)
+fitting-asks b figures placement q members w first there =
     let ms = chosen figures placement q in
     let f = w .parted .none-empty q first there in
     let some = in-some figures placement (f .0) q (w .parted .one-each) (f .1) (f .2) in
-    let asks = some-demand (serverLoads h ms) (loads-sound h ms (every-chosen (Member h) figures placement q members)) (omega (arith, some, loads-many h ms)) in
-    (asks .0, omega (arith, asks .1, masked-above (maskedTicks h) (serverLoads h ms) (asks .0)))
+    let asks = some-demand (serverLoads (b .header) ms) (loads-sound (b .header) ms (every-chosen (Member (b .header)) figures placement q members)) (omega (arith, some, loads-many (b .header) ms)) in
+    (asks .0, omega (arith, asks .1, masked-above (maskedTicks (b .header)) (serverLoads (b .header) ms) (asks .0)))

@@ -1,6 +1,7 @@
 -- The laws of placing and of sizing.
 pub mod PlacementLaws
 pub mod FittingLaws
+pub mod AloneLaws
 pub mod Claims
 pub mod TotalLaws
 pub mod KeptLaws

@@ -7,7 +7,7 @@ use mathlib.Core.List.{List, [], _∷_, _++_, append-assoc, append-nil}
 use lib.ListN.{length, length-append}
 use Rattle.demand.specs.Load.{Load}
 use Rattle.search.specs.Search.{NoneIn, Next}
-use Rattle.tasks.specs.declared.set.Header.{Header}
+use Rattle.members.specs.Server.{Board}
 use Rattle.taking.specs.Takes.{takes}
 use Rattle.joining.proofs.JoinLaws.{join-first-view}
 use Rattle.servers.specs.Placement.{serversIn, Step, placeBy, fit, placementOf}
@@ -91,18 +91,18 @@ module _ (step : Step) where
 
 -- ---- the planner's placement
 
-pub placement-length : (h : Header) (figures : List Load) → length (placementOf h figures) ≡ length figures
+pub placement-length : (b : Board) (figures : List Load) → length (placementOf b figures) ≡ length figures
 unfolding placementOf
-placement-length h figures = placed-length (fit h) figures
+placement-length b figures = placed-length (fit b) figures
 
-pub placement-more : (h : Header) (figures : List Load) (l : Load) →
-    placementOf h (figures ++ (l ∷ [])) ≡ placementOf h figures ++ (fit h figures (placementOf h figures) l ∷ [])
+pub placement-more : (b : Board) (figures : List Load) (l : Load) →
+    placementOf b (figures ++ (l ∷ [])) ≡ placementOf b figures ++ (fit b figures (placementOf b figures) l ∷ [])
 unfolding placementOf
-placement-more h figures l = placed-more (fit h) figures l
+placement-more b figures l = placed-more (fit b) figures l
 
 -- the planner's step: the lowest-numbered server that takes the task, or a new one where none does
-pub fit-view : (h : Header) (done : List Load) (placement : List ℕ) (l : Load) →
-    ((fit h done placement l ≡ suc (serversIn placement)) × NoneIn (takes h done placement l) 0 (serversIn placement))
-    ⊎ ((fit h done placement l ≤ serversIn placement) × Next (takes h done placement l) 0 (fit h done placement l))
+pub fit-view : (b : Board) (done : List Load) (placement : List ℕ) (l : Load) →
+    ((fit b done placement l ≡ suc (serversIn placement)) × NoneIn (takes b done placement l) 0 (serversIn placement))
+    ⊎ ((fit b done placement l ≤ serversIn placement) × Next (takes b done placement l) 0 (fit b done placement l))
 unfolding fit
-fit-view h done placement l = join-first-view (takes h done placement l) 0 (serversIn placement)
+fit-view b done placement l = join-first-view (takes b done placement l) 0 (serversIn placement)

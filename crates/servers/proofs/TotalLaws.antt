@@ -12,7 +12,7 @@ use Rattle.demand.specs.Load.{Load, Every}
 use Rattle.tasks.specs.declared.set.Header.{Header}
 use Rattle.places.specs.Places.{chosen}
 use Rattle.loads.specs.Charge.{serverLoads, Member}
-use Rattle.members.specs.Server.{totalOf}
+use Rattle.members.specs.Server.{Board, SoundBoard, totalOf}
 use Rattle.servers.specs.Placement.{serversIn}
 use Rattle.taking.specs.Takes.{takes}
 use Rattle.taking.specs.Totals.{totalIn}
@@ -25,18 +25,18 @@ pub total-none : (h : Header) (H : ℕ) → totalIn h H [] ≡ 0
 unfolding serverLoads totalOf
 total-none h H = refl
 
-module _ (h : Header) (H : ℕ) (done : List Load) (placement : List ℕ) (l : Load) (q : ℕ) (some : 1 ≤ h .slot) (positive : 1 ≤ H)
-    (members : Every (Member h) (done ++ (l ∷ []))) (periods : Every (λ (k : Load). k .period ∣ H) (done ++ (l ∷ []))) where
+module _ (b : Board) (H : ℕ) (done : List Load) (placement : List ℕ) (l : Load) (q : ℕ) (sound : SoundBoard b) (positive : 1 ≤ H)
+    (members : Every (Member (b .header)) (done ++ (l ∷ []))) (periods : Every (λ (k : Load). k .period ∣ H) (done ++ (l ∷ []))) where
   -- the total of the server that the task joins is within the horizon, or it is the task's share
-  pub joined-total : TakesOrNew h done placement l q →
-      totalIn h H (chosen done placement q) + totalIn h H (l ∷ []) ≤ max H (totalIn h H (l ∷ []))
-  joined-total o = ⊎-elim (λ w. took (w .2) (le-or-lt (totalIn h H (chosen done placement q) + totalIn h H (l ∷ [])) H)) opened o
+  pub joined-total : TakesOrNew b done placement l q →
+      totalIn (b .header) H (chosen done placement q) + totalIn (b .header) H (l ∷ []) ≤ max H (totalIn (b .header) H (l ∷ []))
+  joined-total o = ⊎-elim (λ w. took (w .2) (le-or-lt (totalIn (b .header) H (chosen done placement q) + totalIn (b .header) H (l ∷ [])) H)) opened o
     where
-      took : takes h done placement l q ≡ true →
-          (totalIn h H (chosen done placement q) + totalIn h H (l ∷ []) ≤ H) ⊎ (H < totalIn h H (chosen done placement q) + totalIn h H (l ∷ [])) →
-          totalIn h H (chosen done placement q) + totalIn h H (l ∷ []) ≤ max H (totalIn h H (l ∷ []))
+      took : takes b done placement l q ≡ true →
+          (totalIn (b .header) H (chosen done placement q) + totalIn (b .header) H (l ∷ []) ≤ H) ⊎ (H < totalIn (b .header) H (chosen done placement q) + totalIn (b .header) H (l ∷ [])) →
+          totalIn (b .header) H (chosen done placement q) + totalIn (b .header) H (l ∷ []) ≤ max H (totalIn (b .header) H (l ∷ []))
       took t (inl within) = omega arith
-      took t (inr above) = true-false (sym t ∙ no-room h H done placement l q some positive members periods above)
+      took t (inr above) = true-false (sym t ∙ no-room b H done placement l q sound positive members periods above)
 
-      opened : q ≡ suc (serversIn placement) → totalIn h H (chosen done placement q) + totalIn h H (l ∷ []) ≤ max H (totalIn h H (l ∷ []))
-      opened e = omega (arith, ap (totalIn h H) (in-none done placement q (omega arith)), total-none h H)
+      opened : q ≡ suc (serversIn placement) → totalIn (b .header) H (chosen done placement q) + totalIn (b .header) H (l ∷ []) ≤ max H (totalIn (b .header) H (l ∷ []))
+      opened e = omega (arith, ap (totalIn (b .header) H) (in-none done placement q (omega arith)), total-none (b .header) H)

@@ -8,21 +8,26 @@ use Rattle.charging.specs.Charging.{effectiveDeadline, effectiveCost, entryLoss
 use Rattle.demand.specs.Demand.{jobs, demand}
 use Rattle.demand.specs.Supply.{supplyPast, supply}
 use Rattle.search.specs.Search.{firstUpTo, firstAfter}
+use Rattle.interrupting.specs.Interrupts.{boundTo, interruptDemand, greatest}
 use Rattle.masking.specs.Masking.{soonestOf, soonest, latest, gainAt, gaining, gainOf, maskedDemand}
 use Rattle.verdict.specs.Verdict.{failing, ownHorizon, firstFailing, verdictAt, verdictOf, passing}
+use Rattle.tasks.specs.declared.set.Header.{Header}
 use Rattle.tasks.specs.declared.set.Optional.the-variants.{Absent}
 use Rattle.places.specs.Places.{chosen}
 use Rattle.loads.specs.Charge.{cacheOf, chargedIn, serverLoads, serverLoss}
-use Rattle.members.specs.Server.{passesWith, fits}
+use Rattle.members.specs.Server.{uninterrupted, passesWith, fits}
 use Rattle.servers.specs.Placement.{serversIn, placeBy, fit, placementOf}
 use Rattle.joining.specs.Join.{join}
 use Rattle.taking.specs.Takes.{takes}
 
+abbrev twoProcessors : Header
+twoProcessors = record { processors = 2; slot = 10; relj = 0; relo = 0; ctswo = 0; resd = 0; cpmdo = 0; masked = Absent }
+
 -- a task that server 1 cannot take goes to 2, and a later one that it can take goes back to 1
 pub goes-back :
     placementOf
-    (record { processors = 2; slot = 10; relj = 0; relo = 0; ctswo = 0; resd = 0; cpmdo = 0; masked = Absent })
+    (uninterrupted twoProcessors)
     (record { cost = 6; deadline = 10; period = 10 } ∷ record { cost = 6; deadline = 10; period = 10 } ∷ record { cost = 4; deadline = 10; period = 10 } ∷ [])
     ≡ 1 ∷ 2 ∷ 1 ∷ []
-unfolding placementOf placeBy fit join takes serversIn chosen fits passesWith serverLoads serverLoss cacheOf chargedIn effectiveDeadline effectiveCost entryLoss passing verdictOf verdictAt firstFailing firstUpTo firstAfter failing ownHorizon leastMultipleOf leastMultiple commonMeasure measureIn maskedDemand gaining gainOf gainAt soonest soonestOf latest demand jobs supply supplyPast
+unfolding placementOf placeBy fit join takes serversIn chosen fits passesWith serverLoads serverLoss cacheOf chargedIn effectiveDeadline effectiveCost entryLoss passing verdictOf verdictAt firstFailing firstUpTo firstAfter failing ownHorizon leastMultipleOf leastMultiple commonMeasure measureIn maskedDemand gaining gainOf gainAt soonest soonestOf latest greatest interruptDemand boundTo demand jobs supply supplyPast
 goes-back = refl

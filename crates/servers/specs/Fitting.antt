@@ -6,10 +6,9 @@ use mathlib.Core.List.{List}
 use lib.ListN.{length, getD}
 use Rattle.demand.specs.Load.{Load}
 use Rattle.demand.specs.Passes.{Passes}
-use Rattle.tasks.specs.declared.set.Header.{Header}
 use Rattle.places.specs.Places.{chosen}
 use Rattle.loads.specs.Charge.{serverLoss}
-use Rattle.members.specs.Server.{serverDemand}
+use Rattle.members.specs.Server.{Board, serverDemand}
 use Rattle.servers.specs.Placement.{serversIn}
 
 -- a placement names one server for each task, among those that there are, and no server is empty
@@ -19,9 +18,9 @@ pub record Parted (figures : List Load) (placement : List ℕ) : Type 0 where
   pub none-empty : (q : ℕ) → 1 ≤ q → q ≤ serversIn placement → (i : ℕ) × (i < length placement) × (getD placement i 0 ≡ q)
 
 -- a server of these members passes with R = S, over all lengths
-abbrev pub PassesWhole : Header → (members : List Load) → Type 0
-PassesWhole h members = Passes (serverDemand h members) (h .slot) (serverLoss h members) (h .slot)
+abbrev pub PassesWhole : Board → (members : List Load) → Type 0
+PassesWhole b members = Passes (serverDemand b members) (b .header .slot) (serverLoss (b .header) members) (b .header .slot)
 
-pub record Fitting (h : Header) (figures : List Load) (placement : List ℕ) : Type 0 where
+pub record Fitting (b : Board) (figures : List Load) (placement : List ℕ) : Type 0 where
   pub parted : Parted figures placement
-  pub passes : (q : ℕ) → 1 ≤ q → q ≤ serversIn placement → PassesWhole h (chosen figures placement q)
+  pub passes : (q : ℕ) → 1 ≤ q → q ≤ serversIn placement → PassesWhole b (chosen figures placement q)

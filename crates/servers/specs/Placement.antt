@@ -4,8 +4,8 @@
 use Prim.Native.Nat.{ℕ, suc, max}
 use mathlib.Core.List.{List, [], _∷_, _++_}
 use Rattle.demand.specs.Load.{Load}
-use Rattle.tasks.specs.declared.set.Header.{Header}
 use Rattle.places.specs.Padded.{padded}
+use Rattle.members.specs.Server.{Board}
 use Rattle.taking.specs.Takes.{takes}
 use Rattle.joining.specs.Join.{firstFit, join}
 use Rattle.servers.specs.declared.placement.Placed.{Placed}
@@ -26,11 +26,11 @@ placeBy step done placement (l ∷ left) =
     placeBy step (done ++ (l ∷ [])) (placement ++ (step done placement l ∷ [])) left
 
 -- the lowest-numbered server that takes the task, otherwise a new one
-unfoldable pub fit : Header → Step
-fit h done placement l = join firstFit (takes h done placement l) 0 (serversIn placement)
+unfoldable pub fit : Board → Step
+fit b done placement l = join firstFit (takes b done placement l) 0 (serversIn placement)
 
-unfoldable pub placementOf : Header → (figures : List Load) → List ℕ
-placementOf h figures = placeBy (fit h) [] [] figures
+unfoldable pub placementOf : Board → (figures : List Load) → List ℕ
+placementOf b figures = placeBy (fit b) [] [] figures
 
 -- a placement in a struct: how many servers there are, and the tasks' servers
 unfoldable pub placed : (placement : List ℕ) → Placed

@@ -9,7 +9,7 @@ use tasks::set::TaskSet;
 ghost use mathlib.Core.Path.{_≡_};
 ghost use Prim.Native.Nat.{_+_, _<_};
 ghost use Rattle.demand.specs.Load.{loadsOf};
-ghost use Rattle.members.specs.Server.{Filed};
+ghost use Rattle.members.specs.Server.{boardOf, Filed, Bounded};
 ghost use Rattle.servers.specs.Placement.{placementOf, placed};
 
 // How many servers there are, and the server of each task.
@@ -18,9 +18,10 @@ pub struct Placed {
     pub placement: [u64; TaskSet::MOST_TASKS],
 }
 
-pub fn place(header: Header, figures: &[u64], n: usize, horizon: u64) -> Placed
+pub fn place(header: Header, figures: &[u64], n: usize, interrupts: &[u64], horizon: u64) -> Placed
     requires { ⌜ Filed header (now figures) n horizon ⌝ }
-    ensures { λ r. ⌜ r ≡ placed (placementOf header (loadsOf (now (figures .entry)) n)) ⌝ }
+    requires { ⌜ Bounded header (now interrupts) horizon ⌝ }
+    ensures { λ r. ⌜ r ≡ placed (placementOf (boardOf header (now (interrupts .entry))) (loadsOf (now (figures .entry)) n)) ⌝ }
 {
     let mut count: u64 = 0;
     let mut placement = [0u64; TaskSet::MOST_TASKS];
@@ -37,6 +38,7 @@ pub fn place(header: Header, figures: &[u64], n: usize, horizon: u64) -> Placed
             i,
             0,
             count,
+            interrupts,
             horizon,
         );
         let at = q as usize - 1;

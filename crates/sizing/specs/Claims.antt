@@ -6,10 +6,9 @@ use mathlib.Core.List.{List}
 use lib.ListN.{length, getD}
 use Rattle.demand.specs.Load.{Load, Every}
 use Rattle.verdict.specs.Reserve.{Smallest}
-use Rattle.tasks.specs.declared.set.Header.{Header}
 use Rattle.places.specs.Places.{chosen}
 use Rattle.loads.specs.Charge.{serverLoss, Member}
-use Rattle.members.specs.Server.{serverDemand}
+use Rattle.members.specs.Server.{Board, SoundBoard, serverDemand}
 use Rattle.servers.specs.Placement.{serversIn}
 use Rattle.servers.specs.Fitting.{Fitting}
 use Rattle.sizing.specs.Reserve.{reservesOf}
@@ -18,7 +17,7 @@ use Rattle.sizing.specs.Reserve.{reservesOf}
 -- allowed one.
 abbrev pub SmallestReserves : Type 0
 SmallestReserves =
-    (h : Header) (figures : List Load) (placement : List ℕ) → 1 ≤ h .slot → Every (Member h) figures → Fitting h figures placement
-    → (length (reservesOf h figures placement) ≡ serversIn placement)
+    (b : Board) (figures : List Load) (placement : List ℕ) → SoundBoard b → Every (Member (b .header)) figures → Fitting b figures placement
+    → (length (reservesOf b figures placement) ≡ serversIn placement)
     × ((q : ℕ) → 1 ≤ q → q ≤ serversIn placement
-    → Smallest (serverDemand h (chosen figures placement q)) (h .slot) (serverLoss h (chosen figures placement q)) (getD (reservesOf h figures placement) (q - 1) 0))
+    → Smallest (serverDemand b (chosen figures placement q)) (b .header .slot) (serverLoss (b .header) (chosen figures placement q)) (getD (reservesOf b figures placement) (q - 1) 0))

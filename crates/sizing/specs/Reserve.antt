@@ -3,29 +3,28 @@
 use Prim.Native.Nat.{ℕ, suc}
 use mathlib.Core.List.{List}
 use Rattle.demand.specs.Load.{Load}
-use Rattle.tasks.specs.declared.set.Header.{Header}
 use Rattle.places.specs.Padded.{padded, upTo}
 use Rattle.places.specs.Places.{chosen}
-use Rattle.members.specs.Server.{reserveFor}
+use Rattle.members.specs.Server.{Board, reserveFor}
 use Rattle.servers.specs.Placement.{serversIn, placementOf}
 use Rattle.sizing.specs.declared.Servers.{Servers}
 
 -- the smallest allowed reserve with which server q of a placement passes
-abbrev pub reserveIn : Header → (figures : List Load) → (placement : List ℕ) → (q : ℕ) → ℕ
-reserveIn h figures placement q = reserveFor h (chosen figures placement q)
+abbrev pub reserveIn : Board → (figures : List Load) → (placement : List ℕ) → (q : ℕ) → ℕ
+reserveIn b figures placement q = reserveFor b (chosen figures placement q)
 
-unfoldable pub reservesOf : Header → (figures : List Load) → (placement : List ℕ) → List ℕ
-reservesOf h figures placement = upTo (reserveIn h figures placement) (serversIn placement)
+unfoldable pub reservesOf : Board → (figures : List Load) → (placement : List ℕ) → List ℕ
+reservesOf b figures placement = upTo (reserveIn b figures placement) (serversIn placement)
 
 -- a placement with its reserves
-unfoldable pub sized : Header → (figures : List Load) → (placement : List ℕ) → Servers
-sized h figures placement =
+unfoldable pub sized : Board → (figures : List Load) → (placement : List ℕ) → Servers
+sized b figures placement =
     record {
       count = serversIn placement;
       placement = padded placement;
-      reserve = padded (reservesOf h figures placement);
+      reserve = padded (reservesOf b figures placement);
     }
 
 -- what placing and sizing all tasks of a file answers
-abbrev pub serversOf : Header → (figures : List Load) → Servers
-serversOf h figures = sized h figures (placementOf h figures)
+abbrev pub serversOf : Board → (figures : List Load) → Servers
+serversOf b figures = sized b figures (placementOf b figures)

@@ -1,7 +1,9 @@
 // Sizing: the smallest reserve of each server of a placement; and placing and sizing in one. What they mean stands in specs/Reserve.antt.
-// The tasks' own figures stand in one slice, three for each, and the server of each task in another, of which the first n count.
+// The tasks' own figures stand in one slice, three for each, the server of each task in another, of which the first n count, and the
+// interrupts in a third, four numbers for each.
 use members::loss;
 use places::places_of;
+use served::ROOM;
 use served::charge_server;
 use servers::placement::place;
 use tasks::set::Header;
@@ -12,7 +14,7 @@ ghost use lib.ListN.{length, take};
 ghost use Rattle.demand.specs.Load.{loadsOf};
 ghost use Rattle.places.specs.Padded.{padded, upTo};
 ghost use Rattle.tasks.specs.Set.{mostTasks};
-ghost use Rattle.members.specs.Server.{Filed};
+ghost use Rattle.members.specs.Server.{boardOf, Filed, Bounded};
 ghost use Rattle.sizing.specs.Reserve.{reserveIn, serversOf};
 
 // The smallest allowed reserve with which server q passes, by its own loss and its own horizon.
@@ -22,20 +24,32 @@ pub fn reserve_of(
     placement: &[u64],
     n: usize,
     q: u64,
+    interrupts: &[u64],
     horizon: u64,
 ) -> u64
     requires { ⌜ Filed header (now figures) n horizon ⌝ }
+    requires { ⌜ Bounded header (now interrupts) horizon ⌝ }
     requires { ⌜ n ≤ length (now placement) ⌝ }
-    ensures { λ r. ⌜ r ≡ reserveIn header (loadsOf (now (figures .entry)) n) (take n (now (placement .entry))) q ⌝ }
+    ensures { λ r. ⌜ r ≡ reserveIn (boardOf header (now (interrupts .entry))) (loadsOf (now (figures .entry)) n) (take n (now (placement .entry))) q ⌝ }
 {
     let cache = header.cpmdo as u64;
     let mut places = [0u8; TaskSet::MOST_TASKS];
     let count = places_of(placement, n, q, &mut places);
-    let mut loads = [0u64; 3 * TaskSet::MOST_TASKS];
-    let own = charge_server(header, cache, figures, &places, count, horizon, &mut loads);
+    let mut loads = [0u64; ROOM];
+    let own = charge_server(
+        header,
+        cache,
+        figures,
+        &places,
+        count,
+        interrupts,
+        horizon,
+        &mut loads,
+    );
     let masked = header.masked_ticks() as u64;
     let slot = header.slot as u64;
-    verdict::reserve::smallest_reserve(&loads, count, masked, slot, loss(header, cache), own)
+    let end = 3 * count + interrupts.len();
+    verdict::reserve::smallest_reserve(&loads[..end], count, masked, slot, loss(header, cache), own)
 }
 
 // The reserves of servers 1 to count, in server order.
@@ -45,18 +59,20 @@ pub fn size(
     placement: &[u64],
     n: usize,
     count: u64,
+    interrupts: &[u64],
     horizon: u64,
 ) -> [u64; TaskSet::MOST_TASKS]
     requires { ⌜ Filed header (now figures) n horizon ⌝ }
+    requires { ⌜ Bounded header (now interrupts) horizon ⌝ }
     requires { ⌜ (n ≤ length (now placement)) × (count ≤ mostTasks) ⌝ }
-    ensures { λ r. ⌜ r ≡ padded (upTo (reserveIn header (loadsOf (now (figures .entry)) n) (take n (now (placement .entry)))) count) ⌝ }
+    ensures { λ r. ⌜ r ≡ padded (upTo (reserveIn (boardOf header (now (interrupts .entry))) (loadsOf (now (figures .entry)) n) (take n (now (placement .entry)))) count) ⌝ }
 {
     let mut reserve = [0u64; TaskSet::MOST_TASKS];
     let mut at: usize = 0;
     let mut q: u64 = 0;
     while q < count {
         q += 1;
-        reserve[at] = reserve_of(header, figures, placement, n, q, horizon);
+        reserve[at] = reserve_of(header, figures, placement, n, q, interrupts, horizon);
         at += 1;
     }
     reserve
@@ -69,14 +85,24 @@ pub struct Servers {
     pub reserve: [u64; TaskSet::MOST_TASKS],
 }
 
-// The tasks are placed, and then each server is sized. The horizon is the file's, or another multiple of the slot and the periods.
-pub fn serve(header: Header, figures: &[u64], n: usize, horizon: u64) -> Servers
+// The tasks are placed, and then each server is sized. The horizon is the file's, or another multiple of the slot and of the periods of tasks and
+// interrupts.
+pub fn serve(header: Header, figures: &[u64], n: usize, interrupts: &[u64], horizon: u64) -> Servers
     requires { ⌜ Filed header (now figures) n horizon ⌝ }
-    ensures { λ r. ⌜ r ≡ serversOf header (loadsOf (now (figures .entry)) n) ⌝ }
+    requires { ⌜ Bounded header (now interrupts) horizon ⌝ }
+    ensures { λ r. ⌜ r ≡ serversOf (boardOf header (now (interrupts .entry))) (loadsOf (now (figures .entry)) n) ⌝ }
 {
-    let placed = place(header, figures, n, horizon);
+    let placed = place(header, figures, n, interrupts, horizon);
     let placement = placed.placement;
-    let reserve = size(header, figures, &placement, n, placed.count, horizon);
+    let reserve = size(
+        header,
+        figures,
+        &placement,
+        n,
+        placed.count,
+        interrupts,
+        horizon,
+    );
     Servers {
         count: placed.count,
         placement,

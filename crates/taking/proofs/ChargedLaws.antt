@@ -25,7 +25,7 @@ use Rattle.tasks.specs.Set.{mostTasks}
 use Rattle.places.specs.Places.{keep, placesFrom, placesIn, chosen}
 use Rattle.places.proofs.PlacesLaws.{in-more, places-more, places-few, places-below}
 use Rattle.loads.specs.Charge.{cacheOf, serverLoss, membersAt, Member}
-use Rattle.members.specs.Server.{serverDemand, serverHorizon, fits, passesWith, Filed}
+use Rattle.members.specs.Server.{Board, SoundBoard, serverDemand, serverHorizon, fits, passesWith, Filed}
 use Rattle.members.proofs.ServerLaws.{server-lawful}
 use Rattle.members.proofs.FiledLaws.{Below, every-chosen}
 use Rattle.served.specs.Served.{Served}
@@ -146,6 +146,20 @@ module _ (figures placement b : List ℕ) (n q : ℕ) (h : n ≤ length placemen
                 rw (here, getD-append-seam found n [] 0) (omega arith)
             by (inr old) = rw (List·getD-append found (n ∷ []) 0 j old) (omega (arith, found-below j old))
 
+-- a task alone
+pub standing-alone : (figures : List ℕ) (i : ℕ) → Standing figures (i + 1) (loadAt figures i ∷ []) (i ∷ []) 1
+standing-alone figures i =
+    record {
+      there = omega arith;
+      few = omega arith;
+      below = below;
+      is = refl;
+    }
+  where
+    below : Below (i + 1) (i ∷ [])
+    below zero h = omega arith
+    below (suc j) h = absurd (omega arith)
+
 -- they may be charged as a server
 pub standing-served : {h : Header} {figures : List ℕ} {m H : ℕ} {members : List Load} {places : List ℕ} {n : ℕ} →
     Filed h figures m H → Standing figures m members places n → Served h (h .cpmdo) figures places n H
@@ -164,11 +178,11 @@ same-whole g H S L L′ lawful some =
     (λ e. passes-passing g H S L S (other-loss g S L′ L (passing-passes g H S L′ S lawful some e)))
 
 -- so the test of members that is asked with none is whether they fit
-pub fits-whole : (h : Header) (members : List Load) → Every (Member h) members → 1 ≤ h .slot →
-    passing (serverDemand h members) (serverHorizon h members) (h .slot) 0 (h .slot) ≡ fits h members
+pub fits-whole : (b : Board) (members : List Load) → Every (Member (b .header)) members → SoundBoard b →
+    passing (serverDemand b members) (serverHorizon b members) (b .header .slot) 0 (b .header .slot) ≡ fits b members
 unfolding fits passesWith
-fits-whole h members ok some =
-    same-whole (serverDemand h members) (serverHorizon h members) (h .slot) 0 (serverLoss h members) (server-lawful h members ok some) some
+fits-whole b members ok sound =
+    same-whole (serverDemand b members) (serverHorizon b members) (b .header .slot) 0 (serverLoss (b .header) members) (server-lawful b members ok sound) (sound .slot)
 
 -- ---- a server with a task more
 

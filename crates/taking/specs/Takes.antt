@@ -4,10 +4,9 @@ use Prim.Native.Nat.{ℕ}
 use mathlib.Core.List.{List, [], _∷_, _++_}
 use mathlib.Core.Bool.{Bool}
 use Rattle.demand.specs.Load.{Load}
-use Rattle.tasks.specs.declared.set.Header.{Header}
 use Rattle.places.specs.Places.{chosen}
-use Rattle.members.specs.Server.{fits}
+use Rattle.members.specs.Server.{Board, fits}
 
 -- server q passes with the task added, with a whole processor; `done` are the tasks that are placed
-unfoldable pub takes : Header → (done : List Load) → (placement : List ℕ) → Load → (q : ℕ) → Bool
-takes h done placement l q = fits h (chosen done placement q ++ (l ∷ []))
+unfoldable pub takes : Board → (done : List Load) → (placement : List ℕ) → Load → (q : ℕ) → Bool
+takes b done placement l q = fits b (chosen done placement q ++ (l ∷ []))

@@ -1,17 +1,17 @@
 -- `judged` meets its contract: the server's loads are charged, and its own entry loss and horizon decide.
 -- Assumes nothing.
-use Prim.Native.Nat.{ℕ}
-use mathlib.Core.Path.{_≡_, refl, ap, ap₂, _∙_}
-use mathlib.Core.List.{List}
+use Prim.Native.Nat.{ℕ, _+_, _*_, _≤_}
+use mathlib.Core.Path.{_≡_, refl, sym, ap, ap₂, _∙_}
+use mathlib.Core.List.{List, _++_}
 use borrow.Author.Needs.{needs}
 use native.Mathlib.Omega.{arith}
-use lib.ListN.{take}
-use Rattle.demand.specs.Load.{Load, Loaded, loadsOf}
-use Rattle.masking.specs.Masking.{maskedDemand}
+use lib.ListN.{length, take}
+use lib.Seq.{length-take-le}
+use Rattle.demand.specs.Load.{Load}
 use Rattle.verdict.specs.Verdict.{verdictOf}
-use Rattle.loads.specs.Charge.{serverLoads, serverLoss, membersAt, Overheads}
-use Rattle.members.specs.Server.{serverDemand, verdictFor}
-use Rattle.served.proofs.ServedLaws.{small-cache, own-loss, own-room, may-test, left-loads, left-loaded, left-maskable}
+use Rattle.loads.specs.Charge.{numbersOf, serverLoads, serverLoss, membersAt, Overheads}
+use Rattle.members.specs.Server.{Board, boardOf, serverDemand, verdictFor}
+use Rattle.served.proofs.ServedLaws.{small-cache, own-loss, own-room, may-test, front-within, front-is, front-interrupted, front-maskable, front-asked}
 use Rattle.judging.proofs.judged.Statement.{statement}
 use Rattle.judging.proofs.judged.Tie as tie
 
@@ -23,24 +23,32 @@ overheads s = record { release = search needs; switch = search needs; delay = se
 abbrev members : (s : tie.Start) → List Load
 members s = membersAt (s .args .figures .now) (take (s .args .k) (s .args .places .now))
 
+-- the board
+abbrev board : (s : tie.Start) → Board
+board s = boardOf (s .args .header) (s .args .interrupts .now)
+
 -- once they are charged
 module _ (c : tie.After-charge-server) where
   abbrev start : tie.Start
-  start = c .before .before .before .before
+  start = c .before .before .before .before .before
 
   abbrev loads : List ℕ
-  loads = c .charge-server .last .1 .1 .1 .1 .1 .1 .0
+  loads = c .charge-server .last .1 .1 .1 .1 .1 .1 .1 .0
 
-  own-loads : loadsOf loads (start .args .k) ≡ serverLoads (start .args .header) (members start)
-  own-loads = left-loads (start .pre .0) _ (own-room (start .pre .0) refl) (c .charge-server .ensures .1)
+  -- how far their numbers and the interrupts' go
+  abbrev end : ℕ
+  end = 3 * start .args .k + length (start .args .interrupts .now)
 
-  own-loaded : Loaded loads (start .args .k)
-  own-loaded = left-loaded (start .pre .0) _ (own-room (start .pre .0) refl) (c .charge-server .ensures .1) (overheads start)
+  inside : end ≤ length loads
+  inside = front-within (start .pre .0) (start .pre .1 .0) _ (own-room (start .pre .0) (start .pre .1 .0) refl) (c .charge-server .ensures .1) refl
+
+  front : take end loads ≡ numbersOf (serverLoads (start .args .header) (members start)) ++ start .args .interrupts .now
+  front = front-is (start .pre .0) (start .pre .1 .0) _ (own-room (start .pre .0) (start .pre .1 .0) refl) (c .charge-server .ensures .1) refl
 
 charge-server-requires : tie.Need-charge-server-requires
 charge-server-requires c κs =
-    let s = c .before .before .before in
-    (s .pre .0, own-room (s .pre .0) refl)
+    let s = c .before .before .before .before in
+    (s .pre .0, (s .pre .1 .0, own-room (s .pre .0) (s .pre .1 .0) refl))
 
 loss-requires : tie.Need-loss-requires
 loss-requires c κs =
@@ -51,13 +59,16 @@ loss-requires c κs =
 lost : (c : tie.After-loss) → c .loss .result ≡ serverLoss (start (c .before .before .before .before) .args .header) (members (start (c .before .before .before .before)))
 lost c = own-loss (start (c .before .before .before .before) .pre .0) (c .loss .ensures)
 
+slice-aggregate-verdict : tie.Need-slice-aggregate-verdict
+slice-aggregate-verdict c = sym (length-take-le _ _ (omega (arith, inside (c .before .before .before .before .before))))
+
 verdict-requires : tie.Need-verdict-requires
 verdict-requires c κs =
     let at = c .before .before .before .before .before in
     let s = start at in
     let l = lost (c .before) in
-    let t = may-test (s .pre .0) (overheads s) (c .before .loss .result) (at .charge-server .ensures .0) (omega (arith, l)) in (
-      own-loaded at,
+    let t = may-test (s .pre .0) (s .pre .1 .0) (overheads s) (c .before .loss .result) (at .charge-server .ensures .0) (omega (arith, l)) in (
+      front-interrupted (s .pre .0) (s .pre .1 .0) (front at) (overheads s),
       (
         record {
           slot-some = t .slot-some;
@@ -66,9 +77,8 @@ verdict-requires c κs =
           horizon-small = omega (arith, t .slot-small, t .horizon-small);
         },
         (
-          rw l (s .pre .1),
-          left-maskable (s .pre .0) _ (own-room (s .pre .0) refl) (at .charge-server .ensures .1) _ (at .charge-server .ensures .0)
-              (omega (arith, c .before .before .before .masked-ticks .ok)),
+          rw l (s .pre .1 .1),
+          front-maskable (s .pre .0) (s .pre .1 .0) (front at) _ (at .charge-server .ensures .0) (omega (arith, c .before .before .before .masked-ticks .ok)),
         ),
       ),
     )
@@ -80,8 +90,9 @@ returns c =
     let s = start at in
     let h = s .args .header in
     c .verdict .ensures ∙
-    ap₂ (λ (B : ℕ) (ls : List Load). verdictOf (maskedDemand B ls) (at .charge-server .result) (h .slot) (c .before .before .loss .result) (s .args .reserve)) (c .before .before .before .before .masked-ticks .ensures) (own-loads at) ∙
-    ap₂ (λ (H L : ℕ). verdictOf (serverDemand h (members s)) H (h .slot) L (s .args .reserve)) (at .charge-server .ensures .0) (lost (c .before .before))
+    ap (λ (g : ℕ → ℕ). verdictOf g (at .charge-server .result) (h .slot) (c .before .before .loss .result) (s .args .reserve))
+    (front-asked (s .pre .0) (s .pre .1 .0) (front at) (c .before .before .before .before .masked-ticks .ensures)) ∙
+    ap₂ (λ (H L : ℕ). verdictOf (serverDemand (board s) (members s)) H (h .slot) L (s .args .reserve)) (at .charge-server .ensures .0) (lost (c .before .before))
 
 pub judged-spec : {M : Type 1} → statement M
 judged-spec =
@@ -94,5 +105,8 @@ judged-spec =
     (λ c. search needs)
     loss-requires
     (λ c. search needs)
+    (λ c. search needs)
+    (λ c. search needs)
+    slice-aggregate-verdict
     verdict-requires
     returns)

@@ -1,15 +1,14 @@
--- `charge_server` meets its contract: the members, charged, are the server's loads, and their horizon is within the file's.
+-- `charge_server` meets its contract: the members, charged, are the server's loads, the interrupts stand behind them, and their horizon
+-- is within the file's.
 -- Assumes nothing.
-use Prim.Native.Nat.{ℕ}
-use mathlib.Core.Path.{_≡_, ap, _∙_}
-use mathlib.Core.List.{List}
+use mathlib.Core.Path.{_≡_}
+use mathlib.Core.List.{_++_}
 use borrow.Author.Needs.{needs}
 use native.Mathlib.Omega.{arith}
 use lib.ListN.{take}
 use Rattle.digits.specs.Stored.{stored}
-use Rattle.demand.specs.Load.{Load}
 use Rattle.loads.specs.Charge.{numbersOf, serverLoads, membersAt, Overheads}
-use Rattle.served.proofs.ServedLaws.{small-cache, may-charge, own-charged, left-timed, horizon-found, horizon-not-past}
+use Rattle.served.proofs.ServedLaws.{small-cache, may-charge, charged-room, put-behind, left-timed, horizon-found, horizon-not-past}
 use Rattle.served.proofs.charge_server.Statement.{statement}
 use Rattle.served.proofs.charge_server.Tie as tie
 
@@ -17,38 +16,48 @@ use Rattle.served.proofs.charge_server.Tie as tie
 overheads : (s : tie.Start) → Overheads (s .args .header)
 overheads s = record { release = search needs; switch = search needs; delay = search needs; cache = search needs }
 
--- once the members are charged
-module _ (c : tie.After-charge) where
+-- once the interrupts' numbers stand behind the members', charged
+module _ (c : tie.After-put-figures) where
+  abbrev charged : tie.After-charge
+  charged = c .before .before .before .before
+
   abbrev start : tie.Start
-  start = c .before .before .before .before .before
+  start = charged .before .before .before .before .before .before
 
-  abbrev left : List ℕ
-  left = c .charge .last .1 .1 .1 .1 .1 .0
-
-  own-loads : left ≡ stored (start .args .loads .now) 0 (numbersOf (serverLoads (start .args .header) (membersAt (start .args .figures .now) (take (start .args .k) (start .args .places .now)))))
-  own-loads = c .charge .ensures ∙ ap (λ (ls : List Load). stored (start .args .loads .now) 0 (numbersOf ls)) (own-charged (start .pre .0))
+  own-numbers : c .put-figures .last .0 ≡
+      stored (start .args .loads .now) 0 (numbersOf (serverLoads (start .args .header) (membersAt (start .args .figures .now) (take (start .args .k) (start .args .places .now)))) ++ start .args .interrupts .now)
+  own-numbers = put-behind (start .pre .0) (start .pre .1 .0) _ (start .pre .1 .1) (charged .charge .ensures) (c .put-figures .ensures)
 
 charge-requires : tie.Need-charge-requires
 charge-requires c κs =
-    let s = c .before .before .before .before in
-    may-charge (s .pre .0) _ _ (omega (arith, small-cache (s .pre .0) (overheads s))) (s .pre .1)
+    let s = c .before .before .before .before .before in
+    may-charge (s .pre .0) _ _ (omega (arith, small-cache (s .pre .0) (overheads s))) (omega (arith, s .pre .1 .1))
+
+mul-put-figures : tie.Need-mul-put-figures
+mul-put-figures c = omega (arith, c .before .before .before .before .before .before .before .before .before .pre .0 .few)
+
+put-figures-requires : tie.Need-put-figures-requires
+put-figures-requires c κs =
+    let charged = c .before .before .before in
+    let s = charged .before .before .before .before .before .before in
+    omega (arith, charged-room (s .pre .0) (s .pre .1 .0) _ (s .pre .1 .1) (charged .charge .ensures))
 
 horizon-of-requires : tie.Need-horizon-of-requires
 horizon-of-requires c κs =
     let at = c .before .before .before .before in
-    left-timed (start at .pre .0) _ (start at .pre .1) (own-loads at)
+    left-timed (start at .pre .0) (start at .pre .1 .0) _ (start at .pre .1 .1) (own-numbers at)
 
 -- the horizon is within the file's
 returns : tie.Need-returns
 returns c =
     let at = c .before .before .before .before .before .before .before in
-    horizon-not-past (start at .pre .0) _ (start at .pre .1) (own-loads at) (c .before .before .horizon-of .ensures) (c .enum-told .given .1)
+    horizon-not-past (start at .pre .0) (start at .pre .1 .0) _ (start at .pre .1 .1) (own-numbers at) (c .before .before .horizon-of .ensures) (c .enum-told .given .1)
 
 returns-2 : tie.Need-returns-2
 returns-2 c =
     let at = c .before .before .before .before .before .before .before .before in (
-      horizon-found (start at .pre .0) _ (start at .pre .1) (own-loads at) (c .before .before .before .horizon-of .ensures) (c .before .own .given .1),
-      own-loads at,
+      horizon-found (start at .pre .0) (start at .pre .1 .0) _ (start at .pre .1 .1) (own-numbers at) (c .before .before .before .horizon-of .ensures) (c .before .own .given .1),
+      own-numbers at,
     )
 
 pub charge-server-spec : {M : Type 1} → statement M
@@ -56,6 +65,8 @@ charge-server-spec =
     tie.close
     (tie.spec
     charge-requires
+    mul-put-figures
+    put-figures-requires
     (λ c. search needs)
     horizon-of-requires
     (λ c. search needs)

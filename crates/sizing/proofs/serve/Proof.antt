@@ -6,39 +6,39 @@ use native.Mathlib.Omega.{arith}
 use lib.ListN.{take}
 use Rattle.demand.specs.Load.{Load, loadsOf}
 use Rattle.demand.proofs.Demand.{loads-length}
-use Rattle.tasks.specs.declared.set.Header.{Header}
 use Rattle.places.specs.Padded.{padded, upTo}
+use Rattle.members.specs.Server.{Board, boardOf}
 use Rattle.sizing.specs.Reserve.{reserveIn, reservesOf, sized, serversOf}
 use Rattle.servers.proofs.SoFarLaws.{Held, held}
 use Rattle.sizing.proofs.serve.Statement.{statement}
 use Rattle.sizing.proofs.serve.Tie as tie
 
 -- a placement and the reserves of its servers are the answer
-served : {h : Header} {figures : List Load} {n : ℕ} {placement : List ℕ} {count : ℕ} → Held h figures n placement count →
-    (reserve : List ℕ) → reserve ≡ padded (upTo (reserveIn h figures (take n placement)) count) →
-    record { count = count; placement = placement; reserve = reserve } ≡ serversOf h figures
+served : {b : Board} {figures : List Load} {n : ℕ} {placement : List ℕ} {count : ℕ} → Held b figures n placement count →
+    (reserve : List ℕ) → reserve ≡ padded (upTo (reserveIn b figures (take n placement)) count) →
+    record { count = count; placement = placement; reserve = reserve } ≡ serversOf b figures
 unfolding sized reservesOf
 served w reserve r = rw (r, w .front, w .count-is, w .placement-is)
 
 place-requires : tie.Need-place-requires
-place-requires c κs = c .before .pre
+place-requires c κs = c .before .before .pre
 
 -- what is known once the tasks are placed
 placed : (c : tie.After-place) →
-    let s = c .before .before in
-    Held (s .args .header) (loadsOf (s .args .figures .now) (s .args .n)) (s .args .n) (c .place .result .placement) (c .place .result .count)
+    let s = c .before .before .before in
+    Held (boardOf (s .args .header) (s .args .interrupts .now)) (loadsOf (s .args .figures .now) (s .args .n)) (s .args .n) (c .place .result .placement) (c .place .result .count)
 placed c =
-    let s = c .before .before in
-    held (s .args .header) (loadsOf (s .args .figures .now) (s .args .n)) (s .args .n) (c .place .result) (loads-length (s .args .figures .now) (s .args .n)) (s .pre .few) (c .place .ensures)
+    let s = c .before .before .before in
+    held (boardOf (s .args .header) (s .args .interrupts .now)) (loadsOf (s .args .figures .now) (s .args .n)) (s .args .n) (c .place .result) (loads-length (s .args .figures .now) (s .args .n)) (s .pre .0 .few) (c .place .ensures)
 
 slice-aggregate-size : tie.Need-slice-aggregate-size
 slice-aggregate-size c = sym (placed (c .before .before) .room)
 
 size-requires : tie.Need-size-requires
 size-requires c κs =
-    let s = c .before .before .before .before in
+    let s = c .before .before .before .before .before in
     let w = placed (c .before .before) in
-    (s .pre, (omega (arith, w .room, s .pre .few), w .few))
+    (s .pre .0, (s .pre .1, (omega (arith, w .room, s .pre .0 .few), w .few)))
 
 returns : tie.Need-returns
 returns c = served (placed (c .before .before .before)) (c .size .result) (c .size .ensures)

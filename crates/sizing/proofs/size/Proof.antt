@@ -7,16 +7,17 @@ use native.Mathlib.Omega.{arith}
 use lib.ListN.{take}
 use Rattle.demand.specs.Load.{loadsOf}
 use Rattle.places.proofs.PaddedLaws.{Filled, filled-none, filled-next, filled-all}
+use Rattle.members.specs.Server.{boardOf}
 use Rattle.sizing.specs.Reserve.{reserveIn}
 use Rattle.sizing.proofs.size.Statement.{statement}
 use Rattle.sizing.proofs.size.Tie as tie
 
 abbrev Inv-loop : tie.InvT-loop
-Inv-loop header figures placement n count horizon reserve₀ at₀ q₀ reserve at q =
-    (q ≤ count) × (at ≡ q) × Filled (reserveIn header (loadsOf figures n) (take n placement)) q reserve
+Inv-loop header figures placement n count interrupts horizon reserve₀ at₀ q₀ reserve at q =
+    (q ≤ count) × (at ≡ q) × Filled (reserveIn (boardOf header interrupts) (loadsOf figures n) (take n placement)) q reserve
 
 abbrev μ-loop : tie.MeasureT-loop
-μ-loop header figures placement n count horizon reserve₀ at₀ q₀ reserve at q = count - q
+μ-loop header figures placement n count interrupts horizon reserve₀ at₀ q₀ reserve at q = count - q
 
 loop-holds : tie.Need-loop-holds Inv-loop μ-loop
 loop-holds c = (omega arith, refl, filled-none _)

@@ -11,7 +11,8 @@ use lib.ListN.{set, take, getD}
 use Rattle.demand.specs.Load.{Load, loadAt, loadsOf}
 use Rattle.demand.proofs.Demand.{loads-next}
 use Rattle.tasks.specs.Set.{mostTasks}
-use Rattle.members.specs.Server.{Filed}
+use Rattle.members.specs.Server.{Board, boardOf, Filed}
+use Rattle.members.proofs.BoundedLaws.{bounded-sound}
 use Rattle.members.proofs.FiledLaws.{filed-first}
 use Rattle.places.specs.Places.{chosen}
 use Rattle.servers.specs.Placement.{fit, placementOf, placed}
@@ -25,11 +26,15 @@ use Rattle.servers.proofs.placement.place.Statement.{statement}
 use Rattle.servers.proofs.placement.place.Tie as tie
 
 abbrev Inv-loop : tie.InvT-loop
-Inv-loop header figures n horizon count₀ placement₀ totals₀ soonest₀ i₀ count placement totals soonest i =
-    (i ≤ n) × SoFar header horizon (loadsOf figures i) i placement totals soonest count
+Inv-loop header figures n interrupts horizon count₀ placement₀ totals₀ soonest₀ i₀ count placement totals soonest i =
+    (i ≤ n) × SoFar (boardOf header interrupts) horizon (loadsOf figures i) i placement totals soonest count
 
 abbrev μ-loop : tie.MeasureT-loop
-μ-loop header figures n horizon count₀ placement₀ totals₀ soonest₀ i₀ count placement totals soonest i = n - i
+μ-loop header figures n interrupts horizon count₀ placement₀ totals₀ soonest₀ i₀ count placement totals soonest i = n - i
+
+-- the board
+abbrev board : tie.Start Inv-loop μ-loop → Board
+board s = boardOf (s .args .header) (s .args .interrupts .now)
 
 loop-holds : tie.Need-loop-holds Inv-loop μ-loop
 unfolding loadsOf
@@ -47,19 +52,19 @@ slice-aggregate-server-for-3 c = sym (c .before .before .before .before .loop .i
 -- the tasks up to the next are a file
 module _ (c : tie.In-loop Inv-loop μ-loop) where
   abbrev start : tie.Start Inv-loop μ-loop
-  start = c .before .before .before
+  start = c .before .before .before .before
 
   file : Filed (start .args .header) (start .args .figures .now) (c .before .loop .i + 1) (start .args .horizon)
-  file = filed-first (c .before .loop .i + 1) (omega (arith, c .loop-test .taken)) (start .pre)
+  file = filed-first (c .before .loop .i + 1) (omega (arith, c .loop-test .taken)) (start .pre .0)
 
   below : c .before .loop .i < mostTasks
-  below = omega (arith, c .loop-test .taken, start .pre .few)
+  below = omega (arith, c .loop-test .taken, start .pre .0 .few)
 
 server-for-requires : tie.Need-server-for-requires Inv-loop μ-loop
 server-for-requires c κs =
     let turn = c .before .before .before in
     let w = turn .before .loop .inv .1 in
-    (file turn, ((omega (arith, w .few, so-far-room w), omega (arith, w .few, so-far-few w)), (so-far-totals w, so-far-soonest w)))
+    (file turn, (start turn .pre .1, ((omega (arith, w .few, so-far-room w), omega (arith, w .few, so-far-few w)), (so-far-totals w, so-far-soonest w))))
 
 -- the next task, and the server that the step answers for it
 module _ (c : tie.After-server-for Inv-loop μ-loop) where
@@ -69,7 +74,7 @@ module _ (c : tie.After-server-for Inv-loop μ-loop) where
   abbrev next : Load
   next = loadAt (start turn .args .figures .now) (turn .before .loop .i)
 
-  picked : c .server-for .result ≡ fit (start turn .args .header) (loadsOf (start turn .args .figures .now) (turn .before .loop .i)) (take (turn .before .loop .i) (turn .before .loop .placement)) next
+  picked : c .server-for .result ≡ fit (board (start turn)) (loadsOf (start turn .args .figures .now) (turn .before .loop .i)) (take (turn .before .loop .i) (turn .before .loop .placement)) next
   picked = so-far-fit (turn .before .loop .inv .1) next (c .server-for .result) (c .server-for .ensures)
 
   range : (1 ≤ c .server-for .result) × (c .server-for .result ≤ turn .before .loop .i + 1)
@@ -113,7 +118,7 @@ add-totals c =
       c .share .ensures,
       c .share .ok,
       file at .short,
-      joined-total (s .args .header) (s .args .horizon) done front (next (c .before)) q (file at .slot) (file at .some)
+      joined-total (board s) (s .args .horizon) done front (next (c .before)) q (bounded-sound (s .pre .1) (file at .slot)) (file at .some)
           (rw (sym (loads-next (s .args .figures .now) (at .before .loop .i))) (file at .members))
           (rw (sym (loads-next (s .args .figures .now) (at .before .loop .i))) (file at .of-periods))
           (so-far-takes w (next (c .before)) q (picked (c .before))),
@@ -150,20 +155,20 @@ loop-again c =
     let total = getD (at .totals) (q - 1) 0 + c .before .before .before .share .result in
     let least = c .before .soonest-with .result in (
       omega (arith, turn picks .loop-test .taken),
-      subst (λ (ls : List Load). SoFar (s .args .header) (s .args .horizon) ls (at .i + 1) (set (at .placement) (at .i) q) (set (at .totals) (q - 1) total) (set (at .soonest) (q - 1) least) (c .if1 .count))
+      subst (λ (ls : List Load). SoFar (board s) (s .args .horizon) ls (at .i + 1) (set (at .placement) (at .i) q) (set (at .totals) (q - 1) total) (set (at .soonest) (q - 1) least) (c .if1 .count))
           (sym (loads-next (s .args .figures .now) (at .i)))
           (so-far-next (at .inv .1) (next picks) q (q - 1) (c .if1 .count) total least (below (turn picks))
-          (filed-first (at .i) (omega (arith, turn picks .loop-test .taken)) (s .pre) .members) (picked picks) refl (recounted c)
+          (filed-first (at .i) (omega (arith, turn picks .loop-test .taken)) (s .pre .0) .members) (picked picks) refl (recounted c)
           (ap (λ (x : ℕ). getD (at .totals) (q - 1) 0 + x) (c .before .before .before .share .ensures))
           (c .before .soonest-with .ensures ∙ ap (soonestWith (getD (at .soonest) (q - 1) 0)) (c .before .before .due .ensures))),
     )
 
 returns : tie.Need-returns Inv-loop μ-loop
 returns c =
-    let s = c .before .before .before in
+    let s = c .before .before .before .before in
     let e : c .before .loop .i ≡ s .args .n = omega (arith, c .loop-test .left) in
     so-far-placed (c .before .loop .inv .1) ∙
-    ap (λ (i : ℕ). placed (placementOf (s .args .header) (loadsOf (s .args .figures .now) i))) e
+    ap (λ (i : ℕ). placed (placementOf (board s) (loadsOf (s .args .figures .now) i))) e
 
 pub place-spec : {M : Type 1} → statement M
 place-spec =
