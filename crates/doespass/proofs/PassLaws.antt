@@ -16,6 +16,7 @@ use Rattle.plan.specs.declared.server.Server.{Server}
 use Rattle.plancheck.specs.Makes.{makes}
 use Rattle.plancheck.proofs.Checked.{of-set}
 use Rattle.doespass.specs.DoesPass.{refusedPass, ownPass, doesPass}
+use Rattle.setfigures.specs.Board.{setBoard}
 use Rattle.named.specs.Named.{isServer, allowed}
 use Rattle.planserver.specs.Recorded.{serverIn, ownMembers}
 use Rattle.planserver.proofs.Judging.{own-members}
@@ -27,7 +28,7 @@ module _ (set : TaskSet) (own : Server) (R : ℕ) where
   own-barred e = rw e
 
   pub own-there : {v : Verdict} → allowed (set .header .slot) (serverLoss (set .header) (ownMembers set own)) R ≡ true
-      → v ≡ verdictFor (set .header) (ownMembers set own) R → record { outcome = Done; verdict = v } ≡ ownPass set own R
+      → v ≡ verdictFor (setBoard set) (ownMembers set own) R → record { outcome = Done; verdict = v } ≡ ownPass set own R
   unfolding ownPass
   own-there e g = rw (e, g)
 

@@ -13,6 +13,7 @@ use Rattle.plan.specs.declared.plan.Plan.{Plan}
 use Rattle.plancheck.specs.Makes.{makes}
 use Rattle.loads.specs.Charge.{serverLoss}
 use Rattle.plan.specs.declared.server.Server.{Server}
+use Rattle.setfigures.specs.Board.{setBoard}
 use Rattle.named.specs.Named.{isServer, allowed}
 use Rattle.planserver.specs.Members.{serverMembers, allowedTo}
 use Rattle.planserver.specs.Recorded.{ownMembers}
@@ -30,7 +31,7 @@ unfoldable pub ownPass : TaskSet → Server → (R : ℕ) → PassAnswer
 ownPass set own R =
     cond
     (allowed (set .header .slot) (serverLoss (set .header) (ownMembers set own)) R)
-    (passAnswer (verdictFor (set .header) (ownMembers set own) R))
+    (passAnswer (verdictFor (setBoard set) (ownMembers set own) R))
     (refusedPass Ask)
 
 -- does server q pass with R
@@ -38,5 +39,5 @@ unfoldable pub doesPass : TaskSet → Plan → (q R : ℕ) → PassAnswer
 doesPass set plan q R =
     cond
     (makes set plan && (isServer plan q && allowedTo set q R))
-    (passAnswer (verdictFor (set .header) (serverMembers set q) R))
+    (passAnswer (verdictFor (setBoard set) (serverMembers set q) R))
     (refusedPass Ask)

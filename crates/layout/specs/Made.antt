@@ -6,12 +6,13 @@ use Rattle.tasks.specs.declared.set.TaskSet.{TaskSet}
 use Rattle.servers.specs.Placement.{placementOf}
 use Rattle.sizing.specs.Reserve.{reservesOf}
 use Rattle.setfigures.specs.Figures.{setFigures}
+use Rattle.setfigures.specs.Board.{setBoard}
 use Rattle.plan.specs.declared.plan.Plan.{Plan}
 use Rattle.layout.specs.Layout.{laidOut}
 
 -- the reserve that document 01 gives each server of a placement of a set's tasks
 unfoldable pub reservesWith : TaskSet → (placement : List ℕ) → List ℕ
-reservesWith set placement = reservesOf (set .header) (setFigures set) placement
+reservesWith set placement = reservesOf (setBoard set) (setFigures set) placement
 
 -- the plan of a set with any placement
 unfoldable pub planWith : TaskSet → (placement : List ℕ) → Plan
@@ -19,7 +20,7 @@ planWith set placement = laidOut (set .header .slot) (set .header .cpmdo) placem
 
 -- the placement that document 01 gives a set, its reserves and its plan
 unfoldable pub setPlacement : TaskSet → List ℕ
-setPlacement set = placementOf (set .header) (setFigures set)
+setPlacement set = placementOf (setBoard set) (setFigures set)
 
 unfoldable pub setReserves : TaskSet → List ℕ
 setReserves set = reservesWith set (setPlacement set)

@@ -19,6 +19,7 @@ use Rattle.reserves.specs.Slotted.{SlottedFirst}
 use Rattle.tasks.specs.declared.set.TaskSet.{TaskSet}
 use Rattle.plan.specs.declared.plan.Plan.{Plan}
 use Rattle.setfigures.specs.Figures.{setFigures}
+use Rattle.setfigures.specs.Board.{setBoard}
 use Rattle.plan.specs.declared.server.Server.{Server}
 use Rattle.plan.specs.Plan.{noServer, reservesIn}
 use Rattle.layout.specs.Layout.{laidOut}
@@ -27,11 +28,11 @@ use Rattle.plan.proofs.RecordLaws.{take-map}
 use Rattle.layout.proofs.LaidLaws.{laid-reserves, laid-count}
 use Rattle.planagree.specs.Agrees.{used, agrees, SamePlan, InRoom}
 use Rattle.plancheck.specs.Makes.{isDone, makes}
-use Rattle.planner.specs.Planner.{Clear, needed, planOutcome, planOf}
+use Rattle.planner.specs.Planner.{Clear, Placeable, needed, planOutcome, planOf}
 use Rattle.planagree.proofs.AgreeLaws.{agree-same}
 use Rattle.setfigures.proofs.FigureLaws.{figures-length}
 use Rattle.planner.proofs.Served.{laid-by}
-use Rattle.planner.proofs.Made.{fits, count-most, few-figures, members, alone, slot-some, slot-below, set-count, needed-few, made-servers, made-needs, plan-outcome, outcome-clear}
+use Rattle.planner.proofs.Made.{fits, count-most, few-figures, members, alone, sound, slot-below, set-count, needed-few, made-servers, made-needs, plan-outcome, outcome-clear}
 
 is-done : (o : Outcome) → isDone o ≡ true → o ≡ Done
 is-done Done e = refl
@@ -97,7 +98,7 @@ module _ (set : TaskSet) (full : length (set .tasks) ≡ mostTasks) (plan : Plan
   -- the placement has a server for each task
   pub placement-count : Clear set → length (setPlacement set) ≡ set .count
   unfolding setPlacement
-  placement-count clear = placement-length (set .header) (setFigures set) ∙ figures-length set (fits set full clear)
+  placement-count clear = placement-length (setBoard set) (setFigures set) ∙ figures-length set (fits set full clear)
 
   -- the set's own plan has room for all of it
   pub made-room : Clear set → InRoom (planMade set)
@@ -111,8 +112,11 @@ module _ (set : TaskSet) (full : length (set .tasks) ≡ mostTasks) (plan : Plan
   }
 
   module _ (e : makes set plan ≡ true) where
+    placeable-set : Placeable set
+    placeable-set = outcome-clear set (makes-done set plan e) .0
+
     clear-set : Clear set
-    clear-set = outcome-clear set (makes-done set plan e) .0
+    clear-set = placeable-set .clear
 
     -- a checked plan is the set's own in all that is used
     pub same-made : SamePlan (set .count) plan (planMade set)
@@ -133,6 +137,6 @@ module _ (set : TaskSet) (full : length (set .tasks) ≡ mostTasks) (plan : Plan
     pub laid-in : length (plan .server) ≡ mostTasks → SlottedFirst (set .header .slot) (map (λ (s : Server). s .reserve) (plan .server)) (plan .servers)
     unfolding setPlacement setReserves reservesWith
     laid-in room =
-        laid-by (set .header) (setFigures set) (few-figures set full clear-set) (members set full clear-set) (alone set full clear-set)
-        (slot-some set full clear-set) (slot-below set full clear-set) (map (λ (s : Server). s .reserve) (plan .server)) (plan .servers)
+        laid-by (setBoard set) (setFigures set) (few-figures set full clear-set) (members set full clear-set) (alone set full placeable-set)
+        (sound set full clear-set) (slot-below set full clear-set) (map (λ (s : Server). s .reserve) (plan .server)) (plan .servers)
         (length-map (plan .server) _ ∙ room) (of-set .servers) (take-map (λ (s : Server). s .reserve) (plan .servers) (plan .server) ∙ of-set .reserves)

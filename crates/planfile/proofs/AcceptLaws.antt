@@ -20,6 +20,7 @@ use Rattle.servers.proofs.Claims.{servers-few}
 use Rattle.plan.specs.declared.plan.Plan.{Plan}
 use Rattle.loads.specs.Charge.{figuresOf}
 use Rattle.setfigures.specs.Figures.{setFigures}
+use Rattle.setfigures.specs.Board.{setBoard}
 use Rattle.layout.specs.Made.{planMade, planWith, reservesWith, setPlacement}
 use Rattle.layout.specs.Layout.{laidOut}
 use Rattle.plancheck.specs.Makes.{makes}
@@ -32,7 +33,7 @@ use Rattle.plantext.specs.Counts.{CountsFit}
 
 module _ (set : TaskSet) (done : planOutcome set ≡ Done) where
   clear : Clear set
-  clear = outcome-clear set done .0
+  clear = outcome-clear set done .0 .clear
 
   tasks-few : set .count ≤ mostTasks
   tasks-few = count-within set (ask-count set (clear .carried)) .1
@@ -54,9 +55,9 @@ module _ (set : TaskSet) (done : planOutcome set ≡ Done) where
   pub servers-few-made : planMade set .servers ≤ mostTasks
   unfolding planMade planWith laidOut reservesWith setPlacement
   servers-few-made =
-      let h = set .header in
+      let board = setBoard set in
       let figures = setFigures set in
-      omega (arith, reserves-count h figures (placementOf h figures), servers-few h figures, figures-few)
+      omega (arith, reserves-count board figures (placementOf board figures), servers-few board figures, figures-few)
 
   -- the plan that the planner makes has room for what it counts
   pub made-counted : CountsFit set (planMade set)

@@ -7,10 +7,10 @@ use native.Mathlib.Omega.{arith}
 use lib.ListN.{length, take, getD}
 use lib.Seq.{getD-take}
 use Rattle.demand.specs.Load.{Load, Every}
-use Rattle.tasks.specs.declared.set.Header.{Header}
 use Rattle.tasks.specs.Set.{mostTasks}
 use Rattle.places.specs.Padded.{padded}
 use Rattle.loads.specs.Charge.{Member}
+use Rattle.members.specs.Server.{Board, SoundBoard}
 use Rattle.servers.specs.Placement.{serversIn, placementOf}
 use Rattle.sizing.specs.Reserve.{reservesOf, sized, serversOf}
 use Rattle.servers.specs.Claims.{FitAlone}
@@ -23,31 +23,31 @@ use Rattle.reserves.specs.Slotted.{SlottedFirst}
 use Rattle.layout.specs.Layout.{laidOut}
 use Rattle.layout.specs.Layable.{Layable}
 
-module _ (h : Header) (figures : List Load) (few : length figures ≤ mostTasks) (members : Every (Member h) figures) (alone : FitAlone h figures) (slot : 1 ≤ h .slot) (small : h .slot < 2 ^ 32) where
+module _ (b : Board) (figures : List Load) (few : length figures ≤ mostTasks) (members : Every (Member (b .header)) figures) (alone : FitAlone b figures) (sound : SoundBoard b) (small : b .header .slot < 2 ^ 32) where
   abbrev placement : List ℕ
-  placement = placementOf h figures
+  placement = placementOf b figures
 
   abbrev reserves : List ℕ
-  reserves = reservesOf h figures (placementOf h figures)
+  reserves = reservesOf b figures (placementOf b figures)
 
   -- there are at most mostTasks servers
   pub count-few : serversIn placement ≤ mostTasks
-  count-few = omega (arith, servers-few h figures)
+  count-few = omega (arith, servers-few b figures)
 
   -- and one reserve for each
   pub reserves-count : length reserves ≡ serversIn placement
-  reserves-count = size.reserves-count h figures placement
+  reserves-count = size.reserves-count b figures placement
 
   -- from 1 to the slot
-  reserves-range : (i : ℕ) → i < length reserves → (1 ≤ getD reserves i 0) × (getD reserves i 0 ≤ h .slot)
-  reserves-range = size.reserves-range h figures placement slot members (planner-fits h figures slot members alone)
+  reserves-range : (i : ℕ) → i < length reserves → (1 ≤ getD reserves i 0) × (getD reserves i 0 ≤ b .header .slot)
+  reserves-range = size.reserves-range b figures placement sound members (planner-fits b figures sound members alone)
 
   -- places that begin with the reserves are laid
-  pub laid-by : (rs : List ℕ) (n : ℕ) → length rs ≡ mostTasks → n ≡ serversIn placement → take n rs ≡ reserves → SlottedFirst (h .slot) rs n
+  pub laid-by : (rs : List ℕ) (n : ℕ) → length rs ≡ mostTasks → n ≡ serversIn placement → take n rs ≡ reserves → SlottedFirst (b .header .slot) rs n
   laid-by rs n full e t = record {
     there = omega (arith, full, e, count-few);
     few = omega (arith, e, count-few);
-    slot-some = slot;
+    slot-some = sound .slot;
     slot-below = small;
     some = λ i l. rw (at i l) (reserves-range i (here i l) .0);
     within = λ i l. rw (at i l) (reserves-range i (here i l) .1);
@@ -59,7 +59,7 @@ module _ (h : Header) (figures : List Load) (few : length figures ≤ mostTasks)
       at : (i : ℕ) → i < n → getD rs i 0 ≡ getD reserves i 0
       at i l = sym (getD-take n rs i 0 l) ∙ ap (λ (ns : List ℕ). getD ns i 0) t
 
-  module _ {sv : Servers} (g : sv ≡ serversOf h figures) {n : ℕ} (tasks : n ≡ length figures) where
+  module _ {sv : Servers} (g : sv ≡ serversOf b figures) {n : ℕ} (tasks : n ≡ length figures) where
     count-is : sv .count ≡ serversIn placement
     unfolding sized
     count-is = ap (λ (s : Servers). s .count) g
@@ -81,10 +81,10 @@ module _ (h : Header) (figures : List Load) (few : length figures ≤ mostTasks)
     front-placement : take n (sv .placement) ≡ placement
     front-placement =
         ap (λ (k : ℕ). take k (sv .placement)) tasks ∙ ap (take (length figures)) placement-is
-        ∙ padded-take placement (length figures) (placement-length h figures)
+        ∙ padded-take placement (length figures) (placement-length b figures)
 
     -- the answer can be laid out
-    pub layable : Layable sv n (h .slot)
+    pub layable : Layable sv n (b .header .slot)
     layable = record {
       tasks-few = omega (arith, tasks);
       servers-few = omega (arith, count-is, count-few);
@@ -94,7 +94,7 @@ module _ (h : Header) (figures : List Load) (few : length figures ≤ mostTasks)
     }
 
     -- its layout is that of the placement and the reserves
-    pub laid-is : (cache : ℕ) → laidOut (h .slot) cache (take n (sv .placement)) (take (sv .count) (sv .reserve)) ≡ laidOut (h .slot) cache placement reserves
+    pub laid-is : (cache : ℕ) → laidOut (b .header .slot) cache (take n (sv .placement)) (take (sv .count) (sv .reserve)) ≡ laidOut (b .header .slot) cache placement reserves
     laid-is cache =
-        ap (λ (p : List ℕ). laidOut (h .slot) cache p (take (sv .count) (sv .reserve))) front-placement
-        ∙ ap (laidOut (h .slot) cache placement) front-reserves
+        ap (λ (p : List ℕ). laidOut (b .header .slot) cache p (take (sv .count) (sv .reserve))) front-placement
+        ∙ ap (laidOut (b .header .slot) cache placement) front-reserves

@@ -1,5 +1,7 @@
 // The planner: the plan that document 01 describes, or the first refusal and the all-zero plan.
 // What it means stands in specs/Planner.antt.
+use alonerow::first_alone;
+use byprocessor::by_processor;
 use layout::lay_out;
 use plan::plan::Plan;
 use refusals::Outcome;
@@ -17,25 +19,15 @@ ghost use Rattle.reserves.specs.Slotted.{SlottedFirst};
 ghost use Rattle.reserves.specs.Reserves.{processorsOf};
 ghost use Rattle.sizing.specs.Reserve.{serversOf};
 ghost use Rattle.setfigures.specs.Figures.{setFigures};
+ghost use Rattle.setfigures.specs.Board.{setBoard};
 ghost use Rattle.rows.specs.Rows.{horizonOf};
 ghost use Rattle.plan.specs.Plan.{zeroPlan};
-ghost use Rattle.planner.specs.Planner.{Clear, answer, planOf};
+ghost use Rattle.planner.specs.Planner.{Clear, Placeable, answer, planOf};
 
 // The plan stands first: what is compiled then holds it once (docs/SPEED.md).
 pub struct PlanAnswer {
     pub plan: Plan,
     pub outcome: Outcome,
-}
-
-// The servers of a set for which row 11 and rows 5 to 9 are clear, by the horizon that row 9 found.
-fn serve(set: TaskSet, horizon: u64) -> Servers
-    requires { ⌜ Clear set × (horizon ≡ horizonOf set) ⌝ }
-    ensures { λ r. ⌜ r ≡ serversOf (set .header) (setFigures set) ⌝ }
-{
-    let header = set.header;
-    let n = set.count;
-    let numbers = figures(set);
-    sizing::serve(header, &numbers, n, horizon)
 }
 
 // The processors that servers need: those of the ring, and one for each that has its own.
@@ -59,14 +51,13 @@ fn refused(refusal: Refusal) -> PlanAnswer
     }
 }
 
-// The plan of such a set, or row 10. No plan is laid where the board is full.
-fn planned(set: TaskSet, horizon: u64) -> PlanAnswer
-    requires { ⌜ Clear set × (horizon ≡ horizonOf set) ⌝ }
+// The plan of a set for which row 11, rows 5 to 9 and row 13 are clear, by its servers, or row 10. No plan is laid where the board is full.
+fn planned(set: TaskSet, served: Servers) -> PlanAnswer
+    requires { ⌜ Placeable set × (served ≡ serversOf (setBoard set) (setFigures set)) ⌝ }
     ensures { λ r. ⌜ r ≡ planOf set ⌝ }
 {
     let header = set.header;
     let slot = header.slot as u64;
-    let served = serve(set, horizon);
     let processors = processors_of(served, slot);
     if (header.processors as u64) < processors {
         return refused(Refusal::Full(processors as u8));
@@ -78,7 +69,25 @@ fn planned(set: TaskSet, horizon: u64) -> PlanAnswer
     }
 }
 
-// Row 11 first; then rows 5 to 10, each over all tasks before the next.
+// Row 13, then the plan or row 10, by the horizon that row 9 found. The figures and the interrupts by processor are worked out once.
+fn placed(set: TaskSet, horizon: u64) -> PlanAnswer
+    requires { ⌜ Clear set × (horizon ≡ horizonOf set) ⌝ }
+    ensures { λ r. ⌜ r ≡ planOf set ⌝ }
+{
+    let header = set.header;
+    let n = set.count;
+    let numbers = figures(set);
+    let interrupts = by_processor(set.interrupts, header.processors);
+    let end = 4 * set.interrupts.count;
+    let alone = first_alone(header, &numbers, n, &interrupts[..end], horizon);
+    if alone != 0 {
+        return refused(Refusal::Alone(alone as u8));
+    }
+    let served = sizing::serve(header, &numbers, n, &interrupts[..end], horizon);
+    planned(set, served)
+}
+
+// Row 11 first; then rows 5 to 9, 13 and 10, each over all tasks before the next.
 pub fn make(set: TaskSet) -> PlanAnswer
     ensures { λ r. ⌜ r ≡ planOf set ⌝ }
 {
@@ -88,6 +97,6 @@ pub fn make(set: TaskSet) -> PlanAnswer
     let rows = charged(set);
     match rows {
         Rows::Refused(refusal) => refused(refusal),
-        Rows::Clear(horizon) => planned(set, horizon),
+        Rows::Clear(horizon) => placed(set, horizon),
     }
 }

@@ -1,5 +1,6 @@
 // One server of a plan that is checked already: its record, and does it pass with a reserve.
 // What they mean stands in specs/Recorded.antt.
+use byprocessor::by_processor;
 use judging::judged;
 use layout::server_of;
 use plan::plan::Plan;
@@ -14,6 +15,7 @@ ghost use mathlib.Core.Bool.{true};
 ghost use Rattle.demand.specs.Supply.{Allowed};
 ghost use Rattle.loads.specs.Charge.{serverLoss};
 ghost use Rattle.members.specs.Server.{verdictFor};
+ghost use Rattle.setfigures.specs.Board.{setBoard};
 ghost use Rattle.plancheck.specs.Makes.{makes};
 ghost use Rattle.named.specs.Named.{isServer};
 ghost use Rattle.planserver.specs.Recorded.{serverIn, ownMembers, Recorded};
@@ -43,12 +45,23 @@ pub fn record_of(set: TaskSet, plan: Plan, server: u64) -> Server
 pub fn pass_judged(set: TaskSet, own: Server, reserve: u64) -> Verdict
     requires { ⌜ Recorded set own ⌝ }
     requires { ⌜ Allowed (set .header .slot) (serverLoss (set .header) (ownMembers set own)) reserve ⌝ }
-    ensures { λ r. ⌜ r ≡ verdictFor (set .header) (ownMembers set own) reserve ⌝ }
+    ensures { λ r. ⌜ r ≡ verdictFor (setBoard set) (ownMembers set own) reserve ⌝ }
 {
     let common = horizon(set);
     let numbers = figures(set);
     let header = set.header;
     let cache = own.cache;
     let k = own.count;
-    judged(header, cache, &numbers, &own.places, k, reserve, common)
+    let interrupts = by_processor(set.interrupts, header.processors);
+    let end = 4 * set.interrupts.count;
+    judged(
+        header,
+        cache,
+        &numbers,
+        &own.places,
+        k,
+        reserve,
+        &interrupts[..end],
+        common,
+    )
 }

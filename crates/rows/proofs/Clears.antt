@@ -1,49 +1,52 @@
 -- A set whose rows are clear: its tasks may be charged, its slot, overheads and horizon are within bounds.
 -- Assumes nothing.
-use Prim.Native.Nat.{ℕ, zero, suc, _^_, _≤_, _<_}
-use mathlib.Core.Path.{_≡_, refl, sym, ap}
-use mathlib.Core.Bool.{Bool, true, false, not, _&&_}
-use mathlib.Core.List.{List, [], _∷_, map}
+use Prim.Native.Nat.{ℕ, zero, suc, _^_, _≤_, _<_, _∣_}
+use mathlib.Core.Path.{_≡_, refl, sym, ap, subst, _∙_}
+use mathlib.Core.Bool.{true, false, not, _&&_}
+use mathlib.Core.List.{List, [], _∷_, _++_, map}
 use native.Mathlib.Omega.{arith}
-use borrow.Author.Tests.{leb-true, leb-false, ltb-false, lt-ltb, le-ltb, eqb-false, not-false}
+use borrow.Author.Tests.{leb-false, ltb-false, lt-ltb, le-ltb, eqb-false}
 use lib.Dec.{leb, ltb, eqb}
 use lib.ListN.{length, getD}
-use Rattle.laws.proofs.Tests.{clash, and-left, and-right, or-left, or-right}
+use Rattle.laws.proofs.Tests.{clash, or-left, or-right}
 use Rattle.refusals.specs.declared.Refusal.{Refusal}
 use Rattle.refusals.specs.declared.Refusal.the-variants.{Board, Range, Slot, Tight, Horizon}
 use Rattle.refusals.specs.declared.Outcome.{Outcome}
 use Rattle.refusals.specs.declared.Outcome.the-variants.{Done, Refused}
 use Rattle.refusals.proofs.FirstLaws.{done-refused, first-done, when-done}
-use Rattle.wholes.specs.Multiple.{leastMultipleOf, within}
+use Rattle.wholes.specs.Multiple.{leastMultipleOf, LeastMultipleOf, within}
 use Rattle.wholes.specs.declared.Multiple.the-variants.{Within, Past}
 use Rattle.wholes.proofs.WithinLaws.{within-value, past-value}
+use Rattle.wholes.proofs.MultipleLaws.{least-multiple-of, multiple-of-pos}
 use Rattle.demand.specs.Load.{Load, Sound, Meets, Every}
 use Rattle.verdict.specs.Verdict.{ownHorizon}
-use Rattle.verdict.proofs.Horizons.{own-some, own-periods}
+use Rattle.interrupting.specs.Interrupts.{Bound, EveryBound, boundNumbers}
 use Rattle.tasks.specs.declared.set.Header.{Header}
 use Rattle.tasks.specs.declared.set.Task.{Task}
 use Rattle.tasks.specs.declared.set.TaskSet.{TaskSet}
-use Rattle.tasks.specs.Set.{mostTasks, mostProcessors, longestPeriod, members, zeroTask, longestHorizon}
+use Rattle.tasks.specs.Set.{mostTasks, mostInterrupts, mostProcessors, longestPeriod, members, interruptsIn, zeroTask, longestHorizon}
 use Rattle.refusals.specs.First.{firstOf, when}
 use Rattle.frames.specs.Table.{widthsOf, widthOf, fieldsIn}
 use Rattle.frames.specs.declared.table.Frame.{Frame}
 use Rattle.tasks.specs.Values.{headerValues}
 use Rattle.taskask.proofs.Carried.{ask-header, header-fits}
 use Rattle.tasks.specs.Search.{firstTask, atTask}
-use Rattle.taskrows.specs.Rows.{boardRow, rangeRow, figuresOutcome}
+use Rattle.taskrows.specs.Rows.{boardRow, rangeRow, interruptRow, rangeAt, figuresOutcome}
 use Rattle.taskask.specs.Ask.{askRow}
 use Rattle.tasks.proofs.FirstLaws.{first-none}
 use Rattle.tasks.proofs.Firsts.{at-some}
 use Rattle.loads.specs.Charge.{figuresOf, chargedIn, Member, Overheads}
-use Rattle.members.specs.Server.{Timed, fits, Filed}
-use Rattle.members.proofs.HorizonLaws.{slot-divides}
+use Rattle.members.specs.Server.{SoundBoard, Timed, fits, Filed, Bounded}
 use Rattle.members.proofs.ServerLaws.{alone-fits}
 use Rattle.setfigures.specs.Figures.{setFigures, figureNumbers}
 use Rattle.rows.specs.declared.rows.Rows.{Rows}
 use Rattle.rows.specs.declared.rows.Rows.the-variants.{Clear}
 use Rattle.tightrows.specs.Rows.{slotRow, tightRow}
 use Rattle.rows.specs.Rows.{horizonOf, horizonRow, chargedOutcome, cleared, rowsOf, Chargeable, RowsClear}
+use Rattle.setfigures.specs.Board.{setInterrupts, setBoard}
 use Rattle.setfigures.proofs.FigureLaws.{figures-back, numbers-there}
+use Rattle.byprocessor.proofs.NumberLaws.{bounds-all}
+use Rattle.rows.proofs.InterruptLaws.{in-range, set-sound, set-bounded, interrupts-divide, loads-divide, all-positive}
 
 -- ---- a header and a task
 
@@ -55,34 +58,7 @@ board-slot h e =
 
 range-figures : (t : Task) → rangeRow t ≡ false → (1 ≤ t .cost) × (t .cost ≤ t .deadline) × (t .deadline ≤ t .period) × (t .period ≤ longestPeriod)
 unfolding rangeRow
-range-figures t e = (leb-true 1 (t .cost) (and-left a rest all), leb-true (t .cost) (t .deadline) (and-left b rest′ all′), leb-true (t .deadline) (t .period) (and-left d f all″), leb-true (t .period) longestPeriod (and-right d f all″))
-  where
-    a : Bool
-    a = leb 1 (t .cost)
-
-    b : Bool
-    b = leb (t .cost) (t .deadline)
-
-    d : Bool
-    d = leb (t .deadline) (t .period)
-
-    f : Bool
-    f = leb (t .period) longestPeriod
-
-    rest′ : Bool
-    rest′ = d && f
-
-    rest : Bool
-    rest = b && rest′
-
-    all : (a && rest) ≡ true
-    all = not-false (a && rest) e
-
-    all′ : rest ≡ true
-    all′ = and-right a rest all
-
-    all″ : rest′ ≡ true
-    all″ = and-right b rest′ all′
+range-figures t e = in-range (t .cost) (t .deadline) (t .period) e
 
 -- row 8 clear: release jitter below the deadline
 tight-early : (h : Header) (t : Task) → tightRow h t ≡ false → h .relj < t .deadline
@@ -128,17 +104,21 @@ module _ (set : TaskSet) where
   abbrev after-slot : Outcome
   after-slot = firstOf (atTask Tight tight-first) after-tight
 
-  figures-parts : figuresOutcome set ≡ Done → (boardRow (set .header) ≡ false) × (firstTask rangeRow (members set) ≡ 0)
+  abbrev interrupt-first : ℕ
+  interrupt-first = firstTask (interruptRow (set .header .processors)) (interruptsIn set)
+
+  figures-parts : figuresOutcome set ≡ Done → (boardRow (set .header) ≡ false) × (firstTask rangeRow (members set) ≡ 0) × (interrupt-first ≡ 0)
   unfolding figuresOutcome
   figures-parts e =
-      let p = first-done (when (boardRow (set .header)) Board) (atTask Range (firstTask rangeRow (members set))) e in
-      (when-done (boardRow (set .header)) Board (p .0), at-done Range (firstTask rangeRow (members set)) (p .1))
+      let p = first-done (when (boardRow (set .header)) Board) (firstOf (atTask Range (firstTask rangeRow (members set))) (atTask rangeAt interrupt-first)) e in
+      let q = first-done (atTask Range (firstTask rangeRow (members set))) (atTask rangeAt interrupt-first) (p .1) in
+      (when-done (boardRow (set .header)) Board (p .0), at-done Range (firstTask rangeRow (members set)) (q .0), at-done rangeAt interrupt-first (q .1))
 
   -- figures done, and the first tasks that rows 7 and 8 would name: rows 5, 6 and 8 are clear
-  pub chargeable : set .count ≤ mostTasks → figuresOutcome set ≡ Done → tight-first ≡ 0 → Chargeable set
-  chargeable few e t =
+  pub chargeable : set .count ≤ mostTasks → set .interrupts .count ≤ mostInterrupts → figuresOutcome set ≡ Done → tight-first ≡ 0 → Chargeable set
+  chargeable few few-interrupts e t =
       let p = figures-parts e in
-      record { few = few; board = p .0; range = p .1; tight = t }
+      record { few = few; few-interrupts = few-interrupts; board = p .0; range = p .1; interrupts = p .2; tight = t }
 
   -- rows 5 to 9, by the first that holds
   pub charged-figures : {r : Refusal} → figuresOutcome set ≡ Refused r → Rows.Refused r ≡ rowsOf set
@@ -197,6 +177,7 @@ module _ (set : TaskSet) where
       record {
         board = f .0;
         range = f .1;
+        interrupts = f .2;
         slot = at-done Slot slot-first (q .0);
         tight = at-done Tight tight-first (r .0);
         horizon = when-done (horizonRow set) Horizon (r .1);
@@ -223,50 +204,88 @@ module _ (set : TaskSet) where
         let f = range-figures t r in
         record { some = f .0; due = omega (arith, f .0, f .1); constrained = f .2 })
 
-    -- and alone it fits
-    pub figures-alone : Every (λ (l : Load). fits (set .header) (l ∷ []) ≡ true) (setFigures set)
-    figures-alone =
-        each (λ (l : Load). fits (set .header) (l ∷ []) ≡ true)
-        (λ t r g. alone-fits (set .header) (figuresOf t) (task-member (set .header) t r g) (board-slot (set .header) (ok .board)) (tight-meets (set .header) t g))
+    -- charged, its cost is at most its deadline
+    pub figures-meet : Every (λ (l : Load). Meets (chargedIn (set .header) (set .header .cpmdo) l)) (setFigures set)
+    figures-meet = each (λ (l : Load). Meets (chargedIn (set .header) (set .header .cpmdo) l)) (λ t r g. tight-meets (set .header) t g)
+
+    -- and alone it fits, where the set has no interrupts
+    pub figures-alone : setInterrupts set ≡ [] → Every (λ (l : Load). fits (setBoard set) (l ∷ []) ≡ true) (setFigures set)
+    figures-alone none =
+        each (λ (l : Load). fits (setBoard set) (l ∷ []) ≡ true)
+        (λ t r g.
+        ap (λ (bs : List Bound). fits (record { header = set .header; interrupts = bs }) (figuresOf t ∷ [])) none
+        ∙ alone-fits (set .header) (figuresOf t) (task-member (set .header) t r g) (board-slot (set .header) (ok .board)) (tight-meets (set .header) t g))
 
   -- the figures' periods are the tasks'
   same-periods : (ts : List Task) → map (λ (l : Load). l .period) (map figuresOf ts) ≡ map (λ (t : Task). t .period) ts
   same-periods [] = refl
   same-periods (t ∷ ts) = ap (λ (ns : List ℕ). t .period ∷ ns) (same-periods ts)
 
-  -- the horizon is that of the figures
-  pub horizon-of-figures : ownHorizon (set .header .slot) (setFigures set) ≡ horizonOf set
-  unfolding ownHorizon horizonOf setFigures
-  horizon-of-figures = ap (leastMultipleOf (set .header .slot)) (same-periods (members set))
+  -- the periods of the figures and of the interrupts, of which the horizon is the least common multiple with the slot
+  abbrev periods : List ℕ
+  periods = map (λ (l : Load). l .period) (setFigures set) ++ map (λ (b : Bound). b .load .period) (setInterrupts set)
+
+  horizon-is : leastMultipleOf (set .header .slot) periods ≡ horizonOf set
+  unfolding horizonOf setFigures
+  horizon-is = ap (λ (ns : List ℕ). leastMultipleOf (set .header .slot) (ns ++ map (λ (b : Bound). b .load .period) (setInterrupts set))) (same-periods (members set))
+
+  -- the horizon is that of the figures and the interrupts
+  pub horizon-of-figures : ownHorizon (set .header .slot) (setFigures set) (setInterrupts set) ≡ horizonOf set
+  unfolding ownHorizon
+  horizon-of-figures = horizon-is
+
+  -- so it is their least common multiple
+  pub horizon-least : LeastMultipleOf (set .header .slot) periods (horizonOf set)
+  horizon-least = subst (LeastMultipleOf (set .header .slot) periods) horizon-is (least-multiple-of (set .header .slot) periods)
+
+  -- the interrupts' periods divide it
+  pub interrupts-of-horizon : EveryBound (λ (b : Bound). b .load .period ∣ horizonOf set) (setInterrupts set)
+  interrupts-of-horizon = interrupts-divide (setFigures set) (setInterrupts set) (horizonOf set) (horizon-least .of-others)
 
   -- row 9 clear: it is at most the limit
   pub horizon-short : horizonRow set ≡ false → horizonOf set ≤ longestHorizon
   unfolding horizonRow
   horizon-short e = ltb-false longestHorizon (horizonOf set) e
 
-  -- the figures of a set whose rows are clear are a file's, with the set's horizon
-  pub set-filed : set .count ≤ length (set .tasks) → Chargeable set → horizonRow set ≡ false → Filed (set .header) (figureNumbers set) (set .count) (horizonOf set)
-  set-filed room ok e =
-      let own = horizon-of-figures in
+  own-filed : set .count ≤ length (set .tasks) → Chargeable set → horizonRow set ≡ false → Filed (set .header) (figureNumbers set) (set .count) (horizonOf set)
+  own-filed room ok e =
       let slot = board-slot (set .header) (ok .board) in
       record {
         there = numbers-there set room (ok .few);
         few = ok .few;
         members = rw (figures-back set room) (figures-members ok);
         slot = slot;
-        some = rw (← own) (own-some (setFigures set) (set .header .slot) (figures-sound ok) slot);
+        some = subst (λ (H : ℕ). 1 ≤ H) horizon-is (multiple-of-pos (set .header .slot) periods slot (all-positive (setFigures set) (setInterrupts set) (figures-sound ok) (set-sound set (ok .interrupts))));
         short = horizon-short e;
-        of-slot = rw (← own) (slot-divides (set .header .slot) (setFigures set));
-        of-periods = rw (figures-back set room, ← own) (own-periods (setFigures set) (set .header .slot));
+        of-slot = horizon-least .of-first;
+        of-periods = rw (figures-back set room) (loads-divide (setFigures set) (setInterrupts set) (horizonOf set) (horizon-least .of-others));
       }
 
-  -- what the horizon of the figures asks
-  pub set-timed : set .count ≤ length (set .tasks) → Chargeable set → Timed (figureNumbers set) (set .count) (set .header .slot)
+  -- what the horizon of the figures and the interrupts asks
+  pub set-timed : set .count ≤ length (set .tasks) → Chargeable set → Timed (figureNumbers set) (set .count) (boundNumbers (setInterrupts set)) (set .header .slot)
   set-timed room ok = record {
     there = numbers-there set room (ok .few);
     slot = board-slot (set .header) (ok .board);
     sound = rw (figures-back set room) (figures-sound ok);
+    sound-interrupts = subst (EveryBound (λ (b : Bound). Sound (b .load))) (sym (bounds-all (setInterrupts set))) (set-sound set (ok .interrupts));
   }
+
+  -- the board of its servers is sound
+  pub set-board : Chargeable set → SoundBoard (setBoard set)
+  set-board ok = record { slot = board-slot (set .header) (ok .board); sound = set-sound set (ok .interrupts) }
+
+  -- the figures of a set whose rows are clear are a file's, with the set's horizon
+  pub set-filed : set .count ≤ length (set .tasks) → Chargeable set → horizonRow set ≡ false →
+      {numbers : List ℕ} {H : ℕ} → numbers ≡ figureNumbers set → H ≡ horizonOf set → Filed (set .header) numbers (set .count) H
+  set-filed room ok e n h = rw (n, h) (own-filed room ok e)
+
+  own-bounded : set .interrupts .count ≤ length (set .interrupts .each) → Chargeable set → Bounded (set .header) (boundNumbers (setInterrupts set)) (horizonOf set)
+  own-bounded room ok = set-bounded set (ok .interrupts) (ok .few-interrupts) room interrupts-of-horizon
+
+  -- the interrupts' numbers may stand behind the loads of its servers
+  pub lent-bounded : set .interrupts .count ≤ length (set .interrupts .each) → Chargeable set →
+      {numbers : List ℕ} {H : ℕ} → numbers ≡ boundNumbers (setInterrupts set) → H ≡ horizonOf set → Bounded (set .header) numbers H
+  lent-bounded room ok n h = rw (n, h) (own-bounded room ok)
 
   -- ---- row 11: the slot and the overheads of a set that lines can carry
 

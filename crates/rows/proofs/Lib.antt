@@ -1,1 +1,3 @@
+pub mod InterruptLaws
 pub mod Clears
+pub mod FileOrder

@@ -2,17 +2,18 @@
 -- Assumes nothing.
 use Prim.Native.Nat.{ℕ, _+_, _*_, _≤_, _<_}
 use native.Mathlib.Omega.{arith}
-use mathlib.Core.Path.{_≡_, ap, _∙_}
+use mathlib.Core.Path.{_≡_, sym, ap, _∙_}
 use mathlib.Core.List.{List, map}
-use lib.ListN.{length, take, getD, replicate, length-map, length-replicate}
+use lib.ListN.{length, take, getD, replicate, length-map, length-replicate, List·getD-map}
 use Rattle.digits.specs.Stored.{stored}
 use Rattle.digits.proofs.Stored.{stored-length}
-use Rattle.demand.specs.Load.{Load, loadsOf}
+use Rattle.demand.specs.Load.{Load, loadAt, loadsOf}
 use Rattle.demand.proofs.Slices.{putLoad}
 use Rattle.tasks.specs.declared.set.Task.{Task}
 use Rattle.tasks.specs.declared.set.TaskSet.{TaskSet}
 use Rattle.tasks.specs.Set.{mostTasks, members, zeroTask}
-use Rattle.tasks.proofs.SetLaws.{members-length}
+use Rattle.tasks.proofs.SetLaws.{members-length, member-at}
+use Rattle.members.proofs.FiledLaws.{loads-at}
 use Rattle.loads.specs.Charge.{figuresOf, numbersOf}
 use Rattle.loads.proofs.NumberLaws.{numbers-length, put-numbers, loads-stored, taken-length, taken-more}
 use Rattle.setfigures.specs.Figures.{setFigures, figureNumbers}
@@ -39,6 +40,15 @@ module _ (set : TaskSet) (room : set .count ≤ length (set .tasks)) where
   pub figures-back : loadsOf (figureNumbers set) (set .count) ≡ setFigures set
   unfolding figureNumbers
   figures-back = loads-stored (replicate (3 * mostTasks) 0) (setFigures set) figures-length
+
+  -- those of task i
+  pub figures-at : (i : ℕ) → i < set .count → loadAt (figureNumbers set) i ≡ figuresOf (getD (set .tasks) i zeroTask)
+  unfolding setFigures
+  figures-at i l =
+      sym (loads-at (figureNumbers set) (set .count) i (figuresOf zeroTask) l)
+      ∙ ap (λ (ls : List Load). getD ls i (figuresOf zeroTask)) figures-back
+      ∙ List·getD-map figuresOf (members set) i zeroTask
+      ∙ ap figuresOf (member-at set i zeroTask l)
 
   pub numbers-there : set .count ≤ mostTasks → 3 * set .count ≤ length (figureNumbers set)
   unfolding figureNumbers

@@ -32,7 +32,7 @@ returns c = makes-refused _ _ (sym (ap (λ (a : PlanAnswer). a .outcome) (c .bef
 agree-requires : tie.Need-agree-requires
 agree-requires c κs =
     let s = c .before .before .before in
-    let clear = outcome-clear (s .args .set) (done c) .0 in
+    let clear = outcome-clear (s .args .set) (done c) .0 .clear in
     (omega (arith, count-most (s .args .set) (full s) clear), rw (made c) (made-room (s .args .set) (full s) (s .args .plan) clear))
 
 returns-2 : tie.Need-returns-2

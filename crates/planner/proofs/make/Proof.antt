@@ -1,8 +1,8 @@
--- `make` meets its contract: row 11 first, then rows 5 to 9, then row 10.
+-- `make` meets its contract: row 11 first, then rows 5 to 9, then rows 13 and 10.
 -- Assumes nothing.
 use mathlib.Core.Path.{sym, _∙_}
 use borrow.Author.Needs.{needs}
-use Rattle.taskask.proofs.Carried.{count-within, ask-count}
+use Rattle.taskask.proofs.Carried.{count-within, interrupts-within, ask-count}
 use Rattle.rows.proofs.Clears.{rows-clear, rows-refused}
 use Rattle.planner.proofs.Made.{plan-ask, plan-charged}
 use Rattle.planner.proofs.make.Statement.{statement}
@@ -12,10 +12,12 @@ returns : tie.Need-returns
 returns c = c .refused .ensures ∙ plan-ask _ (sym (c .before .before .asks .ensures) ∙ c .before .if1 .taken)
 
 charged-requires : tie.Need-charged-requires
-charged-requires c κs = count-within _ (ask-count _ (sym (c .before .asks .ensures) ∙ c .if1 .left)) .1
+charged-requires c κs =
+    let counts = ask-count _ (sym (c .before .asks .ensures) ∙ c .if1 .left) in
+    (count-within _ counts .1, interrupts-within _ counts)
 
-planned-requires : tie.Need-planned-requires
-planned-requires c κs =
+placed-requires : tie.Need-placed-requires
+placed-requires c κs =
     let clear = rows-clear _ (sym (c .before .before .before .charged .ensures) ∙ c .before .rows2 .given .1) in
     (record { carried = sym (c .before .before .before .before .before .asks .ensures) ∙ c .before .before .before .before .if1 .left; charged = clear .0 }, clear .1)
 
@@ -25,7 +27,7 @@ returns-2 c =
     ∙ plan-charged _ (sym (c .before .before .before .before .before .before .asks .ensures) ∙ c .before .before .before .before .before .if1 .left) (rows-refused _ (sym (c .before .before .before .before .charged .ensures) ∙ c .before .before .rows .given .1))
 
 returns-3 : tie.Need-returns-3
-returns-3 c = c .planned .ensures
+returns-3 c = c .placed .ensures
 
 pub make-spec : {M : Type 1} → statement M
 make-spec =
@@ -38,6 +40,6 @@ make-spec =
     (λ c. search needs)
     (λ c κs. search needs)
     (λ c. search needs)
-    planned-requires
+    placed-requires
     returns-2
     returns-3)

@@ -17,24 +17,24 @@ full c = sym (length-map (c .args .set .tasks) _) ∙ c .good .0 .1 .1 .1 .1 .0 
 
 processors-of-requires : tie.Need-processors-of-requires
 processors-of-requires c κs =
-    let s = c .before .before .before in
-    set-layable (s .args .set) (full s) (s .pre .0) (c .serve .ensures) .laid
+    let s = c .before .before in
+    set-layable (s .args .set) (full s) (s .pre .0) (s .pre .1) .laid
 
 -- once the processors are known
 module _ (c : tie.After-processors-of) where
   abbrev start : tie.Start
-  start = c .before .before .before .before
+  start = c .before .before .before
 
   -- they are those that the set needs
   sum : c .processors-of .result ≡ needed (start .args .set)
-  sum = c .processors-of .ensures ∙ set-needs (start .args .set) (full start) (start .pre .0) (c .before .serve .ensures)
+  sum = c .processors-of .ensures ∙ set-needs (start .args .set) (full start) (start .pre .0) (start .pre .1)
 
   -- and few
   few : needed (start .args .set) ≤ mostTasks
-  few = needed-few (start .args .set) (full start) (start .pre .0)
+  few = needed-few (start .args .set) (full start) (start .pre .0 .clear)
 
-cast-t10 : tie.Need-cast-t10
-cast-t10 c = let at = c .before .before in omega (arith, sum at, few at)
+cast-t9 : tie.Need-cast-t9
+cast-t9 c = let at = c .before .before in omega (arith, sum at, few at)
 
 returns : tie.Need-returns
 returns c =
@@ -47,7 +47,7 @@ lay-out-requires : tie.Need-lay-out-requires
 lay-out-requires c κs =
     let at = c .before .before .before in
     let s = start at in
-    set-layable (s .args .set) (full s) (s .pre .0) (at .before .serve .ensures)
+    set-layable (s .args .set) (full s) (s .pre .0) (s .pre .1)
 
 returns-2 : tie.Need-returns-2
 returns-2 c =
@@ -56,17 +56,16 @@ returns-2 c =
     let s = start at in
     let within : at .processors-of .result ≤ s .args .set .header .processors = omega (arith, left .if1 .left) in
     plan-done (s .args .set) (s .pre .0) (full-clear (s .args .set) (sum at) within)
-    (c .lay-out .ensures ∙ set-laid (s .args .set) (full s) (s .pre .0) (at .before .serve .ensures))
+    (c .lay-out .ensures ∙ set-laid (s .args .set) (full s) (s .pre .0) (s .pre .1))
 
 pub planned-spec : {M : Type 1} → statement M
 planned-spec =
     tie.close
     (tie.spec
     (λ c. search needs)
-    (λ c κs. search needs)
     processors-of-requires
     (λ c. search needs)
-    cast-t10
+    cast-t9
     (λ c κs. search needs)
     returns
     (λ c. search needs)

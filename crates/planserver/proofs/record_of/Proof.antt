@@ -23,6 +23,9 @@ room s = sym (length-map (s .args .plan .server) _) ∙ s .good .1 .0 .1 .1 .1 .
 placed : (s : tie.Start) → length (s .args .plan .placement) ≡ mostTasks
 placed s = sym (length-map (s .args .plan .placement) _) ∙ s .good .1 .0 .1 .1 .1 .1 .1 .1 .1 .1 .0 .1 .0 .1
 
+slice-aggregate-server-of : tie.Need-slice-aggregate-server-of
+slice-aggregate-server-of c = sym (placed (c .before .before .before .before))
+
 server-of-requires : tie.Need-server-of-requires
 server-of-requires c κs =
     let rows = c .before .before in
@@ -44,7 +47,7 @@ record-of-spec =
     (tie.spec
     (λ c. search needs)
     (λ c κs. search needs)
-    (λ c. search needs)
+    slice-aggregate-server-of
     (λ c. search needs)
     server-of-requires
     returns)

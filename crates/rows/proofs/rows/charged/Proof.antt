@@ -20,7 +20,7 @@ use Rattle.rows.proofs.rows.charged.Tie as tie
 few : (c : tie.Start) → length (members (c .args .set)) ≤ mostTasks
 few c =
     let full = sym (length-map (c .args .set .tasks) _) ∙ c .good .0 .1 .1 .1 .1 .0 .1 .0 .1 in
-    omega (arith, c .pre, members-length (c .args .set) (omega (arith, c .pre, full)))
+    omega (arith, c .pre .0, members-length (c .args .set) (omega (arith, c .pre .0, full)))
 
 -- rows 5 and 6 were tried, and are clear
 figured : (c : tie.After-enum-told) → figuresOutcome (c .before .before .before .args .set) ≡ Done
@@ -43,7 +43,9 @@ returns-3 c =
     charged-tight _ (figured (c .before .before .before .before)) (sym (c .before .before .before .first-broken .ensures) ∙ c .before .before .if1 .left) (c .before .first-broken2 .ensures) (c .if2 .taken)
 
 horizon-within-requires : tie.Need-horizon-within-requires
-horizon-within-requires c κs = chargeable _ (c .before .before .before .before .before .before .before .pre) (figured (c .before .before .before .before)) (sym (c .before .first-broken2 .ensures) ∙ c .if2 .left)
+horizon-within-requires c κs =
+    let s = c .before .before .before .before .before .before .before in
+    chargeable _ (s .pre .0) (s .pre .1) (figured (c .before .before .before .before)) (sym (c .before .first-broken2 .ensures) ∙ c .if2 .left)
 
 -- rows 7 and 8 were tried, and are clear
 module _ (c : tie.After-horizon-within) where

@@ -1,0 +1,159 @@
+-- The horizon of a set by its interrupts in file order: the same numbers divide it as by processor.
+-- Assumes nothing.
+use Prim.Native.Nat.{ℕ, zero, suc, _+_, _*_, _/_, _≤_, _<_, _∣_}
+use mathlib.Core.Path.{_≡_, sym, ap, ap₂, subst, _∙_}
+use mathlib.Core.List.{List, [], _∷_, map}
+use native.Mathlib.Omega.{arith}
+use native.Mathlib.Nat.{dvd-antisymm}
+use native.Mathlib.Decide.{ℕ-discrete}
+use lib.ListN.{length, getD, set as put, replicate, length-set, length-replicate}
+use lib.Seq.{getD-take, getD-set-same, getD-set-other}
+use Rattle.wholes.specs.Multiple.{Divide, leastMultipleOf, within}
+use Rattle.wholes.specs.declared.Multiple.the-variants.{Within, Past}
+use Rattle.wholes.proofs.MultipleLaws.{multiple-of-divides, multiple-of-pos, first-divides-of, others-divide-of}
+use Rattle.demand.specs.Load.{Load, loadsOf}
+use Rattle.interrupting.specs.Interrupts.{Bound, EveryBound, boundNumbers}
+use Rattle.interrupting.proofs.BoundLaws.{bounds-map}
+use Rattle.verdict.specs.Verdict.{ownHorizon}
+use Rattle.tasks.specs.declared.set.Interrupt.{Interrupt}
+use Rattle.tasks.specs.declared.set.TaskSet.{TaskSet}
+use Rattle.tasks.specs.Set.{mostInterrupts, interruptsIn, zeroInterrupt, longestHorizon}
+use Rattle.members.specs.Server.{Board, boardOf, spaced, Apart, Timed}
+use Rattle.members.proofs.SpacedLaws.{spaced-length, spaced-at, spaced-bounds}
+use Rattle.members.proofs.HorizonLaws.{loads-apart, loads-past, loads-within, bounds-passed}
+use Rattle.byprocessor.proofs.GroupLaws.{Each, by-each, by-every}
+use Rattle.byprocessor.proofs.NumberLaws.{bounds-all}
+use Rattle.setfigures.specs.Figures.{figureNumbers}
+use Rattle.setfigures.specs.Board.{setInterrupts}
+use Rattle.setfigures.proofs.FigureLaws.{figures-back}
+use Rattle.setfigures.proofs.BoardLaws.{counted-length, board-back}
+use Rattle.rows.specs.Rows.{horizonOf, Chargeable, PeriodsOf}
+use Rattle.rows.proofs.InterruptLaws.{each-ranged, each-on, bounds-divide}
+use Rattle.rows.proofs.Clears.{set-timed, horizon-of-figures}
+
+-- ---- the periods, place by place
+
+-- those of the first i interrupts stand at the front
+pub record PeriodsTo (is : List Interrupt) (i : ℕ) (numbers : List ℕ) : Type 0 where
+  pub long : length numbers ≡ mostInterrupts
+  pub each : (k : ℕ) → k < i → getD numbers k 0 ≡ getD is k zeroInterrupt .period
+
+pub periods-none : (is : List Interrupt) → PeriodsTo is 0 (replicate mostInterrupts 0)
+periods-none is = record { long = length-replicate {A = ℕ} mostInterrupts 0; each = λ k l. absurd (omega arith) }
+
+-- one more
+pub periods-next : {is : List Interrupt} {i : ℕ} {numbers : List ℕ} {v : ℕ} → PeriodsTo is i numbers → i < mostInterrupts → v ≡ getD is i zeroInterrupt .period →
+    PeriodsTo is (i + 1) (put numbers i v)
+periods-next {is} {i} {numbers} {v} before l e = record {
+  long = length-set numbers i v ∙ before .long;
+  each = λ k h. elim (ℕ-discrete k i) [
+    | yes same ↦
+        ap (λ (j : ℕ). getD (put numbers i v) j 0) same ∙ getD-set-same numbers i v 0 (omega (arith, before .long)) ∙ e
+        ∙ ap (λ (j : ℕ). getD is j zeroInterrupt .period) (sym same)
+    | no other ↦ getD-set-other numbers i k v 0 other ∙ before .each k (omega (arith, other))
+  ];
+}
+
+-- ---- numbers of which the same are multiples
+
+half : (a : ℕ) (bs cs : List ℕ) → ((n : ℕ) → Divide cs n → Divide bs n) → leastMultipleOf a bs ∣ leastMultipleOf a cs
+half a bs cs f = multiple-of-divides a bs (leastMultipleOf a cs) (first-divides-of a cs) (f (leastMultipleOf a cs) (others-divide-of a cs))
+
+-- lists of which the same numbers are multiples have one least common multiple
+same-multiple : (a : ℕ) (bs cs : List ℕ) → ((n : ℕ) → Divide bs n → Divide cs n) → ((n : ℕ) → Divide cs n → Divide bs n) → leastMultipleOf a bs ≡ leastMultipleOf a cs
+same-multiple a bs cs f g = dvd-antisymm (half a bs cs g) (half a cs bs f)
+
+divide-bounds : (bs : List Bound) (H : ℕ) → EveryBound (λ (b : Bound). b .load .period ∣ H) bs → Divide (map (λ (b : Bound). b .load .period) bs) H
+divide-bounds [] H d i l = absurd (omega arith)
+divide-bounds (b ∷ bs) H d zero l = d .0
+divide-bounds (b ∷ bs) H d (suc i) l = divide-bounds bs H (d .1) i (omega arith)
+
+-- ---- of a set
+
+module _ (set : TaskSet) (room : set .count ≤ length (set .tasks)) (interrupts-room : set .interrupts .count ≤ length (set .interrupts .each)) (ok : Chargeable set) where
+  abbrev count : ℕ
+  count = set .interrupts .count
+
+  abbrev timed : Timed (figureNumbers set) (set .count) (boundNumbers (setInterrupts set)) (set .header .slot)
+  timed = set-timed set room ok
+
+  -- the horizon of the tasks alone
+  abbrev of-tasks : ℕ
+  of-tasks = leastMultipleOf (set .header .slot) (spaced (figureNumbers set) 2 3 (set .count))
+
+  -- the horizon of the figures and of the interrupts' numbers is the set's
+  own-is : within longestHorizon (ownHorizon (set .header .slot) (loadsOf (figureNumbers set) (set .count)) (boardOf (set .header) (boundNumbers (setInterrupts set)) .interrupts)) ≡ within longestHorizon (horizonOf set)
+  own-is =
+      ap₂ (λ (ls : List Load) (d : Board). within longestHorizon (ownHorizon (set .header .slot) ls (d .interrupts))) (figures-back set room) (board-back set)
+      ∙ ap (within longestHorizon) (horizon-of-figures set)
+
+  module _ {figures : List ℕ} (f : figures ≡ figureNumbers set) where
+    pub tasks-apart : Apart figures 2 3 (set .count) (set .header .slot)
+    tasks-apart = rw f (loads-apart timed)
+
+    tasks-is : within longestHorizon (leastMultipleOf (set .header .slot) (spaced figures 2 3 (set .count))) ≡ within longestHorizon of-tasks
+    tasks-is = ap (λ (ns : List ℕ). within longestHorizon (leastMultipleOf (set .header .slot) (spaced ns 2 3 (set .count)))) f
+
+    -- past the limit after the tasks' periods is past it after all
+    pub tasks-past : within longestHorizon (leastMultipleOf (set .header .slot) (spaced figures 2 3 (set .count))) ≡ Past → Past ≡ within longestHorizon (horizonOf set)
+    tasks-past p = loads-past timed longestHorizon (sym tasks-is ∙ p) ∙ own-is
+
+    pub tasks-within : {own : ℕ} → within longestHorizon (leastMultipleOf (set .header .slot) (spaced figures 2 3 (set .count))) ≡ Within own → own ≡ of-tasks
+    tasks-within p = loads-within timed longestHorizon (sym tasks-is ∙ p)
+
+  counted-below : {k : ℕ} → k < length (interruptsIn set) → k < count
+  counted-below l = omega (arith, counted-length set interrupts-room)
+
+  module _ (numbers : List ℕ) (p : PeriodsOf (set .interrupts) numbers) where
+    abbrev in-order : List ℕ
+    in-order = spaced numbers 0 1 count
+
+    -- number k is the period of interrupt k
+    period-at : (k : ℕ) → k < count → getD in-order k 0 ≡ getD (interruptsIn set) k zeroInterrupt .period
+    period-at k l =
+        spaced-at numbers 0 1 count k l
+        ∙ ap (λ (j : ℕ). getD numbers j 0) (let here : 0 + 1 * k ≡ k = omega arith in here)
+        ∙ p k l
+        ∙ ap (λ (i : Interrupt). i .period) (sym (getD-take count (set .interrupts .each) k zeroInterrupt l))
+
+    below-counted : {k : ℕ} → k < length in-order → k < length (interruptsIn set)
+    below-counted l = omega (arith, spaced-length numbers 0 1 count, counted-length set interrupts-room)
+
+    to-processors : (n : ℕ) → Divide in-order n → Divide (map (λ (b : Bound). b .load .period) (setInterrupts set)) n
+    unfolding setInterrupts
+    to-processors n d =
+        divide-bounds (setInterrupts set) n
+        (bounds-map (λ (b : Bound). (b .load .period ∣ n) × (1 ≤ b .processor) × (b .processor ≤ set .header .processors)) (λ (b : Bound). b .load .period ∣ n) (setInterrupts set) (λ b x. x .0)
+        (by-each (λ (i : Interrupt). i .period ∣ n) (λ (b : Bound). b .load .period ∣ n) (λ i x. x) (set .header .processors) (interruptsIn set) each))
+      where
+        each : Each (λ (i : Interrupt). i .period ∣ n) (interruptsIn set)
+        each k l =
+            let below : k < count = counted-below l in
+            subst (λ (t : ℕ). t ∣ n) (period-at k below) (d k (omega (arith, spaced-length numbers 0 1 count)))
+
+    to-file : (n : ℕ) → Divide (map (λ (b : Bound). b .load .period) (setInterrupts set)) n → Divide in-order n
+    unfolding setInterrupts
+    to-file n d k l =
+        let here : k < length (interruptsIn set) = below-counted l in
+        subst (λ (t : ℕ). t ∣ n) (sym (period-at k (counted-below here)))
+        (by-every (λ (b : Bound). b .load .period ∣ n) (set .header .processors) (interruptsIn set) (each-on set (ok .interrupts)) (bounds-divide (setInterrupts set) n d) k here)
+
+    module _ {own : ℕ} (e : own ≡ of-tasks) where
+      -- the interrupts' periods may go on from there
+      pub periods-apart : mostInterrupts ≤ length numbers → Apart numbers 0 1 count own
+      periods-apart long = record {
+        there = λ i l. omega (arith, ok .few-interrupts);
+        some = omega (arith, e, multiple-of-pos (set .header .slot) (spaced (figureNumbers set) 2 3 (set .count)) (timed .slot) (loads-apart timed .positive));
+        positive = λ k l.
+            let i = each-ranged set (ok .interrupts) k (below-counted l) in
+            omega (arith, period-at k (counted-below (below-counted l)), i .some, i .meets, i .constrained);
+      }
+
+      -- and come to the horizon
+      pub periods-passed : within longestHorizon (leastMultipleOf own in-order) ≡ within longestHorizon (horizonOf set)
+      periods-passed =
+          ap (within longestHorizon)
+          (same-multiple own in-order (map (λ (b : Bound). b .load .period) (setInterrupts set)) to-processors to-file
+          ∙ ap (leastMultipleOf own) (sym (spaced-bounds (boundNumbers (setInterrupts set)) (length (boundNumbers (setInterrupts set)) / 4) ∙ ap (map (λ (b : Bound). b .load .period)) (bounds-all (setInterrupts set)))))
+          ∙ bounds-passed timed longestHorizon e
+          ∙ own-is
