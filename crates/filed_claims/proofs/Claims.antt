@@ -1,33 +1,40 @@
 -- Each claim of specs/Claims.antt, proved.
 -- Assumes nothing.
-use Prim.Native.Nat.{ℕ, _-_, _≤_, _∣_}
-use mathlib.Core.Path.{_≡_, ap₂, sym, _∙_}
+use Prim.Native.Nat.{ℕ, _+_, _-_, _≤_, _∣_}
+use mathlib.Core.Path.{_≡_, refl, ap, ap₂, subst, sym, _∙_}
 use mathlib.Core.Bool.{true}
+use mathlib.Core.List.{List, _++_, map}
 use native.Mathlib.Omega.{arith}
 use lib.ListN.{length, take}
 use Rattle.refusals.specs.declared.Outcome.{Outcome}
+use Rattle.wholes.specs.Multiple.{LeastMultipleOf}
 use Rattle.wholes.proofs.Claims.{multiple-of-means}
 use Rattle.demand.specs.Load.{Load, Sound, Every}
 use Rattle.demand.specs.Passes.{Passes}
-use Rattle.masking.proofs.MaskedLaws.{masked-in, masked-outside, masked-equal, masked-lawful}
+use Rattle.interrupting.specs.Interrupts.{Bound, EveryBound, greatest}
+use Rattle.masking.proofs.MaskedLaws.{masked-in, masked-outside, masked-equal}
 use Rattle.verdict.specs.Reserve.{Smallest}
 use Rattle.verdict.specs.declared.answer.Verdict.{Verdict}
-use Rattle.verdict.proofs.Horizons.{own-some, own-periods}
 use Rattle.verdict.proofs.Tells.{passes-told, told-within}
+use Rattle.tasks.specs.declared.set.Interrupt.{Interrupt}
+use Rattle.tasks.specs.declared.set.Task.{Task}
 use Rattle.tasks.specs.declared.set.TaskSet.{TaskSet}
-use Rattle.tasks.specs.Set.{mostTasks, maskedTicks, zeroTask}
+use Rattle.tasks.specs.Set.{mostTasks, maskedTicks, members as set-members, interruptsIn, zeroTask}
 use Rattle.loads.specs.Charge.{figuresOf, Member}
 use Rattle.loads.proofs.ChargeLaws.{loads-many, loads-sound, loads-period}
 use Rattle.servers.specs.Placement.{placementOf}
 use Rattle.members.proofs.FiledLaws.{every-chosen}
+use Rattle.byprocessor.specs.Interrupts.{byProcessor}
 use Rattle.setfigures.specs.Figures.{setFigures}
-use Rattle.rows.specs.Rows.{horizonOf}
+use Rattle.setfigures.specs.Board.{setInterrupts, setBoard}
+use Rattle.rows.specs.Rows.{horizonOf, Chargeable}
 use Rattle.setfigures.proofs.FigureLaws.{figures-length}
-use Rattle.rows.proofs.Clears.{figures-sound, horizon-of-figures, horizon-short}
+use Rattle.rows.proofs.InterruptLaws.{each-on, set-sound, loads-divide}
+use Rattle.rows.proofs.Clears.{horizon-least, horizon-short, interrupts-of-horizon, set-filed}
 use Rattle.plan.specs.declared.plan.Plan.{Plan}
 use Rattle.plan.specs.Plan.{serverAt}
 use Rattle.layout.specs.Made.{setPlacement}
-use Rattle.planner.proofs.Made.{rows-clear, fits, may-charge, members, slot-some}
+use Rattle.planner.proofs.Made.{rows-clear, fits, may-charge, members, sound as board, slot-some}
 use Rattle.plancheck.specs.Makes.{makes}
 use Rattle.plancheck.proofs.Checked.{OfSet, of-set}
 use Rattle.named.specs.Named.{isServer}
@@ -36,12 +43,13 @@ use Rattle.plan_claims.specs.Claims.{membersIn, allowedIn}
 use Rattle.plan_claims.proofs.Claims.{plan-checked, who-answers, pass-answers}
 use Rattle.planfile_claims.proofs.Claims.{text-tells-plan, nothing-cut-off}
 use Rattle.promises.proofs.Claims.{accepted-stands, plan-is-rota, printed-rota}
-use Rattle.filed_claims.specs.Claims.{setIn, planIn, demandIn, lossIn, loadsIn, PlacedFirst, ReportSmallest, HorizonEnough, ClosestAt, yesAt, FileFull, FileFirstFit, FileSmallest, FileReport, FileMasked, FileHorizon, FileChecked, FileStands, FileIsRota, FilePrintedRota, FileQuestions, FileClosest, FileCutsNothing, FileTellsPlan, RoomNeverShows}
-use Rattle.filed_claims.proofs.FiledLaws.{filed-full, filed-made, filed-printed, filed-who, filed-pass}
+use Rattle.filed_claims.specs.Claims.{setIn, planIn, demandIn, lossIn, loadsIn, PlacedFirst, ReportSmallest, GreatestOf, HorizonEnough, ClosestAt, yesAt, FileFull, FileFirstFit, FileSmallest, FileReport, FileMasked, FileInterrupts, FileNeverAlone, FileHorizon, FileChecked, FileStands, FileIsRota, FilePrintedRota, FileQuestions, FileClosest, FileCutsNothing, FileTellsPlan, RoomNeverShows}
+use Rattle.filed_claims.proofs.FiledLaws.{board-some, filed-full, filed-made, filed-interrupts, filed-never, filed-printed, filed-who, filed-pass}
 use Rattle.filed_claims.proofs.FirstLaws.{row-goes}
 use Rattle.filed_claims.proofs.ReportLaws.{by-report}
-use Rattle.filed_claims.proofs.StepLaws.{steps-pass, masked-step, none-closer, earlier-wider}
-use Rattle.filed_claims.proofs.MaskedLaws.{masked-alone, unmasked-rises}
+use Rattle.filed_claims.proofs.InterruptLaws.{greatest-is, by-on, least-in-order}
+use Rattle.filed_claims.proofs.StepLaws.{asks-lawful, steps-pass, asks-step, none-closer, earlier-wider}
+use Rattle.filed_claims.proofs.MaskedLaws.{masked-alone, asks-rises}
 use Rattle.filed_claims.proofs.ShownLaws.{text-same, set-written-same, plan-text-same, plan-written-same}
 
 -- a plan that the planner makes of a set that has all its places
@@ -52,14 +60,14 @@ module _ (set : TaskSet) (plan : Plan) (full : length (set .tasks) ≡ mostTasks
   slot : 1 ≤ set .header .slot
   slot = slot-some set full (known .clear)
 
-  placed-same : take (set .count) (plan .placement) ≡ placementOf (set .header) (setFigures set)
+  placed-same : take (set .count) (plan .placement) ≡ placementOf (setBoard set) (setFigures set)
   unfolding setPlacement
   placed-same = known .placement
 
   -- its tasks are placed by first fit
   placed-first : (k : ℕ) → 1 ≤ k → k ≤ set .count → PlacedFirst set plan k
   placed-first k some there =
-      row-goes (set .header) (setFigures set) slot (members set full (known .clear)) (k - 1) (figuresOf zeroTask)
+      row-goes (setBoard set) (setFigures set) (board set full (known .clear)) (members set full (known .clear)) (k - 1) (figuresOf zeroTask)
       (omega (arith, figures-length set (fits set full (known .clear)))) (plan .placement) (set .count) (omega arith) placed-same
 
   -- what holds of every figure holds of those of a server
@@ -67,6 +75,17 @@ module _ (set : TaskSet) (plan : Plan) (full : length (set .tasks) ≡ mostTasks
   sound q =
       loads-sound (set .header) (membersIn set plan q)
       (every-chosen (Member (set .header)) (setFigures set) (take (set .count) (plan .placement)) q (members set full (known .clear)))
+
+  -- the interrupts are sound, and stand on the board's processors
+  chargeable : Chargeable set
+  chargeable = may-charge set full (known .clear)
+
+  bound : EveryBound (λ (b : Bound). Sound (b .load)) (setInterrupts set)
+  bound = set-sound set (chargeable .interrupts)
+
+  on : EveryBound (λ (b : Bound). (1 ≤ b .processor) × (b .processor ≤ set .header .processors)) (setInterrupts set)
+  unfolding setInterrupts
+  on = by-on (set .header .processors) (interruptsIn set)
 
   -- its reserves are the smallest
   smallest : (q : ℕ) → 1 ≤ q → q ≤ plan .servers → Smallest (demandIn set plan q) (set .header .slot) (lossIn set plan q) (serverAt plan q .reserve)
@@ -77,28 +96,33 @@ module _ (set : TaskSet) (plan : Plan) (full : length (set .tasks) ≡ mostTasks
       ReportSmallest (demandIn set plan q) (set .header .slot) (lossIn set plan q) (serverAt plan q .reserve)
   report unmasked q some there =
       by-report (demandIn set plan q) (set .header .slot) (lossIn set plan q) (serverAt plan q .reserve)
-      (unmasked-rises (maskedTicks (set .header)) (loadsIn set plan q) unmasked (sound q)) (smallest q some there)
+      (asks-rises (maskedTicks (set .header)) (loadsIn set plan q) (set .header .processors) (setInterrupts set) unmasked (sound q) bound) (smallest q some there)
 
   -- the set's horizon is a multiple of the periods of a server
   horizon-some : 1 ≤ horizonOf set
-  horizon-some = rw (← horizon-of-figures set) (own-some (setFigures set) (set .header .slot) (figures-sound set (may-charge set full (known .clear))) slot)
+  horizon-some = set-filed set (fits set full (known .clear)) chargeable (rows-clear set full (known .clear) .horizon) refl refl .some
 
   periods : Every (λ (l : Load). l .period ∣ horizonOf set) (setFigures set)
-  periods = rw (← horizon-of-figures set) (own-periods (setFigures set) (set .header .slot))
+  periods = loads-divide (setFigures set) (setInterrupts set) (horizonOf set) (horizon-least set .of-others)
 
   divides : (q : ℕ) → Every (λ (l : Load). l .period ∣ horizonOf set) (loadsIn set plan q)
   divides q =
       loads-period (set .header) (membersIn set plan q) (λ (p : ℕ). p ∣ horizonOf set)
       (every-chosen (λ (l : Load). l .period ∣ horizonOf set) (setFigures set) (take (set .count) (plan .placement)) q periods)
 
+  in-file-order : LeastMultipleOf (set .header .slot) (map (λ (t : Task). t .period) (set-members set) ++ map (λ (i : Interrupt). i .period) (interruptsIn set)) (horizonOf set)
+  unfolding horizonOf setInterrupts
+  in-file-order =
+      least-in-order (set .header .slot) (map (λ (t : Task). t .period) (set-members set)) (set .header .processors) (interruptsIn set) (horizonOf set)
+      (each-on set (chargeable .interrupts)) (multiple-of-means .is (set .header .slot) _)
+
   -- so it decides
   enough : HorizonEnough set plan
-  unfolding horizonOf
   enough = record {
-    multiple = multiple-of-means .is (set .header .slot) _;
+    multiple = in-file-order;
     short = horizon-short set (rows-clear set full (known .clear) .horizon);
     decides = λ q R some there.
-        let d = steps-pass (maskedTicks (set .header)) (loadsIn set plan q) (set .header .slot) (lossIn set plan q) R (horizonOf set) slot horizon-some (sound q) (divides q) in
+        let d = steps-pass (maskedTicks (set .header)) (loadsIn set plan q) (set .header .processors) (setInterrupts set) (sound q) bound (set .header .slot) (lossIn set plan q) R (horizonOf set) slot horizon-some (divides q) (interrupts-of-horizon set) in
         (λ passes t p h step. d .0 passes t p (omega (arith, h)) step, λ at-steps. d .1 (λ t p h step. at-steps t p (omega (arith, h)) step));
   }
 
@@ -108,6 +132,8 @@ module _ (set : TaskSet) (plan : Plan) (full : length (set .tasks) ≡ mostTasks
   close q R server allowed passes =
       let ls = loadsIn set plan q in
       let B = maskedTicks (set .header) in
+      let m = set .header .processors in
+      let bs = setInterrupts set in
       let S = set .header .slot in
       let L = lossIn set plan q in
       let answers = pass-answers set plan q R full made server allowed in
@@ -116,10 +142,10 @@ module _ (set : TaskSet) (plan : Plan) (full : length (set .tasks) ≡ mostTasks
       let c = told .1 in (
         t,
         record {
-          step = masked-step B ls (sound q) t (c .steps);
-          within = told-within (demandIn set plan q) (horizonOf set) S L R t (masked-lawful B ls (horizonOf set) (sound q) horizon-some (divides q)) slot passes c;
-          least = none-closer B ls (sound q) S L R t slot c;
-          first = earlier-wider B ls (sound q) S L R t slot c;
+          step = asks-step B ls m bs (sound q) bound t (c .steps);
+          within = told-within (demandIn set plan q) (horizonOf set) S L R t (asks-lawful B ls m bs (sound q) bound (horizonOf set) horizon-some (divides q) (interrupts-of-horizon set)) slot passes c;
+          least = none-closer B ls m bs (sound q) bound on S L R t slot c;
+          first = earlier-wider B ls m bs (sound q) bound on S L R t slot c;
         },
         ap₂ (λ (o : Outcome) (v : Verdict). record { outcome = o; verdict = v }) (answers .done) (told .2),
       )
@@ -141,12 +167,28 @@ file-masked text ok q some there =
     let h = setIn text .header in
     let ms = membersIn (setIn text) (planIn text) q in
     let ls = loadsIn (setIn text) (planIn text) q in
+    let g = greatest (h .processors) (setInterrupts (setIn text)) in
     record {
-      inside = masked-in (maskedTicks h) ls;
-      outside = masked-outside (maskedTicks h) ls;
-      one = λ e t. masked-alone (maskedTicks h) ls t (loads-many h ms ∙ e);
-      equal = λ d e t. masked-equal (maskedTicks h) ls t d e;
+      inside = λ t from until. omega (arith, masked-in (maskedTicks h) ls t from until);
+      outside = λ t out. ap (λ (n : ℕ). n + g t) (masked-outside (maskedTicks h) ls t out);
+      one = λ e t. ap (λ (n : ℕ). n + g t) (masked-alone (maskedTicks h) ls t (loads-many h ms ∙ e));
+      equal = λ d e t. ap (λ (n : ℕ). n + g t) (masked-equal (maskedTicks h) ls t d e);
     }
+
+pub file-interrupts : FileInterrupts
+unfolding setInterrupts
+file-interrupts text ok q t =
+    let set = setIn text in
+    let known = of-set set (filed-full text) (planIn text) (filed-made text ok) in
+    let m = set .header .processors in (
+      greatest m (byProcessor m (interruptsIn set)) t,
+      subst (λ (is : List Interrupt). GreatestOf m is t (greatest m (byProcessor m (interruptsIn set)) t)) (filed-interrupts text ok)
+          (greatest-is m (interruptsIn set) t (board-some (set .header) (rows-clear set (filed-full text) (known .clear) .board))),
+      refl,
+    )
+
+pub file-never-alone : FileNeverAlone
+file-never-alone text k none e = filed-never text k none e
 
 pub file-horizon : FileHorizon
 file-horizon text ok = enough (setIn text) (planIn text) (filed-full text) (filed-made text ok)

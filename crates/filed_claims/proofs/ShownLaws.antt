@@ -55,11 +55,11 @@ module _ (a b : TaskSet) (s : SameSet a b) where
 
   pub text-same : textOf a ≡ textOf b
   unfolding textOf
-  text-same = rw (s .header, s .tasks)
+  text-same = rw (s .header, s .tasks, s .interrupts)
 
   asks-same : writerAsks a ≡ writerAsks b
   unfolding writerAsks askRow countRow
-  asks-same = rw (s .tasks, s .header, s .count)
+  asks-same = rw (s .tasks, s .interrupts, s .header, s .count, s .interrupt-count)
 
   pub set-written-same : (buffer : List ℕ) → writeOf a buffer ≡ writeOf b buffer
   unfolding writeOf

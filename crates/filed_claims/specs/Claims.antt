@@ -1,25 +1,30 @@
 -- What holds of the plan of every accepted task file, each claim as a type: nothing is asked but that the file is accepted. And that
 -- unused room never shows. The proofs stand under the same names in proofs/Claims.antt.
--- The note's demands 2 and 3; document 01, "Demand, supply, and the report's test" (RULES 2) and "From tasks to servers to ring" (RULES 3).
-use Prim.Native.Nat.{ℕ, _+_, _-_, _≤_, _<_}
+-- The note's demands 2 and 3; document 02, Req 04 and Req 08; document 01, "Demand, supply, and the report's test" (RULES 2) and "From tasks to servers to ring" (RULES 3).
+use Prim.Native.Nat.{ℕ, _+_, _*_, _-_, _≤_, _<_}
 use mathlib.Core.Path.{_≡_}
 use mathlib.Core.Logic.{_↔_, _⊎_}
-use mathlib.Core.Bool.{true}
-use mathlib.Core.List.{List, map}
+use mathlib.Core.Bool.{true, cond}
+use mathlib.Core.List.{List, [], _∷_, _++_, map}
+use lib.Dec.{eqb}
 use lib.ListN.{length, getD, take}
-use Rattle.refusals.specs.declared.Outcome.the-variants.{Done}
+use Rattle.refusals.specs.declared.Refusal.the-variants.{Alone}
+use Rattle.refusals.specs.declared.Outcome.the-variants.{Done, Refused}
 use Rattle.wholes.specs.Multiple.{LeastMultipleOf}
 use Rattle.demand.specs.Load.{Load, Every}
-use Rattle.demand.specs.Demand.{demand}
+use Rattle.demand.specs.Demand.{jobs, demand}
 use Rattle.demand.specs.Supply.{Allowed, supply}
 use Rattle.demand.specs.Passes.{Passes, FakePasses}
 use Rattle.demand.specs.Steps.{Step}
-use Rattle.masking.specs.Masking.{soonest, latest}
+use Rattle.interrupting.specs.Interrupts.{Bound, greatest}
+use Rattle.masking.specs.Masking.{soonest, latest, maskedDemand}
 use Rattle.verdict.specs.Reserve.{Smallest}
 use Rattle.verdict.specs.declared.answer.Verdict.the-variants.{Yes}
+use Rattle.tasks.specs.declared.set.Interrupt.{Interrupt}
 use Rattle.tasks.specs.declared.set.Task.{Task}
 use Rattle.tasks.specs.declared.set.TaskSet.{TaskSet}
-use Rattle.tasks.specs.Set.{mostTasks, longestHorizon, maskedTicks, members, zeroTask}
+use Rattle.tasks.specs.Set.{mostTasks, longestHorizon, maskedTicks, members, interruptsIn, zeroTask}
+use Rattle.taskfile.specs.File.{fileInterrupts}
 use Rattle.tasktext.specs.Text.{textOf}
 use Rattle.taskwrite.specs.Write.{writeOf}
 use Rattle.ring.specs.declared.clock.Tick.{Tick}
@@ -27,6 +32,7 @@ use Rattle.loads.specs.Charge.{figuresOf, serverLoads, serverLoss}
 use Rattle.members.specs.Server.{serverDemand}
 use Rattle.servers.specs.Claims.{Lowest, Opened}
 use Rattle.setfigures.specs.Figures.{setFigures}
+use Rattle.setfigures.specs.Board.{setInterrupts, setBoard}
 use Rattle.rows.specs.Rows.{horizonOf}
 use Rattle.plan.specs.declared.plan.Plan.{Plan}
 use Rattle.plan.specs.Plan.{serverAt}
@@ -75,8 +81,8 @@ figuresAt set k = getD (setFigures set) (k - 1) (figuresOf zeroTask)
 abbrev pub PlacedFirst : TaskSet → Plan → (k : ℕ) → Type 0
 PlacedFirst set plan k =
     let n = k - 1 in
-    Lowest (set .header) (take n (setFigures set)) (take n (plan .placement)) (figuresAt set k) (serverOfTask plan k)
-    ⊎ Opened (set .header) (take n (setFigures set)) (take n (plan .placement)) (figuresAt set k) (serverOfTask plan k)
+    Lowest (setBoard set) (take n (setFigures set)) (take n (plan .placement)) (figuresAt set k) (serverOfTask plan k)
+    ⊎ Opened (setBoard set) (take n (setFigures set)) (take n (plan .placement)) (figuresAt set k) (serverOfTask plan k)
 
 -- Each task's server, which its 13 line prints, is the one that first fit in file order gives it.
 abbrev pub FileFirstFit : Type 0
@@ -87,7 +93,7 @@ FileFirstFit =
 
 -- the demand and the entry loss of server q, in the plan's own figures
 abbrev pub demandIn : TaskSet → Plan → (q : ℕ) → ℕ → ℕ
-demandIn set plan q = serverDemand (set .header) (membersIn set plan q)
+demandIn set plan q = serverDemand (setBoard set) (membersIn set plan q)
 
 abbrev pub lossIn : TaskSet → Plan → (q : ℕ) → ℕ
 lossIn set plan q = serverLoss (set .header) (membersIn set plan q)
@@ -122,33 +128,67 @@ FileReport =
 abbrev pub loadsIn : TaskSet → Plan → (q : ℕ) → List Load
 loadsIn set plan q = serverLoads (set .header) (membersIn set plan q)
 
+-- what its tasks and the interrupts ask
+abbrev pub asksIn : TaskSet → Plan → (q : ℕ) → ℕ → ℕ
+asksIn set plan q t = demand (loadsIn set plan q) t + greatest (set .header .processors) (setInterrupts set) t
+
 -- a server gains B at each length from its smallest d up to, but not including, its largest d, and nothing elsewhere; so a server of
 -- one task, or of tasks of one d, gains nothing
 pub record MaskedIn (set : TaskSet) (plan : Plan) (q : ℕ) : Type 0 where
   pub inside : (t : ℕ) → soonest (loadsIn set plan q) ≤ t → t < latest (loadsIn set plan q) →
-      demandIn set plan q t ≡ demand (loadsIn set plan q) t + maskedTicks (set .header)
+      demandIn set plan q t ≡ asksIn set plan q t + maskedTicks (set .header)
   pub outside : (t : ℕ) → (t < soonest (loadsIn set plan q)) ⊎ (latest (loadsIn set plan q) ≤ t) →
-      demandIn set plan q t ≡ demand (loadsIn set plan q) t
-  pub one : length (membersIn set plan q) ≡ 1 → (t : ℕ) → demandIn set plan q t ≡ demand (loadsIn set plan q) t
+      demandIn set plan q t ≡ asksIn set plan q t
+  pub one : length (membersIn set plan q) ≡ 1 → (t : ℕ) → demandIn set plan q t ≡ asksIn set plan q t
   pub equal : (d : ℕ) → Every (λ (l : Load). l .deadline ≡ d) (loadsIn set plan q) → (t : ℕ) →
-      demandIn set plan q t ≡ demand (loadsIn set plan q) t
+      demandIn set plan q t ≡ asksIn set plan q t
 
 -- So it is with each server of a file.
 abbrev pub FileMasked : Type 0
 FileMasked =
     (text : List ℕ) → FileAccepted text → (q : ℕ) → 1 ≤ q → q ≤ planIn text .servers → MaskedIn (setIn text) (planIn text) q
 
+-- ---- interrupt load
+
+-- what those of some interrupts that are on processor p must have had in a window of t: the sum of C · max(0, floor((t − (D − J))/T) + 1)
+unfoldable pub asksOn : (p : ℕ) → List Interrupt → (t : ℕ) → ℕ
+asksOn p [] t = 0
+asksOn p (i ∷ is) t = cond (eqb (i .processor) p) (i .cost * jobs (i .deadline - i .jitter) (i .period) t) 0 + asksOn p is t
+
+-- g is the greatest of that over processors 1 to m
+pub record GreatestOf (m : ℕ) (is : List Interrupt) (t g : ℕ) : Type 0 where
+  pub most : (p : ℕ) → 1 ≤ p → p ≤ m → asksOn p is t ≤ g
+  pub one : (p : ℕ) × (1 ≤ p) × (p ≤ m) × (g ≡ asksOn p is t)
+
+-- A server's demand in a file is that of its tasks, with what it gains, and the greatest over processors of what the file's 07 lines ask.
+abbrev pub FileInterrupts : Type 0
+FileInterrupts =
+    (text : List ℕ) → FileAccepted text → (q t : ℕ) →
+    (g : ℕ) × GreatestOf (setIn text .header .processors) (fileInterrupts text) t g ×
+    (demandIn (setIn text) (planIn text) q t ≡ maskedDemand (maskedTicks (setIn text .header)) (loadsIn (setIn text) (planIn text) q) t + g)
+
+-- A file without a 07 line is never refused by 13.
+abbrev pub FileNeverAlone : Type 0
+FileNeverAlone = (text : List ℕ) (k : ℕ) → fileInterrupts text ≡ [] → filedOf text .outcome ≡ Refused (Alone k) → ⊥
+
 -- ---- the horizon
 
--- demand is at most supply at the lengths from 1 to H at which a deadline of server q falls
+-- x is a length at which a deadline of server q or of an interrupt falls, where its demand can step: d + j·T of one of its charged loads,
+-- or of an interrupt with d = D − J
+abbrev pub StepIn : TaskSet → Plan → (q x : ℕ) → Type 0
+StepIn set plan q x = Step (loadsIn set plan q) x ⊎ Step (map (λ (b : Bound). b .load) (setInterrupts set)) x
+
+-- demand is at most supply at such lengths from 1 to H
 abbrev pub StepsPass : TaskSet → Plan → (q R : ℕ) → Type 0
 StepsPass set plan q R =
-    (t : ℕ) → 1 ≤ t → t ≤ horizonOf set → Step (loadsIn set plan q) t →
+    (t : ℕ) → 1 ≤ t → t ≤ horizonOf set → StepIn set plan q t →
     demandIn set plan q t ≤ supply (set .header .slot) (lossIn set plan q) R t
 
--- H is the least common multiple of S and every T, at most 10,000,000, and up to it the steps decide for each server and any R
+-- H is the least common multiple of S and every T, the tasks' and the interrupts', at most 10,000,000, and up to it the steps decide for
+-- each server and any R
 pub record HorizonEnough (set : TaskSet) (plan : Plan) : Type 0 where
-  pub multiple : LeastMultipleOf (set .header .slot) (map (λ (t : Task). t .period) (members set)) (horizonOf set)
+  pub multiple :
+      LeastMultipleOf (set .header .slot) (map (λ (t : Task). t .period) (members set) ++ map (λ (i : Interrupt). i .period) (interruptsIn set)) (horizonOf set)
   pub short : horizonOf set ≤ longestHorizon
   pub decides : (q R : ℕ) → 1 ≤ q → q ≤ plan .servers →
       Passes (demandIn set plan q) (set .header .slot) (lossIn set plan q) R ↔ StepsPass set plan q R
@@ -190,10 +230,6 @@ abbrev pub FileQuestions : Type 0
 FileQuestions = (text : List ℕ) → FileAccepted text → QuestionsTell text
 
 -- ---- how close a server that passes comes
-
--- x is a length at which a deadline of server q falls, where its demand can step: d + j·T of one of its charged loads
-abbrev pub StepIn : TaskSet → Plan → (q x : ℕ) → Type 0
-StepIn set plan q x = Step (loadsIn set plan q) x
 
 -- the supply of server q with the reserve R, and its ticks to spare: supply less demand. Beside Passes that is not cut off at 0.
 abbrev pub supplyIn : TaskSet → Plan → (q R : ℕ) → ℕ → ℕ

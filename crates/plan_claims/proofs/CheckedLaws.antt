@@ -26,10 +26,11 @@ use Rattle.reserves.specs.Reserves.{processorsOf}
 use Rattle.ring_claims.proofs.Claims.{who-serves, who-stays}
 use Rattle.tasks.specs.declared.set.TaskSet.{TaskSet}
 use Rattle.setfigures.specs.Figures.{setFigures}
+use Rattle.setfigures.specs.Board.{setBoard}
 use Rattle.plan.specs.declared.plan.Plan.{Plan}
 use Rattle.layout.specs.Made.{setPlacement, setReserves, planMade}
 use Rattle.planner.specs.Planner.{needed, fullRow}
-use Rattle.planner.proofs.Made.{members, alone, slot-some, outcome-clear}
+use Rattle.planner.proofs.Made.{members, alone, sound, slot-some, outcome-clear}
 use Rattle.plancheck.specs.Makes.{makes}
 use Rattle.plancheck.proofs.Checked.{OfSet, of-set, same-made, makes-done}
 use Rattle.planprocessor.specs.Standing.{isProcessor}
@@ -50,9 +51,9 @@ module _ (set : TaskSet) (plan : Plan) (full : length (set .tasks) ≡ mostTasks
   slot = slot-some set full (known .clear)
 
   -- the planner's placement fits
-  planner-placed : Fitting (set .header) (setFigures set) (setPlacement set)
+  planner-placed : Fitting (setBoard set) (setFigures set) (setPlacement set)
   unfolding setPlacement
-  planner-placed = planner-fits (set .header) (setFigures set) slot (members set full (known .clear)) (alone set full (known .clear))
+  planner-placed = planner-fits (setBoard set) (setFigures set) (sound set full (known .clear)) (members set full (known .clear)) (alone set full (outcome-clear set (makes-done set plan e) .0))
 
   -- a checked plan holds it, as the set's own plan does
   pub checked-holds : Holds set (setPlacement set) plan
@@ -115,7 +116,7 @@ module _ (set : TaskSet) (plan : Plan) (full : length (set .tasks) ≡ mostTasks
     allowed-own : allowed (set .header .slot) (serverLoss (set .header) own) R ≡ true
     allowed-own = subst (λ (ms : List Load). allowed (set .header .slot) (serverLoss (set .header) ms) R ≡ true) named a
 
-    pass-is : doesPass set plan q R ≡ passAnswer (verdictFor (set .header) own R)
+    pass-is : doesPass set plan q R ≡ passAnswer (verdictFor (setBoard set) own R)
     unfolding doesPass
     pass-is = rw (e, s, allowed-own)
 
@@ -127,22 +128,22 @@ module _ (set : TaskSet) (plan : Plan) (full : length (set .tasks) ≡ mostTasks
     unfolding isServer
     server-there = leb-true q (plan .servers) (and-right (leb 1 q) (leb q (plan .servers)) s)
 
-    lawful : Lawful (serverDemand (set .header) own) (serverHorizon (set .header) own)
-    lawful = server-lawful (set .header) own (every-chosen (Member (set .header)) (setFigures set) (setPlacement set) q (members set full (known .clear))) slot
+    lawful : Lawful (serverDemand (setBoard set) own) (serverHorizon (setBoard set) own)
+    lawful = server-lawful (setBoard set) own (every-chosen (Member (set .header)) (setFigures set) (setPlacement set) q (members set full (known .clear))) (sound set full (known .clear))
 
     -- some length is asked for, since a member is in it
-    asks : (t : ℕ) × (1 ≤ serverDemand (set .header) own t)
+    asks : (t : ℕ) × (1 ≤ serverDemand (setBoard set) own t)
     asks =
-        fitting-asks (set .header) (setFigures set) (setPlacement set) q (members set full (known .clear)) planner-placed server-first
+        fitting-asks (setBoard set) (setFigures set) (setPlacement set) q (members set full (known .clear)) planner-placed server-first
         (omega (arith, server-there, checked-holds .servers))
 
     -- what it answers
     pub pass-tells : PassTells set plan q R
     unfolding verdictFor
     pass-tells =
-        let g = serverDemand (set .header) own in
+        let g = serverDemand (setBoard set) own in
         let L = serverLoss (set .header) own in
         record {
           done = ap (λ (x : PassAnswer). x .outcome) pass-is;
-          tells = rw (named, pass-is) (verdict-means g (serverHorizon (set .header) own) (set .header .slot) L R (asks .0) lawful slot (asks .1));
+          tells = rw (named, pass-is) (verdict-means g (serverHorizon (setBoard set) own) (set .header .slot) L R (asks .0) lawful slot (asks .1));
         }

@@ -30,8 +30,9 @@ use Rattle.planserver.specs.Members.{allowedTo}
 use Rattle.doespass.specs.DoesPass.{passAnswer, refusedPass, doesPass}
 use Rattle.planagree.proofs.AgreeLaws.{agree-same, agree-self}
 use Rattle.plancheck.proofs.Checked.{makes-done, makes-agrees}
-use Rattle.plan_claims.specs.Claims.{PlannerRow, turn, refusalOf, membersIn, NotHeld, FirstHolds, PlanExactly, PlanDone, PlanOnly, PlanGiven, PlanDetermined, RoomIgnored, MakesOwn, PlanFitting, PlanChecked, WhoAnswers, PassAnswers, AsksElse, allowedIn, WhoExactly, PassExactly}
+use Rattle.plan_claims.specs.Claims.{PlannerRow, ALONE, turn, refusalOf, membersIn, NotHeld, FirstHolds, PlanExactly, AloneExactly, NeverAlone, PlanDone, PlanOnly, PlanGiven, PlanDetermined, RoomIgnored, MakesOwn, PlanFitting, PlanChecked, WhoAnswers, PassAnswers, AsksElse, allowedIn, WhoExactly, PassExactly}
 use Rattle.plan_claims.proofs.ExactLaws.{outcomeOf, rowAt, rowOf, outs, holds-by, by-holds, not-by, by-not, refusal-named, row-back, at-turn, turn-below, turn-at, outcome-is}
+use Rattle.plan_claims.proofs.AloneLaws.{earlier-clear, clear-earlier, breaks-alone, alone-breaks, alone-unplaced, breaks-never}
 use Rattle.plan_claims.proofs.RoomLaws.{set-room, plan-room}
 use Rattle.plan_claims.proofs.MemberLaws.{members-made}
 use Rattle.plan_claims.proofs.FittingLaws.{with-fitting}
@@ -44,7 +45,7 @@ plan-exactly row set k = (there, back)
   where
     there : planOf set .outcome ≡ Refused (refusalOf row k) → FirstHolds row set k
     there e =
-        let f = found (outs set) 7 (refusalOf row k) (sym (outcome-is set) ∙ e) in
+        let f = found (outs set) 8 (refusalOf row k) (sym (outcome-is set) ∙ e) in
         let n = refusal-named (rowAt (f .before)) set (refusalOf row k) (f .refuses) in
         let same : rowAt (f .before) ≡ row = sym (row-back (rowAt (f .before)) (n .0)) ∙ sym (ap rowOf (n .1)) ∙ row-back row k in
         let place : f .before ≡ turn row = sym (turn-at (f .before) (f .within)) ∙ ap turn same in
@@ -56,10 +57,23 @@ plan-exactly row set k = (there, back)
     back : FirstHolds row set k → planOf set .outcome ≡ Refused (refusalOf row k)
     back w =
         outcome-is set
-        ∙ stays (outs set) (turn row) 7 (refusalOf row k)
+        ∙ stays (outs set) (turn row) 8 (refusalOf row k)
         (done-till (outs set) (turn row) (λ j l. by-not (rowAt j) set (w .earlier (rowAt j) (omega (arith, turn-at j (omega (arith, turn-below row)))))))
         (subst (λ (q : PlannerRow). outcomeOf q set ≡ Refused (refusalOf row k)) (sym (at-turn row)) (by-holds row set k (w .holds)))
         (turn-below row)
+
+-- a task that fails alone
+pub alone-exactly : AloneExactly
+alone-exactly = record {
+  refused = λ set k full. (
+    λ e. let w = plan-exactly ALONE set k .0 e in breaks-alone set full (earlier-clear set (w .earlier)) k (w .holds),
+    λ f. plan-exactly ALONE set k .1 (record { holds = alone-breaks set full (f .clear) k f; earlier = clear-earlier set (f .clear) }),
+  );
+  nowhere = λ set k full f. alone-unplaced set full (f .clear) k f;
+}
+
+pub never-alone : NeverAlone
+never-alone set k full none e = let w = plan-exactly ALONE set k .0 e in breaks-never set full (earlier-clear set (w .earlier)) k none (w .holds)
 
 -- a plan exactly when no row holds
 pub plan-done : PlanDone
@@ -67,15 +81,15 @@ plan-done set = (there, back)
   where
     there : planOf set .outcome ≡ Done → (row : PlannerRow) → NotHeld row set
     there e row =
-        not-by row set (subst (λ (q : PlannerRow). outcomeOf q set ≡ Done) (at-turn row) (till-done (outs set) 7 (sym (outcome-is set) ∙ e) (turn row) (turn-below row)))
+        not-by row set (subst (λ (q : PlannerRow). outcomeOf q set ≡ Done) (at-turn row) (till-done (outs set) 8 (sym (outcome-is set) ∙ e) (turn row) (turn-below row)))
 
     back : ((row : PlannerRow) → NotHeld row set) → planOf set .outcome ≡ Done
-    back f = outcome-is set ∙ done-till (outs set) 7 (λ j l. by-not (rowAt j) set (f (rowAt j)))
+    back f = outcome-is set ∙ done-till (outs set) 8 (λ j l. by-not (rowAt j) set (f (rowAt j)))
 
 -- no other refusal
 pub plan-only : PlanOnly
 plan-only set r e =
-    let f = found (outs set) 7 r (sym (outcome-is set) ∙ e) in
+    let f = found (outs set) 8 r (sym (outcome-is set) ∙ e) in
     let n = refusal-named (rowAt (f .before)) set r (f .refuses) in
     (rowAt (f .before), n .0, n .1)
 

@@ -20,6 +20,7 @@ use Rattle.servers.specs.Fitting.{Fitting}
 use Rattle.sizing.proofs.Claims.{smallest-reserves, reserves-count}
 use Rattle.reserves.specs.Reserves.{ringProcessors, wholes}
 use Rattle.setfigures.specs.Figures.{setFigures}
+use Rattle.setfigures.specs.Board.{setBoard}
 use Rattle.setfigures.proofs.FigureLaws.{figures-length}
 use Rattle.plan.specs.declared.plan.Plan.{Plan}
 use Rattle.plan.specs.declared.server.Server.{Server}
@@ -28,7 +29,7 @@ use Rattle.layout.specs.Layout.{ringStart, serverOf, laidOut}
 use Rattle.layout.specs.Made.{reservesWith, planWith}
 use Rattle.layout.proofs.LaidLaws.{laid-reserves, laid-server}
 use Rattle.planner.specs.Planner.{Clear}
-use Rattle.planner.proofs.Made.{fits, members, slot-some}
+use Rattle.planner.proofs.Made.{fits, members, sound}
 use Rattle.planagree.specs.Agrees.{used, SamePlan}
 use Rattle.plancheck.proofs.Checked.{reserves-same}
 use Rattle.plan_claims.specs.Claims.{membersIn, PlacedOnce, Reserved, Recorded, Needs, FittingPlan, PlanFitting}
@@ -62,15 +63,15 @@ holds-same a b s own = record {
   server = λ q h l. used-same a b s (pred q) (omega (arith, sub-one q)) ∙ own .server q h (omega (arith, s .servers));
 }
 
-module _ (set : TaskSet) (full : length (set .tasks) ≡ mostTasks) (clear : Clear set) (named : List ℕ) (w : Fitting (set .header) (setFigures set) named) where
+module _ (set : TaskSet) (full : length (set .tasks) ≡ mostTasks) (clear : Clear set) (named : List ℕ) (w : Fitting (setBoard set) (setFigures set) named) where
   counted : length named ≡ set .count
   counted = w .parted .one-each ∙ figures-length set (fits set full clear)
 
   -- the reserves are the smallest
   smallest-each : (q : ℕ) → 1 ≤ q → q ≤ serversIn named →
-      Smallest (serverDemand (set .header) (chosen (setFigures set) named q)) (set .header .slot) (serverLoss (set .header) (chosen (setFigures set) named q)) (getD (reservesWith set named) (q - 1) 0)
+      Smallest (serverDemand (setBoard set) (chosen (setFigures set) named q)) (set .header .slot) (serverLoss (set .header) (chosen (setFigures set) named q)) (getD (reservesWith set named) (q - 1) 0)
   unfolding reservesWith
-  smallest-each = smallest-reserves (set .header) (setFigures set) named (slot-some set full clear) (members set full clear) w .1
+  smallest-each = smallest-reserves (setBoard set) (setFigures set) named (sound set full clear) (members set full clear) w .1
 
   module _ (plan : Plan) (own : Holds set named plan) where
     server-at : (i : ℕ) → i < set .count → getD named i 0 ≡ getD (plan .placement) i 0
@@ -101,7 +102,7 @@ module _ (set : TaskSet) (full : length (set .tasks) ≡ mostTasks) (clear : Cle
     reserved = record {
       whole = λ q h l. rw (own .placement) (w .passes q h (omega (arith, own .servers)));
       smallest = λ q h l.
-          subst (Smallest (serverDemand (set .header) (membersIn set plan q)) (set .header .slot) (serverLoss (set .header) (membersIn set plan q)))
+          subst (Smallest (serverDemand (setBoard set) (membersIn set plan q)) (set .header .slot) (serverLoss (set .header) (membersIn set plan q)))
           (reserve-at q h l) (rw (own .placement) (smallest-each q h (omega (arith, own .servers))));
     }
 
@@ -140,7 +141,7 @@ module _ (set : TaskSet) (full : length (set .tasks) ≡ mostTasks) (clear : Cle
   pub with-holds : Holds set named (planWith set named)
   unfolding planWith laidOut reservesWith
   with-holds = record {
-    servers = reserves-count (set .header) (setFigures set) named;
+    servers = reserves-count (setBoard set) (setFigures set) named;
     placement = padded-take named (set .count) counted;
     reserves = laid-reserves (set .header .slot) (set .header .cpmdo) named (reservesWith set named);
     ring = refl;

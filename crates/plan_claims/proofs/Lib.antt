@@ -1,4 +1,5 @@
 pub mod ExactLaws
+pub mod AloneLaws
 pub mod RoomLaws
 pub mod MemberLaws
 pub mod FittingLaws

@@ -15,6 +15,7 @@ use Rattle.places.specs.Places.{keep, chosen}
 use Rattle.loads.specs.Charge.{figuresOf}
 use Rattle.servers.proofs.PlacementLaws.{placement-length}
 use Rattle.setfigures.specs.Figures.{setFigures}
+use Rattle.setfigures.specs.Board.{setBoard}
 use Rattle.plan.specs.declared.plan.Plan.{Plan}
 use Rattle.layout.specs.Layout.{laidOut}
 use Rattle.layout.specs.Made.{planWith, setPlacement, planMade}
@@ -52,7 +53,7 @@ module _ (set : TaskSet) where
 
   placement-count : length (setPlacement set) ≡ length (setFigures set)
   unfolding setPlacement
-  placement-count = placement-length (set .header) (setFigures set)
+  placement-count = placement-length (setBoard set) (setFigures set)
 
   -- the members of a server of a checked plan
   pub members-made : (plan : Plan) → makes set plan ≡ true → (q : ℕ) → membersIn set plan q ≡ serverMembers set q

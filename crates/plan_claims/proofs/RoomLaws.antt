@@ -1,13 +1,28 @@
 -- Unused room of a set or of a plan does not change an answer.
 -- Assumes nothing.
-use mathlib.Core.Path.{_≡_, ap}
-use mathlib.Core.Bool.{Bool, _&&_}
+use Prim.Native.Nat.{ℕ}
+use mathlib.Core.Path.{_≡_, ap, ap₂, _∙_}
+use mathlib.Core.Bool.{Bool, not, _&&_}
+use mathlib.Core.List.{List, [], _∷_}
+use Rattle.demand.specs.Load.{Load}
+use Rattle.interrupting.specs.Interrupts.{Bound}
+use Rattle.tasks.specs.declared.set.Header.{Header}
+use Rattle.tasks.specs.declared.set.Task.{Task}
 use Rattle.tasks.specs.declared.set.TaskSet.{TaskSet}
+use Rattle.tasks.specs.Set.{members}
+use Rattle.tasks.specs.Search.{firstTask}
+use Rattle.loads.specs.Charge.{figuresOf}
+use Rattle.members.specs.Server.{Board, fits}
+use Rattle.servers.specs.Placement.{placementOf}
+use Rattle.sizing.specs.Reserve.{reservesOf}
 use Rattle.taskask.specs.Ask.{countRow, askRow}
 use Rattle.taskrows.specs.Rows.{figuresOutcome}
 use Rattle.plan.specs.declared.plan.Plan.{Plan}
 use Rattle.setfigures.specs.Figures.{setFigures}
+use Rattle.setfigures.specs.Board.{setInterrupts, setBoard}
 use Rattle.rows.specs.Rows.{horizonOf, horizonRow, chargedOutcome}
+use Rattle.alonerow.specs.Alone.{aloneRow}
+use Rattle.layout.specs.Layout.{laidOut}
 use Rattle.layout.specs.Made.{reservesWith, planWith, setPlacement, setReserves, planMade}
 use Rattle.planner.specs.Planner.{needed, fullRow, planOutcome, planOf}
 use Rattle.plancheck.specs.Makes.{isDone, makes}
@@ -24,11 +39,18 @@ use Rattle.planagree.proofs.AgreeLaws.{agree-alike}
 module _ (a b : TaskSet) (s : SameSet a b) where
   same-ask : askRow a ≡ askRow b
   unfolding askRow countRow
-  same-ask = rw (s .tasks, s .header, s .count)
+  same-ask = rw (s .tasks, s .interrupts, s .header, s .count, s .interrupt-count)
+
+  same-interrupts : setInterrupts a ≡ setInterrupts b
+  unfolding setInterrupts
+  same-interrupts = rw (s .interrupts, s .header)
+
+  same-board : setBoard a ≡ setBoard b
+  same-board = ap₂ (λ (h : Header) (bs : List Bound). record { header = h; interrupts = bs }) (s .header) same-interrupts
 
   same-charged : chargedOutcome a ≡ chargedOutcome b
   unfolding chargedOutcome figuresOutcome horizonRow horizonOf
-  same-charged = rw (s .tasks, s .header)
+  same-charged = rw (s .tasks, s .interrupts, same-interrupts, s .header)
 
   same-figures : setFigures a ≡ setFigures b
   unfolding setFigures
@@ -36,15 +58,19 @@ module _ (a b : TaskSet) (s : SameSet a b) where
 
   same-placement : setPlacement a ≡ setPlacement b
   unfolding setPlacement
-  same-placement = rw (same-figures, s .header)
+  same-placement = ap₂ (λ (d : Board) (ls : List Load). placementOf d ls) same-board same-figures
 
   same-reserves : setReserves a ≡ setReserves b
   unfolding setReserves reservesWith
-  same-reserves = rw (same-figures, same-placement, s .header)
+  same-reserves =
+      ap (reservesOf (setBoard a) (setFigures a)) same-placement
+      ∙ ap₂ (λ (d : Board) (ls : List Load). reservesOf d ls (setPlacement b)) same-board same-figures
 
   same-made : planMade a ≡ planMade b
-  unfolding planMade planWith reservesWith
-  same-made = rw (same-figures, same-placement, s .header)
+  unfolding planMade planWith setReserves
+  same-made =
+      ap₂ (λ (p rs : List ℕ). laidOut (a .header .slot) (a .header .cpmdo) p rs) same-placement same-reserves
+      ∙ ap (λ (h : Header). laidOut (h .slot) (h .cpmdo) (setPlacement b) (reservesWith b (setPlacement b))) (s .header)
 
   same-needed : needed a ≡ needed b
   unfolding needed
@@ -54,9 +80,16 @@ module _ (a b : TaskSet) (s : SameSet a b) where
   unfolding fullRow
   same-full = rw (same-needed, s .header)
 
+  alike-alone : (t : Task) → aloneRow a t ≡ aloneRow b t
+  unfolding aloneRow
+  alike-alone t = ap (λ (d : Board). not (fits d (figuresOf t ∷ []))) same-board
+
+  same-alone : firstTask (aloneRow a) (members a) ≡ firstTask (aloneRow b) (members b)
+  same-alone = ap₂ (λ (p : Task → Bool) (ts : List Task). firstTask p ts) (λ i t. alike-alone t i) (s .tasks)
+
   same-outcome : planOutcome a ≡ planOutcome b
   unfolding planOutcome
-  same-outcome = rw (same-ask, same-charged, same-full, same-needed)
+  same-outcome = rw (same-ask, same-charged, same-alone, same-full, same-needed)
 
   same-check : (plan : Plan) → makes a plan ≡ makes b plan
   unfolding makes
@@ -69,7 +102,7 @@ module _ (a b : TaskSet) (s : SameSet a b) where
     planner = rw (same-outcome, same-made);
     check = same-check;
     who = λ plan p x. rw (same-check plan, same-reserves, s .header);
-    pass = λ plan q R. rw (same-check plan, same-figures, same-placement, s .header);
+    pass = λ plan q R. rw (same-check plan, same-figures, same-placement, same-interrupts, s .header);
   }
 
 -- ---- two plans that differ in unused room alone

@@ -1,13 +1,14 @@
 -- What is promised of planning, of the check of a plan and of the two questions, each promise as a type. The proofs stand
--- under the same names in proofs/Claims. Document 01, "Refusal numbers and their order" (RULES 6) and "From tasks to servers to ring" (RULES 3).
+-- under the same names in proofs/Claims. Document 01, "Refusal numbers and their order" (RULES 6) and "From tasks to servers to ring" (RULES 3);
+-- document 02, Req 08.
 use Prim.Native.Nat.{ℕ, _+_, _-_, _≤_, _<_}
 use mathlib.Core.Path.{_≡_}
 use mathlib.Core.Logic.{_↔_, _⊎_}
 use mathlib.Core.Bool.{Bool, true, false}
-use mathlib.Core.List.{List}
+use mathlib.Core.List.{List, [], _∷_}
 use lib.ListN.{length, getD, take}
 use Rattle.refusals.specs.declared.Refusal.{Refusal}
-use Rattle.refusals.specs.declared.Refusal.the-variants.{Board, Range, Slot, Tight, Horizon, Full, Ask}
+use Rattle.refusals.specs.declared.Refusal.the-variants.{Board, Range, Slot, Tight, Horizon, Full, Ask, Alone}
 use Rattle.refusals.specs.declared.Outcome.{Outcome}
 use Rattle.refusals.specs.declared.Outcome.the-variants.{Done, Refused}
 use Rattle.refusals.specs.Refused.{numberOf, placeOf}
@@ -15,8 +16,9 @@ use Rattle.verdict.specs.declared.answer.Verdict.the-variants.{Yes}
 use Rattle.verdict.specs.Reserve.{Smallest}
 use Rattle.verdict.specs.Claims.{VerdictTells}
 use Rattle.demand.specs.Load.{Load}
+use Rattle.demand.specs.Supply.{supply}
 use Rattle.places.specs.Places.{placesIn, chosen}
-use Rattle.loads.specs.Charge.{cacheOf, serverLoss}
+use Rattle.loads.specs.Charge.{figuresOf, cacheOf, serverLoss}
 use Rattle.members.specs.Server.{serverDemand}
 use Rattle.servers.specs.Fitting.{PassesWhole, Fitting}
 use Rattle.ring.specs.declared.clock.Tick.{Tick}
@@ -25,16 +27,18 @@ use Rattle.ring_claims.specs.Serves.{Serves}
 use Rattle.ring_claims.specs.Held.{later}
 use Rattle.tasks.specs.declared.set.Task.{Task}
 use Rattle.tasks.specs.declared.set.TaskSet.{TaskSet}
-use Rattle.tasks.specs.Set.{mostTasks, members, zeroTask}
-use Rattle.taskrows.specs.Rows.{boardRow, rangeRow}
+use Rattle.tasks.specs.Set.{mostTasks, members, interruptsIn, zeroTask, zeroInterrupt}
+use Rattle.taskrows.specs.Rows.{boardRow, rangeRow, interruptRow}
 use Rattle.taskask.specs.Ask.{askRow}
 use Rattle.plan.specs.declared.plan.Plan.{Plan}
 use Rattle.planner.specs.declared.PlanAnswer.{PlanAnswer}
 use Rattle.whoruns.specs.declared.WhoAnswer.{WhoAnswer}
 use Rattle.doespass.specs.declared.PassAnswer.{PassAnswer}
 use Rattle.setfigures.specs.Figures.{setFigures}
+use Rattle.setfigures.specs.Board.{setBoard}
 use Rattle.tightrows.specs.Rows.{slotRow, tightRow}
 use Rattle.rows.specs.Rows.{horizonRow}
+use Rattle.alonerow.specs.Alone.{aloneRow}
 use Rattle.plan.specs.Plan.{zeroPlan, serverAt, reservesIn}
 use Rattle.layout.specs.Layout.{ringStart}
 use Rattle.layout.specs.Made.{planWith, planMade}
@@ -50,9 +54,9 @@ use Rattle.doespass.specs.DoesPass.{doesPass}
 
 -- the rows of the planner
 pub data PlannerRow : Type 0 where
-  ASK BOARD RANGE SLOT TIGHT HORIZON FULL : PlannerRow
+  ASK BOARD RANGE SLOT TIGHT HORIZON ALONE FULL : PlannerRow
 
--- the order in which they are tried: 11 first, then 5 to 10
+-- the order in which they are tried: 11 first, then 5 to 9, 13 and 10
 abbrev pub turn : PlannerRow → ℕ
 turn ASK = 0
 turn BOARD = 1
@@ -60,7 +64,8 @@ turn RANGE = 2
 turn SLOT = 3
 turn TIGHT = 4
 turn HORIZON = 5
-turn FULL = 6
+turn ALONE = 6
+turn FULL = 7
 
 -- the refusal of a row with place k; those whose place is 0 have no other
 abbrev pub refusalOf : PlannerRow → ℕ → Refusal
@@ -70,37 +75,57 @@ refusalOf RANGE k = Range k
 refusalOf SLOT k = Slot k
 refusalOf TIGHT k = Tight k
 refusalOf HORIZON k = Horizon
+refusalOf ALONE k = Alone k
 refusalOf FULL k = Full k
 
--- task k, from 1, breaks a row and no task before it does
-pub record FirstBreaks (row : Task → Bool) (ts : List Task) (k : ℕ) : Type 0 where
+-- the k-th of a list, from 1, breaks a row and none before it does
+pub record FirstBreaks {A : Type 0} (none : A) (row : A → Bool) (xs : List A) (k : ℕ) : Type 0 where
   pub counted : 1 ≤ k
-  pub within : k ≤ length ts
-  pub holds : row (getD ts (k - 1) zeroTask) ≡ true
-  pub earlier : (j : ℕ) → 1 ≤ j → j < k → row (getD ts (j - 1) zeroTask) ≡ false
+  pub within : k ≤ length xs
+  pub holds : row (getD xs (k - 1) none) ≡ true
+  pub earlier : (j : ℕ) → 1 ≤ j → j < k → row (getD xs (j - 1) none) ≡ false
 
--- no task breaks a row
-abbrev pub NoneBreaks : (row : Task → Bool) (ts : List Task) → Type 0
-NoneBreaks row ts = (j : ℕ) → 1 ≤ j → j ≤ length ts → row (getD ts (j - 1) zeroTask) ≡ false
+-- none of a list breaks a row
+abbrev pub NoneBreaks : {A : Type 0} (none : A) (row : A → Bool) (xs : List A) → Type 0
+NoneBreaks none row xs = (j : ℕ) → 1 ≤ j → j ≤ length xs → row (getD xs (j - 1) none) ≡ false
 
--- a row holds with place k, where it has a place: the first task that breaks it, or the sum of processors
+-- the first task, or the first interrupt
+abbrev pub FirstTask : (row : Task → Bool) → TaskSet → (k : ℕ) → Type 0
+FirstTask row set k = FirstBreaks zeroTask row (members set) k
+
+abbrev pub NoTask : (row : Task → Bool) → TaskSet → Type 0
+NoTask row set = NoneBreaks zeroTask row (members set)
+
+abbrev pub FirstInterrupt : TaskSet → (k : ℕ) → Type 0
+FirstInterrupt set k = FirstBreaks zeroInterrupt (interruptRow (set .header .processors)) (interruptsIn set) k
+
+abbrev pub NoInterrupt : TaskSet → Type 0
+NoInterrupt set = NoneBreaks zeroInterrupt (interruptRow (set .header .processors)) (interruptsIn set)
+
+-- RANGE is broken first by task k; or by no task, and first by the interrupt whose place is k: 64 and its position
+abbrev pub RangeAt : TaskSet → (k : ℕ) → Type 0
+RangeAt set k = FirstTask rangeRow set k ⊎ (NoTask rangeRow set × ((i : ℕ) × (k ≡ mostTasks + i) × FirstInterrupt set i))
+
+-- a row holds with place k, where it has a place: the first task or interrupt that breaks it, or the sum of processors
 abbrev pub HoldsAt : PlannerRow → TaskSet → ℕ → Type 0
 HoldsAt ASK set k = askRow set ≡ true
 HoldsAt BOARD set k = boardRow (set .header) ≡ true
-HoldsAt RANGE set k = FirstBreaks rangeRow (members set) k
-HoldsAt SLOT set k = FirstBreaks (slotRow (set .header)) (members set) k
-HoldsAt TIGHT set k = FirstBreaks (tightRow (set .header)) (members set) k
+HoldsAt RANGE set k = RangeAt set k
+HoldsAt SLOT set k = FirstTask (slotRow (set .header)) set k
+HoldsAt TIGHT set k = FirstTask (tightRow (set .header)) set k
 HoldsAt HORIZON set k = horizonRow set ≡ true
+HoldsAt ALONE set k = FirstTask (aloneRow set) set k
 HoldsAt FULL set k = (fullRow set ≡ true) × (k ≡ needed set)
 
 -- a row does not hold
 abbrev pub NotHeld : PlannerRow → TaskSet → Type 0
 NotHeld ASK set = askRow set ≡ false
 NotHeld BOARD set = boardRow (set .header) ≡ false
-NotHeld RANGE set = NoneBreaks rangeRow (members set)
-NotHeld SLOT set = NoneBreaks (slotRow (set .header)) (members set)
-NotHeld TIGHT set = NoneBreaks (tightRow (set .header)) (members set)
+NotHeld RANGE set = NoTask rangeRow set × NoInterrupt set
+NotHeld SLOT set = NoTask (slotRow (set .header)) set
+NotHeld TIGHT set = NoTask (tightRow (set .header)) set
 NotHeld HORIZON set = horizonRow set ≡ false
+NotHeld ALONE set = NoTask (aloneRow set) set
 NotHeld FULL set = fullRow set ≡ false
 
 -- a row holds with place k, and no row before it does
@@ -126,6 +151,36 @@ pub record PlanGiven (set : TaskSet) : Type 0 where
   pub made : planOf set .outcome ≡ Done → planOf set .plan ≡ planMade set
   pub zero : (r : Refusal) → planOf set .outcome ≡ Refused r → planOf set .plan ≡ zeroPlan
 
+-- ---- a task that fails alone
+
+-- task k alone in a server, from 1
+abbrev pub aloneIn : TaskSet → (k : ℕ) → List Load
+aloneIn set k = figuresOf (getD (members set) (k - 1) zeroTask) ∷ []
+
+-- with a whole processor its demand, the interrupts' among it, exceeds the supply at some length
+abbrev pub FailsAlone : TaskSet → (k : ℕ) → Type 0
+FailsAlone set k =
+    (t : ℕ) × (1 ≤ t) ×
+    (supply (set .header .slot) (serverLoss (set .header) (aloneIn set k)) (set .header .slot) t < serverDemand (setBoard set) (aloneIn set k) t)
+
+-- row 11 and rows 5 to 9 are clear, task k fails alone, and each task before it passes alone at every length
+pub record FirstAlone (set : TaskSet) (k : ℕ) : Type 0 where
+  pub clear : Clear set
+  pub counted : 1 ≤ k
+  pub within : k ≤ length (members set)
+  pub fails : FailsAlone set k
+  pub earlier : (j : ℕ) → 1 ≤ j → j < k → PassesWhole (setBoard set) (aloneIn set j)
+
+-- A set is refused by 13 with place k exactly then. Whatever the placement would have been: no placement of its tasks fits.
+pub record AloneExactly : Type 0 where
+  pub refused : (set : TaskSet) (k : ℕ) → length (set .tasks) ≡ mostTasks → (planOf set .outcome ≡ Refused (Alone k)) ↔ FirstAlone set k
+  pub nowhere : (set : TaskSet) (k : ℕ) → length (set .tasks) ≡ mostTasks → FirstAlone set k → (placement : List ℕ) →
+      Fitting (setBoard set) (setFigures set) placement → ⊥
+
+-- A set without interrupts is never refused by 13.
+abbrev pub NeverAlone : Type 0
+NeverAlone = (set : TaskSet) (k : ℕ) → length (set .tasks) ≡ mostTasks → set .interrupts .count ≡ 0 → planOf set .outcome ≡ Refused (Alone k) → ⊥
+
 -- ---- the contracts determine the answers
 
 -- Two answers that satisfy a contract coincide.
@@ -142,6 +197,8 @@ pub record SameSet (a b : TaskSet) : Type 0 where
   pub header : a .header ≡ b .header
   pub count : a .count ≡ b .count
   pub tasks : members a ≡ members b
+  pub interrupt-count : a .interrupts .count ≡ b .interrupts .count
+  pub interrupts : interruptsIn a ≡ interruptsIn b
 
 -- they get the same answers
 pub record SetRoomIgnored (a b : TaskSet) : Type 0 where
@@ -181,9 +238,9 @@ pub record PlacedOnce (set : TaskSet) (plan : Plan) : Type 0 where
 
 -- every server passes with R = S, and its reserve is the smallest allowed one with which it passes
 pub record Reserved (set : TaskSet) (plan : Plan) : Type 0 where
-  pub whole : (q : ℕ) → 1 ≤ q → q ≤ plan .servers → PassesWhole (set .header) (membersIn set plan q)
+  pub whole : (q : ℕ) → 1 ≤ q → q ≤ plan .servers → PassesWhole (setBoard set) (membersIn set plan q)
   pub smallest : (q : ℕ) → 1 ≤ q → q ≤ plan .servers →
-      Smallest (serverDemand (set .header) (membersIn set plan q)) (set .header .slot) (serverLoss (set .header) (membersIn set plan q)) (serverAt plan q .reserve)
+      Smallest (serverDemand (setBoard set) (membersIn set plan q)) (set .header .slot) (serverLoss (set .header) (membersIn set plan q)) (serverAt plan q .reserve)
 
 -- each server's record says what the plan's figures do: the places of its tasks, where it stands on the ring, and the cache cost
 -- that it is charged with
@@ -209,7 +266,7 @@ pub record FittingPlan (set : TaskSet) (plan : Plan) : Type 0 where
 -- room for mostTasks tasks, by its type.
 abbrev pub PlanFitting : Type 0
 PlanFitting =
-    (set : TaskSet) (placement : List ℕ) → length (set .tasks) ≡ mostTasks → Clear set → Fitting (set .header) (setFigures set) placement →
+    (set : TaskSet) (placement : List ℕ) → length (set .tasks) ≡ mostTasks → Clear set → Fitting (setBoard set) (setFigures set) placement →
     FittingPlan set (planWith set placement)
 
 -- the processors are those that the reserves need, and no more than the board has
@@ -253,7 +310,7 @@ allowedIn set plan q R = allowed (set .header .slot) (serverLoss (set .header) (
 pub record PassTells (set : TaskSet) (plan : Plan) (q R : ℕ) : Type 0 where
   pub done : doesPass set plan q R .outcome ≡ Done
   pub tells :
-      VerdictTells (serverDemand (set .header) (membersIn set plan q)) (set .header .slot) (serverLoss (set .header) (membersIn set plan q)) R
+      VerdictTells (serverDemand (setBoard set) (membersIn set plan q)) (set .header .slot) (serverLoss (set .header) (membersIn set plan q)) R
       (doesPass set plan q R .verdict)
 
 abbrev pub PassAnswers : Type 0

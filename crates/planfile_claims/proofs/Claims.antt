@@ -28,7 +28,8 @@ use Rattle.plan.specs.declared.plan.Plan.{Plan}
 use Rattle.plancheck.specs.Makes.{makes}
 use Rattle.plantext.specs.Text.{planText, longestText}
 use Rattle.frames.specs.Table.{widthsOf, sum}
-use Rattle.taskread.specs.Read.{furthest, readOf}
+use Rattle.readbytes.specs.Furthest.{furthest}
+use Rattle.taskread.specs.Read.{readOf}
 use Rattle.planfit.specs.Fit.{fitted}
 use Rattle.taskplan.specs.declared.FileAnswer.{FileAnswer}
 use Rattle.taskplan.specs.File.{unless, refusedFile, plannedSet, filedOf}

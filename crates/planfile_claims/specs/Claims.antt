@@ -25,7 +25,7 @@ use Rattle.plan.specs.Plan.{noServer, zeroStand}
 use Rattle.whoruns.specs.declared.WhoAnswer.{WhoAnswer}
 use Rattle.doespass.specs.declared.PassAnswer.{PassAnswer}
 use Rattle.plancheck.specs.Makes.{makes}
-use Rattle.taskread.specs.Read.{furthest}
+use Rattle.readbytes.specs.Furthest.{furthest}
 use Rattle.planfigures.specs.Figures.{serverFigures, placedFigures, processorFigures}
 use Rattle.planlines.specs.Line.{planFigures}
 use Rattle.plantext.specs.Text.{planText, longestText}

@@ -10,13 +10,13 @@ use Rattle.ring_claims.specs.Rota.{unrolled}
 use Rattle.ring_claims.proofs.Claims.{rota-unrolled}
 use Rattle.rotas.specs.Rota.{Rota}
 use Rattle.rotas.proofs.Claims.{standing-slotted}
-use Rattle.taskask.proofs.Carried.{count-within, ask-count}
+use Rattle.taskask.proofs.Carried.{count-within, interrupts-within, ask-count}
 use Rattle.rows.specs.Rows.{Chargeable}
 use Rattle.rows.proofs.Clears.{charged-clear}
 use Rattle.plan.specs.declared.plan.Plan.{Plan}
 use Rattle.plan.specs.Plan.{reservesIn}
 use Rattle.layout.specs.Made.{reservesWith, planWith, setPlacement, planMade}
-use Rattle.planner.specs.Planner.{Clear}
+use Rattle.planner.specs.Planner.{Clear, Placeable}
 use Rattle.planner.proofs.Made.{plan-outcome, outcome-clear}
 use Rattle.planagree.specs.Agrees.{SamePlan}
 use Rattle.plancheck.proofs.Checked.{makes-done, same-made, placement-count}
@@ -30,15 +30,20 @@ pub plan-prints : PlanPrints
 unfolding planWith reservesWith
 plan-prints set placement = laid-prints (rotaOf set placement) placement (set .header .cpmdo)
 
--- an accepted set may be charged
+-- the rows of an accepted set are clear
+placeable : (set : TaskSet) → Accepted set → Placeable set
+placeable set ok = outcome-clear set (sym (plan-outcome set) ∙ ok) .0
+
+-- it may be charged
 may-charge : (set : TaskSet) → Accepted set → Chargeable set
 may-charge set ok =
-    let clear : Clear set = outcome-clear set (sym (plan-outcome set) ∙ ok) .0 in
-    clear-charged set (count-within set (ask-count set (clear .carried)) .1) (charged-clear set (clear .charged))
+    let clear : Clear set = placeable set ok .clear in
+    let counts = ask-count set (clear .carried) in
+    clear-charged set (count-within set counts .1) (interrupts-within set counts) (charged-clear set (clear .charged))
 
 pub accepted-fits : AcceptedFits
 unfolding setPlacement
-accepted-fits set ok = planner-fits set (may-charge set ok)
+accepted-fits set ok = planner-fits set (may-charge set ok) (placeable set ok .alone)
 
 pub accepted-stands : AcceptedStands
 accepted-stands set ok = fitting-stands set (setPlacement set) (may-charge set ok) (accepted-fits set ok)
@@ -46,7 +51,7 @@ accepted-stands set ok = fitting-stands set (setPlacement set) (may-charge set o
 pub plan-is-rota : PlanIsRota
 unfolding planMade
 plan-is-rota set plan full e =
-    let clear : Clear set = outcome-clear set (makes-done set plan e) .0 in
+    let clear : Clear set = outcome-clear set (makes-done set plan e) .0 .clear in
     let same = subst (λ (n : ℕ). SamePlan n plan (planMade set)) (sym (placement-count set full plan clear)) (same-made set full plan e) in
     (plan-outcome set ∙ makes-done set plan e, same-prints (rotaOf set (setPlacement set)) (setPlacement set) same (plan-prints set (setPlacement set)))
 

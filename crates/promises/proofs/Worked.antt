@@ -27,13 +27,17 @@ use Rattle.ring_claims.specs.Serves.{RingServer, WholeProcessor}
 use Rattle.tasks.specs.declared.set.Optional.the-variants.{Absent}
 use Rattle.tasks.specs.declared.set.Task.{Task}
 use Rattle.tasks.specs.declared.set.TaskSet.{TaskSet}
-use Rattle.tasks.specs.Set.{setOf}
+use Rattle.tasks.specs.Set.{setOf, interruptsWith}
 use Rattle.tasks.specs.Search.{some, firstFrom}
 use Rattle.frames.specs.Table.{widthsOf}
 use Rattle.framesizes.specs.Overflow.{lineOverflows, someTooLarge}
-use Rattle.taskask.specs.Ask.{countRow, twiceRow, headerOverflows, taskOverflows, maskedOverflows, askRow}
-use Rattle.taskrows.specs.Rows.{boardRow, rangeRow, figuresOutcome}
+use Rattle.taskask.specs.Ask.{countRow, twiceRow, headerOverflows, taskOverflows, maskedOverflows, interruptOverflows, askRow}
+use Rattle.taskrows.specs.Rows.{boardRow, rangeRow, interruptRow, figuresOutcome}
 use Rattle.setfigures.specs.Figures.{setFigures}
+use Rattle.setfigures.specs.Board.{setInterrupts}
+use Rattle.interrupting.specs.Interrupts.{boundTo, interruptDemand, greatest}
+use Rattle.byprocessor.specs.Interrupts.{onProcessor, byProcessor}
+use Rattle.alonerow.specs.Alone.{aloneRow}
 use Rattle.tightrows.specs.Rows.{slotRow, tightRow}
 use Rattle.rows.specs.Rows.{horizonOf, horizonRow, chargedOutcome}
 use Rattle.layout.specs.Made.{reservesWith, setPlacement, setReserves}
@@ -46,7 +50,7 @@ task id C = record { id = id; cost = C; deadline = 10; period = 10 }
 
 -- D: S 10, tasks 5/10/10, 5/10/10, 1/10/10
 abbrev pub setD : TaskSet
-setD = setOf (record { processors = 64; slot = 10; relj = 0; relo = 0; ctswo = 0; resd = 0; cpmdo = 0; masked = Absent }) (task 1 5 ∷ task 2 5 ∷ task 3 1 ∷ [])
+setD = setOf (record { processors = 64; slot = 10; relj = 0; relo = 0; ctswo = 0; resd = 0; cpmdo = 0; masked = Absent }) (task 1 5 ∷ task 2 5 ∷ task 3 1 ∷ []) []
 
 -- the reserves of D's rota
 abbrev reservesD : List ℕ
@@ -61,11 +65,11 @@ pub record WorkedD : Type 0 where
 
 -- each by computing
 accepted-D : Accepted setD
-unfolding setOf planOf planOutcome askRow countRow twiceRow some firstFrom boardRow rangeRow figuresOutcome headerOverflows taskOverflows maskedOverflows lineOverflows someTooLarge widthsOf chargedOutcome slotRow tightRow horizonRow horizonOf setReserves needed fullRow chosen cacheOf chargedIn serverLoads serverLoss passesWith fits reserveFor serversIn takes join placeBy fit placementOf reservesOf upTo setFigures reservesWith setPlacement smallestReserve enough passing verdictOf verdictAt firstFailing firstUpTo firstAfter failing ownHorizon leastMultipleOf leastMultiple commonMeasure measureIn maskedDemand gaining gainOf gainAt soonest soonestOf latest demand jobs supply supplyPast effectiveDeadline effectiveCost entryLoss ceilingOf ringTicks wholes
+unfolding setOf interruptsWith planOf planOutcome askRow countRow interruptOverflows interruptRow aloneRow setInterrupts byProcessor onProcessor greatest interruptDemand boundTo twiceRow some firstFrom boardRow rangeRow figuresOutcome headerOverflows taskOverflows maskedOverflows lineOverflows someTooLarge widthsOf chargedOutcome slotRow tightRow horizonRow horizonOf setReserves needed fullRow chosen cacheOf chargedIn serverLoads serverLoss passesWith fits reserveFor serversIn takes join placeBy fit placementOf reservesOf upTo setFigures reservesWith setPlacement smallestReserve enough passing verdictOf verdictAt firstFailing firstUpTo firstAfter failing ownHorizon leastMultipleOf leastMultiple commonMeasure measureIn maskedDemand gaining gainOf gainAt soonest soonestOf latest demand jobs supply supplyPast effectiveDeadline effectiveCost entryLoss ceilingOf ringTicks wholes
 accepted-D = refl
 
 reserves-D : reservesD ≡ 10 ∷ 1 ∷ []
-unfolding setOf chosen cacheOf chargedIn serverLoads serverLoss passesWith fits reserveFor serversIn takes join placeBy fit placementOf reservesOf upTo setFigures reservesWith setPlacement smallestReserve enough passing verdictOf verdictAt firstFailing firstUpTo firstAfter failing ownHorizon leastMultipleOf leastMultiple commonMeasure measureIn maskedDemand gaining gainOf gainAt soonest soonestOf latest demand jobs supply supplyPast effectiveDeadline effectiveCost entryLoss
+unfolding setOf interruptsWith setInterrupts byProcessor onProcessor greatest interruptDemand boundTo chosen cacheOf chargedIn serverLoads serverLoss passesWith fits reserveFor serversIn takes join placeBy fit placementOf reservesOf upTo setFigures reservesWith setPlacement smallestReserve enough passing verdictOf verdictAt firstFailing firstUpTo firstAfter failing ownHorizon leastMultipleOf leastMultiple commonMeasure measureIn maskedDemand gaining gainOf gainAt soonest soonestOf latest demand jobs supply supplyPast effectiveDeadline effectiveCost entryLoss
 reserves-D = refl
 
 pub worked-D : WorkedD

@@ -12,6 +12,7 @@ use Rattle.ring.specs.Who.{whoOf}
 use Rattle.ring_claims.specs.Rota.{unrolled}
 use Rattle.servers.specs.Fitting.{Fitting}
 use Rattle.setfigures.specs.Figures.{setFigures}
+use Rattle.setfigures.specs.Board.{setBoard}
 use Rattle.plan.specs.declared.plan.Plan.{Plan}
 use Rattle.plan.specs.Plan.{reservesIn}
 use Rattle.layout.specs.Made.{planWith, setPlacement}
@@ -31,7 +32,7 @@ Accepted set = planOf set .outcome ≡ Done
 
 -- its placement fits
 abbrev pub AcceptedFits : Type 0
-AcceptedFits = (set : TaskSet) → Accepted set → Fitting (set .header) (setFigures set) (setPlacement set)
+AcceptedFits = (set : TaskSet) → Accepted set → Fitting (setBoard set) (setFigures set) (setPlacement set)
 
 -- its rota stands
 abbrev pub AcceptedStands : Type 0

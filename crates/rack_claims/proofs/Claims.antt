@@ -88,7 +88,7 @@ module _ (tasks out answer : List ℕ) where
 
   is-short : listStatus tasks out answer ≡ 12 * 256 → FileAccepted tasks × TooShort tasks out answer
   is-short e =
-      by-status tasks out answer (λ ok room f. absurd (omega (arith, e, f))) (λ ok few f. (ok, few)) (λ some below. absurd (omega (arith, e, below)))
+      by-status tasks out answer (λ ok room f. absurd (omega (arith, e, f))) (λ ok few f. (ok, few)) (λ some other. absurd (other e))
 
   -- the number that stands there is that of the list's bytes
   first-number : (g : Given) → getD (listAnswer tasks out answer) 0 0 ≡ length (listText tasks)
@@ -114,5 +114,5 @@ list-told-apart =
       refused = λ tasks out answer r e.
           let told = list-own tasks out answer r e .status in
           let own = own-status tasks r e in
-          (λ f. omega (arith, f, told, own .0), λ f. omega (arith, f, told, own .1));
+          (λ f. omega (arith, f, told, own .0), λ f. own .1 (sym told ∙ f));
     }

@@ -1,7 +1,7 @@
 -- What is told of a file's switch list: given, refused for room, or refused as the file is; and what each leaves.
 -- Assumes nothing.
 use Prim.Native.Nat.{ℕ, _+_, _*_, _≤_, _<_}
-use mathlib.Core.Path.{_≡_, refl, ap, _∙_}
+use mathlib.Core.Path.{_≡_, refl, sym, ap, _∙_}
 use mathlib.Core.List.{List, _++_}
 use mathlib.Core.Bool.{or-true}
 use mathlib.Core.Logic.{_⊎_, inl, inr}
@@ -21,7 +21,7 @@ use Rattle.refusals.specs.Refused.{numberOf, placeOf}
 use Rattle.taskplan.specs.File.{filedOf}
 use Rattle.planfile_claims.proofs.Claims.{places-fit}
 use Rattle.filed_claims.specs.Claims.{FileAccepted}
-use Rattle.switch_claims.proofs.Claims.{filed-below}
+use Rattle.switch_claims.proofs.Claims.{filed-other}
 use Rattle.told.specs.Told.{statusOf, leavesNumbers}
 use Rattle.told.proofs.ToldLaws.{number-row}
 use Rattle.rack.specs.Rack.{listText, listNumbers, listTold, leavesText, listLeaves}
@@ -33,10 +33,10 @@ unfolding stored
 stored-front b text = ap (λ (n : ℕ). text ++ drop n b) (zero-add (length text))
 
 -- a file's own refusal has neither the status of a list nor that of ROOM
-pub own-status : (text : List ℕ) (r : Refusal) → filedOf text .outcome ≡ Refused r → (1 ≤ numberOf r * 256 + placeOf r) × (numberOf r * 256 + placeOf r < 12 * 256)
+pub own-status : (text : List ℕ) (r : Refusal) → filedOf text .outcome ≡ Refused r → (1 ≤ numberOf r * 256 + placeOf r) × (numberOf r * 256 + placeOf r ≡ 12 * 256 → ⊥)
 unfolding widthsOf
 own-status text r e =
-    (omega (arith, number-row r .0), omega (arith, filed-below text r e, places-fit text r e))
+    (omega (arith, number-row r .0), λ (same : numberOf r * 256 + placeOf r ≡ 12 * 256). filed-other text r e (omega (arith, same, places-fit text r e)))
 
 module _ (tasks out answer : List ℕ) where
   told-given : FileAccepted tasks → HasRoom tasks out answer → listTold tasks out answer ≡ Done
@@ -101,10 +101,10 @@ module _ (tasks out answer : List ℕ) where
 
   pub by-status : {P : Type 0} → (FileAccepted tasks → HasRoom tasks out answer → listStatus tasks out answer ≡ 0 → P) →
       (FileAccepted tasks → TooShort tasks out answer → listStatus tasks out answer ≡ 12 * 256 → P) →
-      (1 ≤ listStatus tasks out answer → listStatus tasks out answer < 12 * 256 → P) → P
+      (1 ≤ listStatus tasks out answer → (listStatus tasks out answer ≡ 12 * 256 → ⊥) → P) → P
   by-status given short own =
       by-outcome
       (λ ok room. given ok room (list-given ok room .status))
       (λ ok few. short ok few (list-short ok few .status))
-      (λ r e. own (omega (arith, list-own r e .status, own-status tasks r e .0)) (omega (arith, list-own r e .status, own-status tasks r e .1)))
+      (λ r e. own (omega (arith, list-own r e .status, own-status tasks r e .0)) (λ same. own-status tasks r e .1 (sym (list-own r e .status) ∙ same)))
       (filedOf tasks .outcome) refl

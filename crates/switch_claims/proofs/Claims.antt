@@ -27,7 +27,7 @@ use Rattle.taskplan.specs.declared.FileAnswer.{FileAnswer}
 use Rattle.taskplan.specs.File.{unless, filedOf}
 use Rattle.refusals.specs.Refused.{numberOf}
 use Rattle.tasks_claims.proofs.Claims.{read-refuses}
-use Rattle.plan_claims.specs.Claims.{PlannerRow, ASK, BOARD, RANGE, SLOT, TIGHT, HORIZON, FULL, refusalOf}
+use Rattle.plan_claims.specs.Claims.{PlannerRow, ASK, BOARD, RANGE, SLOT, TIGHT, HORIZON, ALONE, FULL, refusalOf}
 use Rattle.plan_claims.proofs.Claims.{plan-only}
 use Rattle.planfile_claims.proofs.AnswerLaws.{rows-exactly}
 use Rattle.planfile_claims.proofs.Claims.{same-filed, nothing-cut-off}
@@ -83,27 +83,28 @@ fits-told : (buffer text : List ℕ) (o : Outcome) → (o ≡ Done → length te
 fits-told buffer text Done fits never e = clash (cc (fitted-bytes buffer text (fits refl), e))
 fits-told buffer text (RefusedBy r) fits never e = never (cc)
 
--- neither reading nor planning gives ROOM: the refusal's number is below 12
-row-below : (row : PlannerRow) (k : ℕ) (r : Refusal) → r ≡ refusalOf row k → numberOf r ≤ 11
-row-below ASK k r e = omega (arith, ap numberOf e)
-row-below BOARD k r e = omega (arith, ap numberOf e)
-row-below RANGE k r e = omega (arith, ap numberOf e)
-row-below SLOT k r e = omega (arith, ap numberOf e)
-row-below TIGHT k r e = omega (arith, ap numberOf e)
-row-below HORIZON k r e = omega (arith, ap numberOf e)
-row-below FULL k r e = omega (arith, ap numberOf e)
+-- neither reading nor planning gives ROOM: the refusal's number is another than 12
+row-other : (row : PlannerRow) (k : ℕ) (r : Refusal) → r ≡ refusalOf row k → numberOf r ≡ 12 → ⊥
+row-other ASK k r e t = omega (arith, ap numberOf e)
+row-other BOARD k r e t = omega (arith, ap numberOf e)
+row-other RANGE k r e t = omega (arith, ap numberOf e)
+row-other SLOT k r e t = omega (arith, ap numberOf e)
+row-other TIGHT k r e t = omega (arith, ap numberOf e)
+row-other HORIZON k r e t = omega (arith, ap numberOf e)
+row-other ALONE k r e t = omega (arith, ap numberOf e)
+row-other FULL k r e t = omega (arith, ap numberOf e)
 
-pub filed-below : (text : List ℕ) (r : Refusal) → filedOf text .outcome ≡ RefusedBy r → numberOf r ≤ 11
-filed-below text =
-    refused-by (λ (q : Refusal). numberOf q ≤ 11) text (λ q e. omega (arith, read-refuses text q e .0))
-    (λ set q e. let o = plan-only set q e in row-below (o .0) (o .1) q (o .2))
+pub filed-other : (text : List ℕ) (r : Refusal) → filedOf text .outcome ≡ RefusedBy r → numberOf r ≡ 12 → ⊥
+filed-other text =
+    refused-by (λ (q : Refusal). numberOf q ≡ 12 → ⊥) text (λ q e t. omega (arith, read-refuses text q e .0))
+    (λ set q e. let o = plan-only set q e in row-other (o .0) (o .1) q (o .2))
 
 pub file-list-fits : FileListFits
 unfolding listed
 file-list-fits text buffer long =
     fits-told buffer (planSwitches (planIn text)) (filedOf text .outcome)
     (λ ok. omega (arith, long, list-short (setIn text) (planIn text) (filed-full text) (filed-made text ok)))
-    (λ e. absurd (omega (arith, filed-below text Room e)))
+    (λ e. filed-other text Room e refl)
 
 -- a list that is short, or the line of a refusal
 switched-few : (o : Outcome) (list : List ℕ) → (o ≡ Done → length list ≤ longestSwitches) → length (unless refusalText o list) ≤ longestSwitches

@@ -11,7 +11,7 @@ use Rattle.frames.specs.declared.table.Frame.{Frame}
 use Rattle.framesizes.specs.Overflow.{lineOverflows}
 use Rattle.tasks.specs.declared.set.TaskSet.{TaskSet}
 use Rattle.tasks.specs.Set.{mostTasks}
-use Rattle.taskread.specs.Read.{furthest}
+use Rattle.readbytes.specs.Furthest.{furthest}
 use Rattle.turn.specs.Switches.{Switch, turnSwitches}
 use Rattle.turn.specs.Count.{longestSwitches}
 use Rattle.turn_claims.specs.List.{StandsIn, named}
