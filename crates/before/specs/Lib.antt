@@ -1,3 +1,4 @@
+pub mod Earlier
 pub mod Reading
 pub mod Planning
 pub mod Answers

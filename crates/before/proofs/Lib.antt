@@ -1,3 +1,4 @@
 pub mod ReadingLaws
 pub mod PlanningLaws
+pub mod MaskedLaws
 pub mod Claims

@@ -1,0 +1,210 @@
+-- A text without a 07 line is read as before Req 08, and that, without a 05 line, as before Req 04: at each line that decides, the same
+-- rows hold.
+-- Assumes nothing.
+use Prim.Native.Nat.{ℕ, zero, suc, _+_, _≤_, _<_}
+use native.Mathlib.Omega.{arith}
+use mathlib.Core.List.{List, [], _∷_}
+use mathlib.Core.Bool.{Bool, true, false, not, _&&_, _||_, or-false, and-false}
+use mathlib.Core.Path.{_≡_, refl, sym, _∙_, ap, ap₂}
+use lib.ListN.{length, take}
+use lib.Dec.{eqb}
+use borrow.Author.Tests.{eqb-true}
+use Rattle.frames.specs.declared.table.Frame.{Frame}
+use Rattle.frameread.specs.Line.{formed, closed}
+use Rattle.refusals.specs.declared.Refusal.{Refusal}
+use Rattle.refusals.specs.declared.Refusal.the-variants.{Line, Order, Count, Twice, Board, Range}
+use Rattle.refusals.specs.declared.Outcome.{Outcome}
+use Rattle.refusals.specs.declared.Outcome.the-variants.{Done, Refused}
+use Rattle.refusals.specs.First.{firstOf, when, till}
+use Rattle.laws.proofs.Tests.{true-false}
+use Rattle.refusals.proofs.FirstLaws.{stays}
+use Rattle.tasks.specs.declared.set.Interrupt.{Interrupt}
+use Rattle.tasks.specs.declared.set.TaskSet.{TaskSet}
+use Rattle.tasks.specs.Set.{mostTasks, members, interruptsIn, interruptsWith, setOf, withMasked}
+use Rattle.tasks.specs.Search.{some, firstFrom, firstTask, atTask}
+use Rattle.taskrows.specs.Rows.{boardRow, rangeRow, interruptRow, rangeAt, figuresOutcome}
+use Rattle.taskfile.specs.File.{past, present, empty, isHeader, isTask, isMasked, firstLine, afterLast, lateTask, lineRow, orderRow, countLineRow, twiceLineRow, lineOutcome, headerAt, maskedAt, fileHeader, among, tasksAmong, interruptsAmong, fileTasks, fileInterrupts}
+use Rattle.taskfile.proofs.AmongLaws.{task-counts}
+use Rattle.taskfile.proofs.Lines.{clear-header}
+use Rattle.taskread.specs.Read.{answer, fileSet, readOutcome, readOf}
+use Rattle.before.specs.Earlier.{Earlier, before04, before08, oneTooMany}
+use Rattle.before.specs.Reading.{hadLine, hadSet, hadFigures, hadReadOutcome, hadRead}
+use Rattle.before.specs.Claims.{NoMaskedLine, NoInterruptLine}
+
+-- outcomes that are alike up to n are alike there
+till-same : (f g : ℕ → Outcome) (n : ℕ) → ((j : ℕ) → j < n → f (suc j) ≡ g (suc j)) → till f n ≡ till g n
+unfolding till
+till-same f g zero same = refl
+till-same f g (suc n) same = ap₂ firstOf (till-same f g n (λ j lt. same j (omega arith))) (same n (omega arith))
+
+-- so are outcomes whose first that refuses is the same
+till-first : (f g : ℕ → Outcome) (k n : ℕ) (r : Refusal) → till f k ≡ Done → till g k ≡ Done → f (suc k) ≡ Refused r → g (suc k) ≡ Refused r → k < n → till f n ≡ till g n
+till-first f g k n r clear clear′ e e′ lt = stays f k n r clear e lt ∙ sym (stays g k n r clear′ e′ lt)
+
+not-both : (b : Bool) → (b && not b) ≡ false
+not-both true = refl
+not-both false = refl
+
+till-none : (f : ℕ → Outcome) → till f 0 ≡ Done
+unfolding till
+till-none f = refl
+
+till-one : (f : ℕ → Outcome) → f 1 ≡ Done → till f 1 ≡ Done
+unfolding till
+till-one f e = e
+
+-- nothing behind a last row
+first-done : (o : Outcome) → firstOf o Done ≡ o
+first-done Done = refl
+first-done (Refused r) = refl
+
+-- rows 5 and 6 of a set without interrupts
+pub figures-none : (set : TaskSet) → interruptsIn set ≡ [] → figuresOutcome set ≡ hadFigures set
+unfolding figuresOutcome hadFigures firstFrom
+figures-none set none =
+    ap
+    (λ (is : List Interrupt).
+    firstOf (when (boardRow (set .header)) Board)
+    (firstOf (atTask Range (firstTask rangeRow (members set))) (atTask rangeAt (firstTask (interruptRow (set .header .processors)) is))))
+    none
+    ∙ ap (firstOf (when (boardRow (set .header)) Board)) (first-done (atTask Range (firstTask rangeRow (members set))))
+
+-- a set that was read had no interrupts
+pub had-none : (e : Earlier) (text : List ℕ) → interruptsIn (hadSet e text) ≡ []
+unfolding hadSet setOf interruptsWith
+had-none e text = refl
+
+-- ---- without a 07 line, as before Req 08
+
+module _ (text : List ℕ) (without : NoInterruptLine text) where
+  none-among : (n : ℕ) → interruptsAmong text n ≡ []
+  unfolding among
+  none-among zero = refl
+  none-among (suc n) = rw (none-among n, without (suc n) (omega arith)) refl
+
+  line-now : (n : ℕ) → lineRow text (suc n) ≡ before08 .line text (suc n)
+  unfolding lineRow some
+  line-now n = rw (without (suc n) (omega arith), or-false (isMasked text (suc n))) refl
+
+  never-late : (n : ℕ) → lateTask text (suc n) ≡ false
+  never-late n = rw (none-among n) (and-false (isTask text (suc n)))
+
+  order-now : (n : ℕ) → orderRow text (suc n) ≡ before08 .order text (suc n)
+  unfolding orderRow
+  order-now n = rw (never-late n, or-false (isMasked text (suc n) && not (eqb (suc n) 2))) refl
+
+  count-now : (n : ℕ) → countLineRow text (suc n) ≡ before08 .count text (suc n)
+  unfolding countLineRow oneTooMany
+  count-now n = rw (without (suc n) (omega arith), or-false (isTask text (suc n) && eqb (length (tasksAmong text n)) mostTasks)) refl
+
+  rows-now : (n : ℕ) → lineOutcome text (suc n) ≡ hadLine before08 text (suc n)
+  unfolding lineOutcome hadLine
+  rows-now n = rw (line-now n, order-now n, count-now n) refl
+
+  set-now : fileSet text ≡ hadSet before08 text
+  unfolding fileSet hadSet
+  set-now = ap (setOf (fileHeader text) (fileTasks text)) (none-among (length text))
+
+  pub read-now : readOf text ≡ hadRead before08 text
+  unfolding readOf readOutcome hadRead hadReadOutcome
+  read-now =
+      ap₂ (λ (o : Outcome) (set : TaskSet). answer (firstOf o (figuresOutcome set)) set)
+      (till-same (lineOutcome text) (hadLine before08 text) (length text + 2) (λ j lt. rows-now j)) set-now
+      ∙ ap (λ (o : Outcome). answer (firstOf (till (hadLine before08 text) (length text + 2)) o) (hadSet before08 text))
+      (figures-none (hadSet before08 text) (had-none before08 text))
+
+-- ---- without a 05 line, as before Req 04
+
+-- an 01 line is there
+header-there : (text : List ℕ) → formed Frame.Header text ≡ true → empty text ≡ false
+unfolding formed closed
+header-there [] f = true-false (sym f)
+header-there (b ∷ bs) f = refl
+
+module _ (text : List ℕ) (without : NoMaskedLine text) (uninterrupted : NoInterruptLine text) where
+  -- a line is refused, and as before
+  abbrev Alike : ℕ → Type 0
+  Alike k = (r : Refusal) × (hadLine before08 text k ≡ Refused r) × (hadLine before04 text k ≡ Refused r)
+
+  line-same : (n : ℕ) → before08 .line text (suc n) ≡ before04 .line text (suc n)
+  line-same n = rw (without (suc n) (omega arith), or-false (isTask text (suc n))) refl
+
+  order-same : (n : ℕ) → before08 .order text (suc n) ≡ before04 .order text (suc n)
+  order-same n = rw (without (suc n) (omega arith), or-false (isHeader text (suc n))) refl
+
+  -- the rows at a line, with COUNT's told beside
+  rows-same : (n : ℕ) → before08 .count text (suc n) ≡ before04 .count text (suc n) → hadLine before08 text (suc n) ≡ hadLine before04 text (suc n)
+  unfolding hadLine
+  rows-same n count = rw (line-same n, order-same n, count) refl
+
+  -- ---- a file with a task
+
+  count-some : (n : ℕ) → eqb (length (fileTasks text)) 0 ≡ false → before08 .count text (suc n) ≡ before04 .count text (suc n)
+  count-some n some = rw some (simp and-false)
+
+  -- ---- line 1, which never counts
+
+  count-first : before08 .count text 1 ≡ before04 .count text 1
+  unfolding past
+  count-first = rw (not-both (present text 1)) refl
+
+  first-same : hadLine before08 text 1 ≡ hadLine before04 text 1
+  first-same = rows-same 0 count-first
+
+  -- ---- line 2 of a file without a task, whose line 1 is an 01 line
+
+  module _ (none : eqb (length (fileTasks text)) 0 ≡ true) (header : formed Frame.Header text ≡ true) where
+    no-task : isTask text 2 ≡ false
+    no-task = go (isTask text 2) refl
+      where
+        go : (b : Bool) → isTask text 2 ≡ b → b ≡ false
+        go false e = refl
+        go true e = absurd (omega (arith, task-counts text 1 e, eqb-true (length (fileTasks text)) 0 none))
+
+    -- it is there: no kind that was admitted but 01, so it is LINE or ORDER, whatever COUNT says
+    second-there : (b : Bool) → isHeader text 2 ≡ b → present text 2 ≡ true → Alike 2
+    unfolding hadLine
+    second-there true e there = (Order 2, rw (there, e) refl, rw (there, e) refl)
+    second-there false e there = (Line 2, rw (there, e, no-task, without 2 (omega arith)) refl, rw (there, e, no-task) refl)
+
+    -- it is not: COUNT at line 2, the line after the last
+    second-absent : past 1 text ≡ [] → Alike 2
+    unfolding hadLine past formed closed
+    second-absent e = (Count 2, rw (e, header-there text header, none) refl, rw (e, none) refl)
+
+    second-same : Alike 2
+    second-same = go (past 1 text) refl
+      where
+        go : (rest : List ℕ) → past 1 text ≡ rest → Alike 2
+        go [] e = second-absent e
+        go (b ∷ bs) e = second-there (isHeader text 2) refl (ap (λ (rest : List ℕ). not (empty rest)) e)
+
+  -- ---- the whole text
+
+  lines-same : (n : ℕ) → 2 ≤ n → till (hadLine before08 text) n ≡ till (hadLine before04 text) n
+  lines-same n two = by-tasks (eqb (length (fileTasks text)) 0) refl
+    where
+      by-first : eqb (length (fileTasks text)) 0 ≡ true → (o : Outcome) → hadLine before08 text 1 ≡ o → till (hadLine before08 text) n ≡ till (hadLine before04 text) n
+      by-first none (Refused r) e =
+          till-first (hadLine before08 text) (hadLine before04 text) 0 n r (till-none (hadLine before08 text)) (till-none (hadLine before04 text)) e (sym first-same ∙ e) (omega arith)
+      by-first none Done e =
+          let second = second-same none (clear-header text (rows-now text uninterrupted 0 ∙ e)) in
+          till-first (hadLine before08 text) (hadLine before04 text) 1 n (second .0)
+          (till-one (hadLine before08 text) e)
+          (till-one (hadLine before04 text) (sym first-same ∙ e))
+          (second .1)
+          (second .2)
+          (omega arith)
+
+      by-tasks : (b : Bool) → eqb (length (fileTasks text)) 0 ≡ b → till (hadLine before08 text) n ≡ till (hadLine before04 text) n
+      by-tasks false some = till-same (hadLine before08 text) (hadLine before04 text) n (λ j lt. rows-same j (count-some j some))
+      by-tasks true none = by-first none (hadLine before08 text 1) refl
+
+  set-same : hadSet before08 text ≡ hadSet before04 text
+  unfolding hadSet fileHeader maskedAt headerAt
+  set-same = rw (without 2 (omega arith)) refl
+
+  pub read-same : hadRead before08 text ≡ hadRead before04 text
+  unfolding hadRead hadReadOutcome
+  read-same =
+      ap₂ (λ (o : Outcome) (set : TaskSet). answer (firstOf o (hadFigures set)) set) (lines-same (length text + 2) (omega arith)) set-same
