@@ -8,12 +8,12 @@ use Rattle.laws.specs.Same.{same}
 use Rattle.framewrite.specs.Line.{fields, lineOf}
 use Rattle.framesizes.specs.Overflow.{lineOverflows, someTooLarge}
 use Rattle.framelines.specs.Lines.{joined}
-use Rattle.tasks.specs.Set.{setOf}
+use Rattle.tasks.specs.Set.{interruptsWith, setOf}
 use Rattle.tasks.specs.Search.{some, firstFrom}
-use Rattle.taskask.specs.Ask.{countRow, twiceRow, headerOverflows, taskOverflows, maskedOverflows, askRow}
-use Rattle.taskrows.specs.Rows.{boardRow, rangeRow, figuresOutcome}
+use Rattle.taskask.specs.Ask.{countRow, twiceRow, headerOverflows, taskOverflows, maskedOverflows, interruptOverflows, askRow}
+use Rattle.taskrows.specs.Rows.{boardRow, rangeRow, interruptRow, figuresOutcome}
 use Rattle.refusals.specs.First.{till}
-use Rattle.taskfile.specs.File.{past, tasksAmong, lineRow, orderRow, countLineRow, twiceLineRow, lineOutcome, headerAt, taskAt, maskedAt, fileHeader}
+use Rattle.taskfile.specs.File.{past, among, lineRow, orderRow, countLineRow, twiceLineRow, lineOutcome, headerAt, taskAt, interruptAt, maskedAt, fileHeader}
 use Rattle.taskread.specs.Read.{fileSet, readOutcome, readOf}
 use Rattle.wholes.specs.Ceiling.{ceilingOf}
 use Rattle.wholes.specs.Measure.{measureIn, commonMeasure}
@@ -22,6 +22,7 @@ use Rattle.charging.specs.Charging.{effectiveDeadline, effectiveCost, entryLoss
 use Rattle.demand.specs.Demand.{jobs, demand}
 use Rattle.demand.specs.Passes.{fake}
 use Rattle.demand.specs.Supply.{gap, supplyPast, supply}
+use Rattle.interrupting.specs.Interrupts.{boundTo, interruptDemand, greatest}
 use Rattle.masking.specs.Masking.{soonestOf, soonest, latest, gainAt, gaining, gainOf, maskedDemand}
 use Rattle.verdict.specs.Reserve.{enough, smallestReserve}
 use Rattle.search.specs.Search.{lastUpTo, firstUpTo, firstAfter, short}
@@ -41,9 +42,12 @@ use Rattle.ring.specs.Phase.{phase}
 use Rattle.reserves.specs.Reserves.{ringTicks, wholes}
 use Rattle.reserves.specs.Whole.{wholeFrom}
 use Rattle.ring.specs.Who.{whoOf, firstReserve}
+use Rattle.byprocessor.specs.Interrupts.{onProcessor, byProcessor}
 use Rattle.setfigures.specs.Figures.{setFigures}
+use Rattle.setfigures.specs.Board.{setInterrupts}
 use Rattle.tightrows.specs.Rows.{slotRow, tightRow}
 use Rattle.rows.specs.Rows.{horizonOf, horizonRow, chargedOutcome}
+use Rattle.alonerow.specs.Alone.{aloneRow}
 use Rattle.places.specs.Padded.{upTo}
 use Rattle.layout.specs.Layout.{laidOut}
 use Rattle.layout.specs.Made.{reservesWith, planWith, setPlacement, setReserves, planMade}
@@ -62,5 +66,5 @@ use Rattle.planfile.specs.Tool.{answered}
 use Rattle.askfile.specs.OfFile.{whoIn, passIn}
 
 unfoldable pub computing : Unit {0}
-unfolding legal valueOf digitOf allLegal numberFrom hex kindOf widthsOf sum line after closed same formed fieldOf fields lineOf setOf some firstFrom countRow twiceRow boardRow rangeRow figuresOutcome headerOverflows taskOverflows maskedOverflows lineOverflows someTooLarge askRow past tasksAmong lineRow orderRow countLineRow twiceLineRow lineOutcome till headerAt taskAt maskedAt fileHeader fileSet readOutcome readOf ceilingOf measureIn commonMeasure leastMultiple leastMultipleOf effectiveDeadline effectiveCost entryLoss jobs demand soonestOf soonest latest gainAt gaining gainOf maskedDemand fake gap supplyPast supply enough smallestReserve lastUpTo firstUpTo firstAfter short steps lesser leastUpTo slack failing ownHorizon firstFailing closest readingAt verdictAt verdictOf passing placesFrom chosen cacheOf chargedIn serverLoads serverLoss passesWith fits reserveFor verdictFor serversIn takes join fit placeBy placementOf reservesOf covers covererUpTo standAt phase ringTicks wholes wholeFrom whoOf firstReserve setFigures slotRow tightRow horizonOf horizonRow chargedOutcome upTo laidOut reservesWith planWith setPlacement setReserves planMade alike sameFigures sameServer sameServers sameProcessors agrees needed fullRow planOutcome planOf makes allowed isProcessor isServer whoRuns doesPass joined serverFigures placedFigures processorFigures planLine serverLine placedLine processorLine planText refusalText plannedSet filedOf answered whoIn passIn
+unfolding legal valueOf digitOf allLegal numberFrom hex kindOf widthsOf sum line after closed same formed fieldOf fields lineOf interruptsWith setOf some firstFrom countRow twiceRow boardRow rangeRow interruptRow figuresOutcome headerOverflows taskOverflows maskedOverflows interruptOverflows lineOverflows someTooLarge askRow past among lineRow orderRow countLineRow twiceLineRow lineOutcome till headerAt taskAt interruptAt maskedAt fileHeader fileSet readOutcome readOf ceilingOf measureIn commonMeasure leastMultiple leastMultipleOf effectiveDeadline effectiveCost entryLoss jobs demand boundTo interruptDemand greatest soonestOf soonest latest gainAt gaining gainOf maskedDemand fake gap supplyPast supply enough smallestReserve lastUpTo firstUpTo firstAfter short steps lesser leastUpTo slack failing ownHorizon firstFailing closest readingAt verdictAt verdictOf passing placesFrom chosen cacheOf chargedIn serverLoads serverLoss passesWith fits reserveFor verdictFor serversIn takes join fit placeBy placementOf reservesOf covers covererUpTo standAt phase ringTicks wholes wholeFrom whoOf firstReserve onProcessor byProcessor setInterrupts setFigures slotRow tightRow horizonOf horizonRow chargedOutcome aloneRow upTo laidOut reservesWith planWith setPlacement setReserves planMade alike sameFigures sameServer sameServers sameProcessors agrees needed fullRow planOutcome planOf makes allowed isProcessor isServer whoRuns doesPass joined serverFigures placedFigures processorFigures planLine serverLine placedLine processorLine planText refusalText plannedSet filedOf answered whoIn passIn
 computing = tt

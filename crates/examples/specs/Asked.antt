@@ -4,11 +4,13 @@ use Prim.Native.Nat.{ℕ, _+_, _-_}
 use Prim.Native.String.{String}
 use mathlib.Core.List.{List}
 use mathlib.Core.Path.{_≡_}
-use Rattle.refusals.specs.declared.Refusal.the-variants.{Full}
+use Rattle.refusals.specs.declared.Refusal.the-variants.{Full, Alone}
 use Rattle.refusals.specs.declared.Outcome.{Outcome}
 use Rattle.refusals.specs.First.{firstOf, when}
 use Rattle.demand.specs.Passes.{fake}
 use Rattle.tasks.specs.declared.set.TaskSet.{TaskSet}
+use Rattle.tasks.specs.Set.{members}
+use Rattle.tasks.specs.Search.{firstTask, atTask}
 use Rattle.taskread.specs.declared.read.ReadAnswer.{ReadAnswer}
 use Rattle.taskread.specs.Read.{readOf}
 use Rattle.ring.specs.declared.clock.Tick.{Tick}
@@ -16,7 +18,9 @@ use Rattle.places.specs.Places.{chosen}
 use Rattle.loads.specs.Charge.{serverLoss}
 use Rattle.members.specs.Server.{serverDemand}
 use Rattle.setfigures.specs.Figures.{setFigures}
+use Rattle.setfigures.specs.Board.{setBoard}
 use Rattle.rows.specs.Rows.{horizonOf, chargedOutcome}
+use Rattle.alonerow.specs.Alone.{aloneRow}
 use Rattle.layout.specs.Made.{setPlacement}
 use Rattle.planner.specs.Planner.{needed, fullRow}
 use Rattle.whoruns.specs.declared.WhoAnswer.{WhoAnswer}
@@ -32,7 +36,7 @@ use Rattle.quoted.specs.Quoted.{bytesOf}
 abbrev pub fakeSum : TaskSet → (q R t : ℕ) → ℕ
 fakeSum set q R t =
     let members = chosen (setFigures set) (setPlacement set) q in
-    serverDemand (set .header) members t + fake (set .header .slot) (set .header .slot - R + serverLoss (set .header) members) t
+    serverDemand (setBoard set) members t + fake (set .header .slot) (set .header .slot - R + serverLoss (set .header) members) t
 
 abbrev pub fakeSumIn : List ℕ → (q R t : ℕ) → ℕ
 fakeSumIn text q R t = fakeSum (readOf text .set) q R t
@@ -45,9 +49,13 @@ horizonIn text = horizonOf (readOf text .set)
 abbrev pub rowsIn : List ℕ → Outcome
 rowsIn text = firstOf (readOf text .outcome) (chargedOutcome (readOf text .set))
 
--- that is the tool's refusal: where none of rows 1 to 9 refuses a file, row 10 does, or its plan is made
+-- rows 13 and 10, which are tried where a set's tasks are placed
+unfoldable pub placingRows : TaskSet → Outcome
+placingRows set = firstOf (atTask Alone (firstTask (aloneRow set) (members set))) (when (fullRow set) (Full (needed set)))
+
+-- that is the tool's refusal: where none of rows 1 to 9 refuses a file, row 13 or row 10 does, or its plan is made
 abbrev pub RowsRefuse : Type 0
-RowsRefuse = (text : List ℕ) → filedOf text .outcome ≡ firstOf (rowsIn text) (when (fullRow (readOf text .set)) (Full (needed (readOf text .set))))
+RowsRefuse = (text : List ℕ) → filedOf text .outcome ≡ firstOf (rowsIn text) (placingRows (readOf text .set))
 
 -- what is asked of a file
 pub data Question : Type 0 where

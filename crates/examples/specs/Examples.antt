@@ -1,4 +1,4 @@
--- Examples A to L of document 01, and M of document 02, Req 04: lists of what is asked and what is given, and one statement for each,
+-- Examples A to L of document 01, M of document 02, Req 04, and N and O of Req 08: lists of what is asked and what is given, and one statement for each,
 -- that every row holds.
 -- It is proved in proofs/Claims.antt.
 use Prim.Native.Nat.{ℕ}
@@ -172,3 +172,36 @@ maskedExamples =
 
 abbrev pub Masked : Type 0
 Masked = Every maskedExamples
+
+-- m 2, S 10, task 1/20/20; interrupts 2/5/10 with no jitter and 3/6/10 with jitter 1, so that both are due after 5: on processors 1 and 2,
+-- and both on processor 1
+abbrev pub fileN1 : String
+fileN1 = "010200000A00000000000000000000\n0201000001000014000014\n070100000200000500000A0000\n070200000300000600000A0001\n"
+
+abbrev pub fileN2 : String
+fileN2 = "010200000A00000000000000000000\n0201000001000014000014\n070100000200000500000A0000\n070100000300000600000A0001\n"
+
+-- m 1, S 10, tasks 8/10/10 and 9/10/10; an interrupt 2/10/10 with jitter 1
+abbrev pub fileO : String
+fileO = "010100000A00000000000000000000\n020100000800000A00000A\n020200000900000A00000A\n070100000200000A00000A0001\n"
+
+abbrev pub interruptedExamples : List Example
+interruptedExamples =
+    -- on two processors they don't add: at length 5 the demand is 3, and R = 8 has nothing to spare there
+    row (prints fileN1) (lines "1100010100000A00000002\n12010000080000000001\n130101\n140101000008\n")
+    ∷ row (passes fileN1 1 8) (passesAt 5 3 3)
+    ∷ row (passes fileN1 1 7) (failsAt 5 3 2)
+    -- on one they do: the demand there is 5, and the server has a whole processor
+    ∷ row (prints fileN2) (lines "1101000100000A00000000\n120100000AFFFFFFFF01\n130101\n14010100000A\n")
+    ∷ row (passes fileN2 1 10) (passesAt 5 5 5)
+    -- task 2 fails alone: 13 at its place, though the board would be full as well
+    ∷ row (prints fileO) (lines "1F0D02\n")
+    -- a task behind an interrupt, no task, an interrupt a digit short, and one of a board's third processor, of two
+    ∷ row (prints "010200000A00000000000000000000\n070100000200000500000A0000\n0201000001000014000014\n") (lines "1F0203\n")
+    ∷ row (prints "010200000A00000000000000000000\n070100000200000500000A0000\n") (lines "1F0303\n")
+    ∷ row (prints "010200000A00000000000000000000\n0201000001000014000014\n070100000200000500000A000\n") (lines "1F0103\n")
+    ∷ row (prints "010200000A00000000000000000000\n0201000001000014000014\n070300000200000500000A0000\n") (lines "1F0641\n")
+    ∷ []
+
+abbrev pub Interrupted : Type 0
+Interrupted = Every interruptedExamples
