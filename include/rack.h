@@ -5,7 +5,8 @@
  * memory is read or written only within its length, and what is written must not overlap what is read or what else
  * is written.
  *
- * A task file is the text of documents 01 and 02: one 01 line, a 05 line or none, then 02 lines, in hexadecimal. */
+ * A task file is the text of documents 01 and 02: one 01 line, a 05 line or none, then 02 lines, then 07 lines or none, in
+ * hexadecimal. */
 #ifndef RACK_H
 #define RACK_H
 
@@ -19,10 +20,10 @@ extern "C" {
 /* No function takes more stack than this, its own return address included: reckoned from the built code, in which no
  * function calls itself and no call is indirect. What memcpy and memset take below their return address is assumed small
  * and not in it. */
-#define RACK_STACK_BYTES 32768
+#define RACK_STACK_BYTES 45056
 
 /* Of a task file no more than this is looked at, which is more than any good file has: a caller need not read on. */
-#define RACK_TASKS_BYTES 1541
+#define RACK_TASKS_BYTES 2405
 
 /* The longest text that rack_plan stores. */
 #define RACK_PLAN_BYTES 2647
@@ -48,7 +49,7 @@ size_t rack_plan(const uint8_t *tasks, size_t tasks_len, uint8_t *out, size_t ou
  *
  * Answers 0 and stores the text, and in answer[0] its length, which is 0 where the plan has no ring processors.
  * Otherwise answers the refusal as number * 256 + place, and stores nothing, neither in out nor in answer: the file's
- * or the planner's own (1 to 10), then 12 where out_len is less than the text's length or answer_len is 0;
+ * or the planner's own (1 to 10, 13), then 12 where out_len is less than the text's length or answer_len is 0;
  * RACK_SWITCHES_BYTES always suffice. The text has no closing 0. */
 uint64_t rack_switches(const uint8_t *tasks, size_t tasks_len, uint8_t *out, size_t out_len,
                        uint64_t *answer, size_t answer_len);
@@ -62,7 +63,7 @@ uint64_t rack_switches(const uint8_t *tasks, size_t tasks_len, uint8_t *out, siz
  *
  * Answers 0 and stores answer[0], the server or 0 for idle, and answer[1], the ticks left, this one included.
  * Otherwise answers the refusal as number * 256 + place, and stores nothing: the file's or the planner's own
- * (1 to 10), 11 where the processor is not there, then 12 where answer_len is less than 2. */
+ * (1 to 10, 13), 11 where the processor is not there, then 12 where answer_len is less than 2. */
 uint64_t rack_who(const uint8_t *tasks, size_t tasks_len, uint64_t processor, uint64_t tick,
                   uint64_t *answer, size_t answer_len);
 
@@ -77,7 +78,7 @@ uint64_t rack_who(const uint8_t *tasks, size_t tasks_len, uint64_t processor, ui
  * answer[3], the supply there. For yes: of the lengths where demand steps, that is, is more than at the length before,
  * the smallest with the smallest supply - demand. For no: the smallest length at which demand exceeds supply.
  * Otherwise answers the refusal as number * 256 + place, and stores nothing: the file's or the planner's own
- * (1 to 10), 11 where the server is not there or the reserve not allowed, then 12 where answer_len is less than 4. */
+ * (1 to 10, 13), 11 where the server is not there or the reserve not allowed, then 12 where answer_len is less than 4. */
 uint64_t rack_pass(const uint8_t *tasks, size_t tasks_len, uint64_t server, uint64_t reserve,
                    uint64_t *answer, size_t answer_len);
 

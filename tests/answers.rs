@@ -1,11 +1,12 @@
-// What an archive of the tool answers to some 44,000 task files: one line a file, a fingerprint of its plan's bytes and of
-// what the questions say. Two builds that answer alike print alike; tests/same compares them.
+// What an archive of the tool answers to some 58,000 task files, with 05 lines and without, none with a 07 line: one line a file,
+// a fingerprint of its plan's bytes and of what the questions say. Two builds that answer alike print alike; tests/same compares
+// them.
 mod files;
 #[allow(dead_code)]
 mod oracle;
 mod random;
 
-use files::{damaged, good};
+use files::{damaged, good, masked, masked_anywhere};
 use oracle::{Set, Task};
 use random::Random;
 
@@ -28,6 +29,9 @@ impl Print {
 }
 
 fn tell(file: &[u8], random: &mut Random) {
+    if file.split(|b| *b == b'\n').any(|line| line.starts_with(b"07") && line.len() == 26) {
+        return;
+    }
     let mut print = Print(0xcbf2_9ce4_8422_2325);
     let mut out = vec![0xA5; 3000];
     let n = unsafe { rack_plan(file.as_ptr(), file.len(), out.as_mut_ptr(), out.len()) };
@@ -80,6 +84,17 @@ fn main() {
     for _ in 0..30000 {
         let mut file = oracle::file(&good(&mut random)).into_bytes();
         damaged(&mut random, &mut file);
+        tell(&file, &mut random);
+    }
+    let mut random = Random(31);
+    (0..4000).for_each(|_| tell(oracle::file(&masked(&mut random)).as_bytes(), &mut random));
+    let mut random = Random(32);
+    for i in 0..10000 {
+        let mut file = oracle::file(&masked(&mut random)).into_bytes();
+        masked_anywhere(&mut random, &mut file);
+        if i % 3 == 0 {
+            damaged(&mut random, &mut file);
+        }
         tell(&file, &mut random);
     }
     let mut random = Random(17);

@@ -12,11 +12,13 @@ extern "C" {
     fn probe_closest(loads: *const u64, loads_len: usize, n: usize, masked: u64, slot: u64, gap: u64, hi: u64) -> u64;
 }
 
-// The loads stand in one row of numbers, as the search takes them: cost, deadline, period.
+// The loads stand in one row of numbers, as the search takes them: cost, deadline, period. Behind these n stand the interrupts by
+// processor: processor, cost, deadline, period.
 #[derive(Clone)]
 struct Server {
     name: &'static str,
     loads: Vec<u64>,
+    n: usize,
     slot: u64,
     gap: u64,
     horizon: u64,
@@ -24,33 +26,60 @@ struct Server {
 
 impl Server {
     fn new(name: &'static str, slot: u64, gap: u64, horizon: u64) -> Server {
-        Server { name, loads: vec![], slot, gap, horizon }
+        Server { name, loads: vec![], n: 0, slot, gap, horizon }
     }
 
     fn add(&mut self, cost: u64, deadline: u64, period: u64) {
         self.loads.extend([cost, deadline, period]);
+        self.n += 1;
+    }
+
+    // The loads' own numbers, and the interrupts'.
+    fn own(&self) -> std::slice::ChunksExact<'_, u64> {
+        self.loads[..3 * self.n].chunks_exact(3)
+    }
+
+    fn interrupts(&self) -> std::slice::ChunksExact<'_, u64> {
+        self.loads[3 * self.n..].chunks_exact(4)
+    }
+
+    // For each processor with interrupts what they ask for, and the last of their deadlines.
+    fn processors(&self, t: u64) -> Vec<(u64, u64)> {
+        let (mut each, mut processor): (Vec<(u64, u64)>, u64) = (vec![], 0);
+        for i in self.interrupts() {
+            if i[0] != processor {
+                each.push((0, 0));
+                processor = i[0];
+            }
+            if i[2] <= t {
+                let at = each.last_mut().unwrap();
+                *at = (at.0 + i[1] * ((t - i[2]) / i[3] + 1), at.1.max(t - (t - i[2]) % i[3]));
+            }
+        }
+        each
     }
 
     fn demand(&self, t: u64) -> u64 {
-        self.loads
-            .chunks_exact(3)
-            .filter(|load| load[1] <= t)
-            .map(|load| load[0] * ((t - load[1]) / load[2] + 1))
-            .sum()
+        let own: u64 = self.own().filter(|load| load[1] <= t).map(|load| load[0] * ((t - load[1]) / load[2] + 1)).sum();
+        own + self.processors(t).iter().map(|p| p.0).max().unwrap_or(0)
     }
 
     fn supply(&self, t: u64) -> u64 {
         t / self.slot * (self.slot - self.gap) + (t % self.slot).saturating_sub(self.gap)
     }
 
+    // The first deadline and the period of each load and of each interrupt.
+    fn deadlines(&self) -> impl Iterator<Item = (u64, u64)> + '_ {
+        self.own().map(|load| (load[1], load[2])).chain(self.interrupts().map(|i| (i[2], i[3])))
+    }
+
     fn steps(&self) -> BTreeSet<u64> {
         let mut steps = BTreeSet::new();
-        for load in self.loads.chunks_exact(3) {
-            let mut t = load[1];
-            while t <= self.horizon {
-                steps.insert(t);
-                t += load[2];
-            }
+        for (deadline, period) in self.deadlines() {
+            steps.extend((deadline..=self.horizon).step_by(period as usize));
+        }
+        if self.interrupts().len() > 0 {
+            steps.retain(|t| self.demand(*t) > self.demand(*t - 1));
         }
         steps
     }
@@ -86,11 +115,11 @@ impl Server {
     }
 
     fn proved(&self) -> u64 {
-        // The contract's conditions hold of every server made below: sound and small loads, at most 256, gap below the slot,
-        // short lengths.
+        // The contract's conditions hold of every server made below: sound and small loads and interrupts, at most 256 together,
+        // these by processor, gap below the slot, short lengths.
         unsafe {
             probe_last_short(
-                self.loads.as_ptr(), self.loads.len(), self.loads.len() / 3, self.slot, self.gap, self.horizon,
+                self.loads.as_ptr(), self.loads.len(), self.n, self.slot, self.gap, self.horizon,
             )
         }
     }
@@ -99,12 +128,17 @@ impl Server {
         self.supply(t) - self.demand(t)
     }
 
+    // A greatest steps last where the first of those that are the greatest now came to what it is.
     fn last_step(&self, hi: u64) -> u64 {
-        self.loads.chunks_exact(3).filter(|load| load[1] <= hi).map(|load| hi - (hi - load[1]) % load[2]).max().unwrap()
+        let own = self.own().filter(|load| load[1] <= hi).map(|load| hi - (hi - load[1]) % load[2]).max();
+        let each = self.processors(hi);
+        let most = each.iter().map(|p| p.0).max().unwrap_or(0);
+        let interrupts = each.iter().filter(|p| 0 < p.0 && p.0 == most).map(|p| p.1).min();
+        own.max(interrupts).unwrap()
     }
 
     fn first_step(&self) -> u64 {
-        self.loads.chunks_exact(3).map(|load| load[1]).min().unwrap()
+        self.deadlines().map(|(deadline, _)| deadline).min().unwrap()
     }
 
     // The smallest step with the least to spare, and how many lengths were looked at; what a first step has to spare is known.
@@ -133,7 +167,7 @@ impl Server {
     fn proved_close(&self) -> u64 {
         unsafe {
             probe_closest(
-                self.loads.as_ptr(), self.loads.len(), self.loads.len() / 3, 0, self.slot, self.gap, self.horizon,
+                self.loads.as_ptr(), self.loads.len(), self.n, 0, self.slot, self.gap, self.horizon,
             )
         }
     }
@@ -204,7 +238,28 @@ fn servers() -> Vec<Server> {
     }
     long.add(20_000, 78_125, 78_125);
     all.push(long);
+    for (name, m, share, gap) in [
+        ("55 % of a reserve of 75 %, 32 interrupts on 1", 1, 550, 360),
+        ("80 % of a processor, 32 interrupts on 1", 1, 800, 0),
+        ("55 % of a reserve of 75 %, 32 interrupts on 8", 8, 550, 360),
+        ("80 % of a processor, 32 interrupts on 8", 8, 800, 0),
+        ("55 % of a reserve of 75 %, 32 interrupts on 32", 32, 550, 360),
+        ("80 % of a processor, 32 interrupts on 32", 32, 800, 0),
+    ] {
+        let loads = server(&mut random, name, share, 1440, gap);
+        all.push(interrupted(&mut random, loads, m));
+    }
     all
+}
+
+// The same with 32 interrupts on m processors, which ask for about a tenth of each.
+fn interrupted(random: &mut Random, mut s: Server, m: u64) -> Server {
+    let periods = divisors(H, 2_000, 1_000_000);
+    for i in 0..32 {
+        let period = random.one(&periods);
+        s.loads.extend([1 + i * m / 32, (period * m / 320).max(1), random.within(period / 2, period), period]);
+    }
+    s
 }
 
 // Where the least to spare is dear to find: a reserve that is just enough, and periods close to each other, so that many lengths
@@ -235,7 +290,7 @@ fn micros(mut run: impl FnMut()) -> f64 {
 }
 
 fn short_lengths() {
-    println!("{:<44} {:>8} {:>8} {:>8} {:>11} {:>11} {:>9}", "server (64 loads)", "steps", "walked", "descent", "walk us", "proved us", "answer");
+    println!("{:<48} {:>8} {:>8} {:>8} {:>11} {:>11} {:>9}", "server (64 loads)", "steps", "walked", "descent", "walk us", "proved us", "answer");
     for s in servers() {
         let steps: Vec<u64> = s.steps().into_iter().collect();
         let (walked, walk_evaluations) = s.walk(&steps);
@@ -248,7 +303,7 @@ fn short_lengths() {
         let walk_time = micros(|| assert_eq!(s.walk(&steps).0, walked));
         let proved_time = micros(|| assert_eq!(s.proved(), answer));
         println!(
-            "{:<44} {:>8} {:>8} {:>8} {:>11.1} {:>11.1} {:>9}",
+            "{:<48} {:>8} {:>8} {:>8} {:>11.1} {:>11.1} {:>9}",
             s.name, steps.len(), walk_evaluations, evaluations, walk_time, proved_time, answer
         );
     }
@@ -256,7 +311,7 @@ fn short_lengths() {
 
 fn close_lengths() {
     println!(
-        "{:<44} {:>8} {:>8} {:>8} {:>8} {:>9} {:>9} {:>9} {:>6}",
+        "{:<48} {:>8} {:>8} {:>8} {:>8} {:>9} {:>9} {:>9} {:>6}",
         "server (64 loads)", "steps", "test", "closest", "from H", "walk us", "test us", "close us", "ratio"
     );
     for s in close_servers() {
@@ -270,7 +325,7 @@ fn close_lengths() {
         let test_time = micros(|| assert_eq!(s.proved(), 0));
         let close_time = micros(|| assert_eq!(s.proved_close(), answer));
         println!(
-            "{:<44} {:>8} {:>8} {:>8} {:>8} {:>9.1} {:>9.1} {:>9.1} {:>6.1}",
+            "{:<48} {:>8} {:>8} {:>8} {:>8} {:>9.1} {:>9.1} {:>9.1} {:>6.1}",
             s.name, steps.len(), tested, looked, looked_from_horizon, walk_time, test_time, close_time, (test_time + close_time) / test_time
         );
     }

@@ -5,8 +5,8 @@ mod files;
 mod oracle;
 mod random;
 
-use files::{damaged, good, masked, masked_anywhere};
-use oracle::{Set, Task};
+use files::{damaged, good, interrupted, interrupts, interrupts_anywhere, masked, masked_anywhere};
+use oracle::{Interrupt, Plan, Set, Task};
 use random::Random;
 
 extern "C" {
@@ -52,7 +52,7 @@ fn refusal(file: &[u8]) -> usize {
 }
 
 fn examples() {
-    for name in ["a", "b", "c", "d", "e", "f", "g", "h1", "h2", "i", "j", "k", "m"] {
+    for name in ["a", "b", "c", "d", "e", "f", "g", "h1", "h2", "i", "j", "k", "m", "n1", "n2", "o"] {
         let file = std::fs::read(format!("examples/{}.tasks", name)).unwrap();
         let plan = std::fs::read(format!("examples/{}.plan", name)).unwrap();
         assert_eq!(plan_text(&file), plan, "example {}", name);
@@ -88,7 +88,7 @@ fn masked_files() {
 
 fn masked_lines() {
     let mut random = Random(32);
-    let mut seen = [0u32; 13];
+    let mut seen = [0u32; 14];
     for i in 0..20000 {
         let set = if i % 2 == 0 { good(&mut random) } else { masked(&mut random) };
         let mut file = oracle::file(&set).into_bytes();
@@ -107,44 +107,236 @@ fn masked_lines() {
     }
 }
 
-// Small plans, each server with each allowed reserve: every length up to three horizons is looked at.
+// A set with a small horizon.
+fn small(random: &mut Random) -> Set {
+    let horizon = random.one(&[24, 40, 60]);
+    let divisors: Vec<u64> = (2..=horizon).filter(|d| horizon % d == 0).collect();
+    let s = random.one(&divisors[..3]);
+    let mut set = Set { m: 64, s, relj: random.within(0, 1), resd: random.within(0, 1), ..Set::default() };
+    for id in 0..random.within(1, 6) {
+        let t = random.one(&divisors).max(s);
+        let d = random.within(s, t);
+        set.tasks.push(Task { id, c: random.within(1, (d / 3).max(1)), d, t });
+    }
+    set
+}
+
+// Of a set that has a plan each server with each allowed reserve, by looking at every length up to three horizons. Each answer
+// is handed on with its server's smallest and largest deadline. No plan: no answer.
+fn every_length(set: &Set, mut answered: impl FnMut(&Plan, [u64; 4], u64, u64)) -> bool {
+    let plan = match oracle::plan(set) {
+        Ok(plan) => plan,
+        Err(_) => return false,
+    };
+    let file = oracle::file(set).into_bytes();
+    same_plan(&file);
+    for (q, own) in plan.reserves.iter().enumerate() {
+        let loads = plan.members_loads(q + 1);
+        let deadlines = || loads.iter().map(|l| l.d);
+        for r in (plan.board.loss + 1..set.s).chain([set.s]) {
+            let expected = plan.board.verdict_walked(&loads, r);
+            assert_eq!(pass(&file, q as u64 + 1, r), (0, expected), "server {} reserve {}\n{}", q + 1, r, oracle::file(set));
+            assert_eq!(expected[0] == 1, r >= *own, "server {} reserve {}\n{}", q + 1, r, oracle::file(set));
+            answered(&plan, expected, deadlines().min().unwrap(), deadlines().max().unwrap());
+        }
+    }
+    true
+}
+
 fn masked_lengths() {
     let mut random = Random(33);
     let (mut asked, mut inside) = (0, 0);
     while asked < 600 {
-        let horizon = random.one(&[24, 40, 60]);
-        let divisors: Vec<u64> = (2..=horizon).filter(|d| horizon % d == 0).collect();
-        let s = random.one(&divisors[..3]);
-        let mut set = Set { m: 64, s, relj: random.within(0, 1), resd: random.within(0, 1), masked: Some(random.within(0, 6)), ..Set::default() };
-        for id in 0..random.within(1, 6) {
-            let t = random.one(&divisors).max(s);
-            let d = random.within(s, t);
-            set.tasks.push(Task { id, c: random.within(1, (d / 3).max(1)), d, t });
-        }
-        let plan = match oracle::plan(&set) {
-            Ok(plan) => plan,
-            Err(_) => continue,
-        };
-        asked += 1;
-        let file = oracle::file(&set).into_bytes();
-        same_plan(&file);
-        for (q, own) in plan.reserves.iter().enumerate() {
-            let loads = plan.members_loads(q + 1);
-            let ends = (loads.iter().map(|l| l.d).min().unwrap(), loads.iter().map(|l| l.d).max().unwrap());
-            for r in (plan.loss + 1..set.s).chain([set.s]) {
-                let expected = oracle::verdict_walked(&loads, plan.b, set.s, plan.loss, r);
-                assert_eq!(pass(&file, q as u64 + 1, r), (0, expected), "server {} reserve {}\n{}", q + 1, r, oracle::file(&set));
-                assert_eq!(expected[0] == 1, r >= *own, "server {} reserve {}\n{}", q + 1, r, oracle::file(&set));
-                inside += (plan.b > 0 && ends.0 <= expected[1] && expected[1] < ends.1) as u32;
-            }
-        }
+        let set = Set { masked: Some(random.within(0, 6)), ..small(&mut random) };
+        asked += every_length(&set, |plan, [_, t, _, _], from, until| inside += (plan.board.b > 0 && from <= t && t < until) as u32) as u32;
     }
     assert!(inside > 300, "only {} answers named a length that gains", inside);
 }
 
+fn interrupt_files() {
+    let mut random = Random(34);
+    let (mut seen, mut moved) = ([0u32; 14], 0);
+    for _ in 0..4000 {
+        let set = interrupted(&mut random);
+        let file = oracle::file(&set).into_bytes();
+        same_plan(&file);
+        seen[refusal(&file)] += 1;
+        moved += (plan_text(&file) != plan_text(oracle::file(&Set { interrupts: vec![], ..set }).as_bytes())) as u32;
+    }
+    assert!(seen[0] > 800 && seen[10] > 50 && seen[13] > 100, "refusals: {:?}", seen);
+    assert!(moved > 500, "only {} files had another plan without their 07 lines", moved);
+}
+
+// 07 lines anywhere, 05 lines too, whole and damaged: before the tasks, between them, on line 1, with no task.
+fn interrupt_lines() {
+    let mut random = Random(35);
+    let mut seen = [0u32; 14];
+    for i in 0..20000 {
+        let set = match i % 4 {
+            0 => good(&mut random),
+            1 => masked(&mut random),
+            2 => Set { tasks: vec![], interrupts: vec![Interrupt { p: 1, c: 1, d: 9, t: 10, j: 3 }], ..good(&mut random) },
+            _ => interrupted(&mut random),
+        };
+        let mut file = oracle::file(&set).into_bytes();
+        interrupts_anywhere(&mut random, &mut file);
+        if i % 5 == 0 {
+            masked_anywhere(&mut random, &mut file);
+        }
+        if i % 3 == 0 {
+            damaged(&mut random, &mut file);
+        }
+        if i % 7 == 0 {
+            file.truncate(random.within(0, 90) as usize);
+        }
+        same_plan(&file);
+        seen[refusal(&file)] += 1;
+    }
+    for number in [0, 1, 2, 3, 6, 10, 13] {
+        assert!(seen[number] > 10, "hardly a file met refusal {}: {:?}", number, seen);
+    }
+}
+
+// The refusal, number and place, that a set's file should meet.
+fn refused(set: &Set, number: usize, place: usize) {
+    let file = oracle::file(set).into_bytes();
+    assert_eq!(String::from_utf8_lossy(&plan_text(&file)), format!("1F{:02X}{:02X}\n", number, place), "{}", String::from_utf8_lossy(&file));
+    same_plan(&file);
+}
+
+const LIGHT: Interrupt = Interrupt { p: 1, c: 1, d: 50, t: 100, j: 0 };
+
+fn three_tasks(m: u64) -> Set {
+    Set { m, s: 10, tasks: (0..3).map(|id| Task { id, c: 1, d: 100, t: 100 }).collect(), ..Set::default() }
+}
+
+// Each bound of an interrupt's figures, reached and passed, at every place; a task's comes before, and the board's before that.
+fn interrupt_ranges() {
+    for m in [1, 2, 63, 64] {
+        for place in 1..=32 {
+            for (count, interrupt, good) in [
+                (place, Interrupt { p: 0, ..LIGHT }, false),
+                (place, Interrupt { p: m, ..LIGHT }, true),
+                (32, Interrupt { p: m + 1, ..LIGHT }, false),
+                (32, Interrupt { p: 255, ..LIGHT }, false),
+                (place, Interrupt { c: 0, ..LIGHT }, false),
+                (place, Interrupt { c: 50, ..LIGHT }, true),
+                (place, Interrupt { c: 51, ..LIGHT }, false),
+                (32, Interrupt { c: 0, d: 0, ..LIGHT }, false),
+                (32, Interrupt { d: 100, ..LIGHT }, true),
+                (32, Interrupt { d: 101, ..LIGHT }, false),
+                (place, Interrupt { t: 1_000_000, ..LIGHT }, true),
+                (place, Interrupt { t: 1_000_001, ..LIGHT }, false),
+                (place, Interrupt { t: 0xFF_FFFF, ..LIGHT }, false),
+                (32, Interrupt { j: 49, ..LIGHT }, true),
+                (32, Interrupt { j: 50, ..LIGHT }, false),
+                (place, Interrupt { j: 0xFFFF, ..LIGHT }, false),
+            ] {
+                let mut set = Set { interrupts: vec![LIGHT; count], ..three_tasks(m) };
+                set.interrupts[place - 1] = interrupt;
+                if good {
+                    let file = oracle::file(&set).into_bytes();
+                    assert!([0, 10, 13].contains(&refusal(&file)));
+                    if place == 1 {
+                        same_plan(&file);
+                    }
+                    continue;
+                }
+                refused(&set, 6, 64 + place);
+                set.interrupts.push(Interrupt { c: 0, ..LIGHT });
+                set.interrupts.truncate(32);
+                refused(&set, 6, 64 + place);
+                set.tasks[2].t = 1_000_001;
+                refused(&set, 6, 3);
+                set.s = 0;
+                refused(&set, 5, 0);
+            }
+        }
+    }
+}
+
+// 32 interrupts are read, wherever their processors are; a 33rd is one too many at its line, and what follows is not looked at.
+fn many_interrupts() {
+    let mut random = Random(36);
+    for (count, line, tasks) in (28..=40).flat_map(|count| [(count, None, 3), (count, Some(2), 3), (count, None, 64), (count, Some(0), 64)]) {
+        let tasks: Vec<Task> = (0..tasks).map(|id| Task { id, c: 1, d: 700, t: 720 }).collect();
+        let lines = 1 + line.map_or(0, |_| 1) + tasks.len();
+        let interrupts = (0..count).map(|_| Interrupt { p: random.within(1, 8), c: 1, d: random.within(100, 240), t: 240, j: random.within(0, 9) }).collect();
+        let set = Set { m: 64, s: 10, masked: line, tasks, interrupts, ..Set::default() };
+        let file = oracle::file(&set).into_bytes();
+        same_plan(&file);
+        assert_eq!(plan_text(&file), plan_text(&file[..file.len().min(LOOKED_AT)]));
+        if count > 32 {
+            refused(&set, 3, lines + 33);
+        } else {
+            assert_eq!(refusal(&file), 0);
+        }
+        for more in ["0", "\n", "0240000001000064000064\n", "050001\n", "0700000001000001000001000000\n"] {
+            same_plan(&[&file[..], more.as_bytes()].concat());
+        }
+    }
+    for (count, line) in (0..=40).flat_map(|count| [(count, None), (count, Some(2))]) {
+        let set = Set { tasks: vec![], masked: line, interrupts: vec![LIGHT; count], ..three_tasks(1) };
+        refused(&set, 3, 2 + line.map_or(0, |_| 1) + count.min(32));
+    }
+}
+
+// A task that fails alone is named, the first in the file, wherever it stands and however full the boards would be.
+fn alone() {
+    let tasks = |cost: u64, n: u64| (0..n).map(move |id| Task { id, c: cost, d: 10, t: 10 });
+    let interrupts = vec![Interrupt { p: 1, c: 2, d: 10, t: 10, j: 1 }];
+    for n in [1, 2, 3, 17, 64] {
+        for m in [1, n / 2 + 1, 64] {
+            let light = Set { m, s: 10, tasks: tasks(8, n).collect(), interrupts: interrupts.clone(), ..Set::default() };
+            if m < n {
+                refused(&light, 10, n as usize);
+            } else {
+                assert_eq!(refusal(oracle::file(&light).as_bytes()), 0);
+            }
+            for place in 0..n as usize {
+                let mut set = light.clone();
+                set.tasks[place].c = 9;
+                refused(&set, 13, place + 1);
+                set.tasks[n as usize - 1].c = 10;
+                refused(&set, 13, place + 1);
+                set.interrupts.extend([11, 999_983].map(|t| Interrupt { t, ..set.interrupts[0].clone() }));
+                refused(&set, 9, 0);
+                set.interrupts.clear();
+                assert!([0, 10].contains(&refusal(oracle::file(&set).as_bytes())));
+            }
+        }
+    }
+    // Among small tasks one that the server before it would have to share with nothing but the interrupts.
+    let mut set = Set { m: 2, s: 10, tasks: tasks(1, 5).collect(), interrupts, ..Set::default() };
+    set.tasks[3] = Task { id: 3, c: 17, d: 20, t: 20 };
+    refused(&set, 13, 4);
+    set.tasks[3].c = 16;
+    assert_eq!(refusal(oracle::file(&set).as_bytes()), 0);
+}
+
+fn interrupt_lengths() {
+    let mut random = Random(37);
+    let (mut asked, mut before, mut between, mut hidden) = (0, 0, 0, 0);
+    while asked < 600 {
+        let mut set = small(&mut random);
+        set.masked = random.one(&[0, 0, 1, 4]).checked_sub(1);
+        interrupts(&mut random, &mut set, 6);
+        let processors: std::collections::HashSet<u64> = set.interrupts.iter().map(|i| i.p).collect();
+        let counted = every_length(&set, |plan, [_, t, w, _], from, until| {
+            before += (t < from) as u32;
+            between += (plan.board.b > 0 && from <= t && t < until) as u32;
+            hidden += (processors.len() > 1 && 0 < plan.board.interrupt_load(t) && plan.board.interrupt_load(t) < w) as u32;
+        });
+        asked += (counted && !set.interrupts.is_empty()) as u32;
+    }
+    assert!(before > 300, "only {} answers named a length below every deadline of a task", before);
+    assert!(between > 100, "only {} answers named a length that gains", between);
+    assert!(hidden > 300, "only {} answers had tasks and interrupts of several processors", hidden);
+}
+
 fn damaged_files() {
     let mut random = Random(12);
-    let mut seen = [0u32; 13];
+    let mut seen = [0u32; 14];
     for _ in 0..30000 {
         let mut file = oracle::file(&good(&mut random)).into_bytes();
         damaged(&mut random, &mut file);
@@ -156,7 +348,10 @@ fn damaged_files() {
     }
 }
 
-// Past the last task that fits, whatever follows, the answer is that of the file's first 1,541 bytes.
+// RACK_TASKS_BYTES of include/rack.h.
+const LOOKED_AT: usize = 2405;
+
+// Past the last task that fits, whatever follows, the answer is that of the bytes that are looked at.
 fn long_files() {
     let mut random = Random(13);
     for (count, line) in [63, 64, 65, 66, 100].iter().flat_map(|count| [(*count, None), (*count, Some(3))]) {
@@ -167,7 +362,7 @@ fn long_files() {
         set.s = 10;
         let file = oracle::file(&set).into_bytes();
         same_plan(&file);
-        assert_eq!(plan_text(&file), plan_text(&file[..file.len().min(1541)]));
+        assert_eq!(plan_text(&file), plan_text(&file[..file.len().min(LOOKED_AT)]));
     }
 }
 
@@ -198,7 +393,7 @@ fn who_runs() {
     let mut random = Random(14);
     let mut asked = 0;
     while asked < 400 {
-        let set = good(&mut random);
+        let set = if asked % 2 == 0 { good(&mut random) } else { interrupted(&mut random) };
         let file = oracle::file(&set).into_bytes();
         let plan = match oracle::plan(&set) {
             Ok(plan) => plan,
@@ -224,7 +419,7 @@ fn does_pass() {
     let mut random = Random(15);
     let mut asked = 0;
     while asked < 1000 {
-        let set = good(&mut random);
+        let set = if asked % 2 == 0 { good(&mut random) } else { interrupted(&mut random) };
         let plan = match oracle::plan(&set) {
             Ok(plan) => plan,
             Err(_) => continue,
@@ -233,12 +428,7 @@ fn does_pass() {
         let file = oracle::file(&set).into_bytes();
         for q in 0..=plan.reserves.len() + 1 {
             for r in 0..=set.s + 1 {
-                let allowed = r == set.s || (plan.loss < r && r < set.s);
-                let expected = if q == 0 || q > plan.reserves.len() || !allowed {
-                    (11 * 256, [0xA5; 4])
-                } else {
-                    (0, oracle::verdict(&plan.members_loads(q), plan.b, set.s, plan.loss, r))
-                };
+                let expected = plan.pass(q as u64, r).map_or((11 * 256, [0xA5; 4]), |answer| (0, answer));
                 assert_eq!(pass(&file, q as u64, r), expected, "server {} reserve {}\n{}", q, r, oracle::file(&set));
             }
         }
@@ -259,6 +449,11 @@ fn long_horizons() {
             let d = random.within(t / 2, t);
             set.tasks.push(Task { id, c: random.within(1, d / 8), d, t });
         }
+        for _ in 0..random.one(&[0, 0, 3, 12]) {
+            let t = random.one(&periods);
+            let d = random.within(t / 2, t);
+            set.interrupts.push(Interrupt { p: random.within(1, 4), c: random.within(1, d / 64), d, t, j: random.within(0, 9_999) });
+        }
         let (file, plan) = match oracle::plan(&set) {
             Ok(plan) => (oracle::file(&set).into_bytes(), plan),
             Err(_) => continue,
@@ -267,14 +462,14 @@ fn long_horizons() {
             let loads = plan.members_loads(q + 1);
             let mut reserves = vec![own - 1, *own, own + 1, set.s];
             reserves.extend((0..8).map(|_| random.within(1, set.s)));
-            for r in reserves.into_iter().filter(|r| *r == set.s || (plan.loss < *r && *r < set.s)) {
-                let expected = oracle::verdict(&loads, plan.b, set.s, plan.loss, r);
+            for r in reserves.into_iter().filter(|r| *r == set.s || (plan.board.loss < *r && *r < set.s)) {
+                let expected = plan.board.verdict(&loads, r);
                 assert_eq!(pass(&file, q as u64 + 1, r), (0, expected), "server {} reserve {}\n{}", q + 1, r, oracle::file(&set));
                 later += (expected[0] == 1 && expected[1] > loads.iter().map(|l| l.d).min().unwrap()) as u32;
             }
         }
     }
-    assert!(later > 200, "only {} answers named a length past the first deadline", later);
+    assert!(later > 150, "only {} answers named a length past the first deadline", later);
 }
 
 // The note's promise, on the rota as the tool tells it tick by tick: no server on two processors, R ticks in any slot.
@@ -315,6 +510,12 @@ fn main() {
         ("files with a 05 line", masked_files),
         ("05 lines everywhere", masked_lines),
         ("does it pass with a 05 line, at every length", masked_lengths),
+        ("files with 07 lines", interrupt_files),
+        ("07 lines everywhere", interrupt_lines),
+        ("the ranges of a 07 line", interrupt_ranges),
+        ("32 interrupts and more", many_interrupts),
+        ("tasks that fail alone", alone),
+        ("does it pass with 07 lines, at every length", interrupt_lengths),
         ("damaged files", damaged_files),
         ("long files", long_files),
         ("short buffers", short_buffers),

@@ -1,7 +1,7 @@
 // Task files for the tests: sets that mostly have a plan, and files damaged in a few places.
 #![allow(dead_code)]
 
-use crate::oracle::{Set, Task};
+use crate::oracle::{lcm, Interrupt, Set, Task};
 use crate::random::Random;
 
 // A set that mostly has a plan: periods over a small horizon, a slot that divides it.
@@ -45,12 +45,56 @@ pub fn masked(random: &mut Random) -> Set {
     set
 }
 
-// 05 lines put in at any line, some of them a digit short or long.
+// Up to `most` interrupts with periods that divide the horizon: mostly light ones, on a few processors.
+pub fn interrupts(random: &mut Random, set: &mut Set, most: u64) {
+    let horizon = lcm(set.s, set.tasks.iter().map(|t| t.t)) as u64;
+    let periods: Vec<u64> = (2..=horizon).filter(|d| horizon % d == 0).collect();
+    for _ in 0..random.within(0, most) {
+        let t = random.one(&periods);
+        let d = random.within(t / 4 + 1, t);
+        let (late, heavy) = (random.one(&[0, 0, d / 4, d - 1]), random.next() % 16 == 0);
+        let j = random.within(0, late);
+        let c = random.within(1, if heavy { d } else { (d / 16).max(1) });
+        let p = if random.next() % 4 == 0 { random.within(1, set.m) } else { random.within(1, set.m.min(3)) };
+        set.interrupts.push(Interrupt { p, c, d, t, j });
+    }
+}
+
+// A set with up to 6 interrupts, with a 05 line or without.
+pub fn interrupted(random: &mut Random) -> Set {
+    let mut set = if random.next() % 3 == 0 { masked(random) } else { good(random) };
+    interrupts(random, &mut set, 6);
+    set
+}
+
+// Where a file's lines start, and its end where a line ends there.
+fn line_starts(file: &[u8]) -> Vec<usize> {
+    (0..=file.len()).filter(|at| *at == 0 || file[*at - 1] == b'\n').collect()
+}
+
+// 05 lines put in at any of the first lines, some of them a digit short or long.
 pub fn masked_anywhere(random: &mut Random, file: &mut Vec<u8>) {
     for _ in 0..random.within(1, 3) {
-        let lines: Vec<usize> = (0..=file.len()).filter(|at| *at == 0 || file[*at - 1] == b'\n').collect();
+        let lines = line_starts(file);
         let at = lines[random.within(0, lines.len().min(6) as u64 - 1) as usize];
         let line = format!("05{:0width$X}\n", random.within(0, 255), width = [4, 4, 4, 4, 3, 5][random.within(0, 5) as usize]);
+        file.splice(at..at, line.into_bytes());
+    }
+}
+
+// 07 lines put in at any line, some of them a digit short or long, or with a figure out of its range.
+pub fn interrupts_anywhere(random: &mut Random, file: &mut Vec<u8>) {
+    for _ in 0..random.within(1, 3) {
+        let lines = line_starts(file);
+        let last = lines.len() - 1;
+        let at = lines[if random.next() % 2 == 0 { last } else { random.within(0, last as u64) as usize }];
+        let p = if random.next() % 8 == 0 { random.within(0, 65) } else { 1 };
+        let (t, least) = (random.one(&[240, 720]), random.one(&[0, 1, 1, 1, 1, 1, 1, 1]));
+        let most = random.one(&[t, t, t, t, t, 2 * t]);
+        let d = random.within(1, most);
+        let c = random.within(least, d / 8 + 1);
+        let width = if random.next() % 16 == 0 { random.one(&[3, 5]) as usize } else { 4 };
+        let line = format!("07{:02X}{:06X}{:06X}{:06X}{:0width$X}\n", p, c, d, t, random.within(0, d / 4), width = width);
         file.splice(at..at, line.into_bytes());
     }
 }

@@ -4,8 +4,8 @@ mod files;
 mod oracle;
 mod random;
 
-use files::{good, masked};
-use oracle::{Plan, Refusal, Set, Task};
+use files::{good, interrupted, masked};
+use oracle::{Interrupt, Plan, Refusal, Set, Task};
 use random::Random;
 use std::sync::atomic::{AtomicUsize, Ordering};
 
@@ -19,9 +19,10 @@ extern "C" {
     fn handed_write_switches(set: *const u64, set_len: usize, plan: *const u64, plan_len: usize, out: *mut u8, out_len: usize, length: *mut usize) -> u64;
 }
 
-// where a set's tasks start among its numbers, how many these are, and a plan's
+// where a set's tasks start among its numbers, where the number of its interrupts stands, how many these numbers are, and a plan's
 const FIRST: usize = 10;
-const SET: usize = FIRST + 4 * 64;
+const INTERRUPTS: usize = FIRST + 4 * 64;
+const SET: usize = INTERRUPTS + 1 + 5 * 32;
 const PLAN: usize = 5 + 68 * 64 + 64 + 2 * 64;
 const JUNK: u64 = 0xA5A5_A5A5_A5A5_A5A5;
 
@@ -90,9 +91,9 @@ fn bits(i: usize) -> u32 {
         1 => 8,
         2 => 32,
         3..=7 | 9 => 16,
-        8 => 64,
-        _ if (i - FIRST) % 4 == 0 => 8,
-        _ => 32,
+        8 | INTERRUPTS => 64,
+        _ if i < INTERRUPTS => [8, 32, 32, 32][(i - FIRST) % 4],
+        _ => [8, 32, 32, 32, 16][(i - INTERRUPTS - 1) % 5],
     }
 }
 
@@ -150,10 +151,10 @@ impl Case {
                 same(got, told(answer.as_ref().map(|a| &a[..]).ok_or((11, 0)), room), "who runs");
             }
         }
-        let (servers, s, loss) = own.map_or((3, 10, 0), |(set, plan)| (plan.reserves.len() as u64, set.s, plan.loss));
+        let (servers, s, loss) = own.map_or((3, 10, 0), |(set, plan)| (plan.reserves.len() as u64, set.s, plan.board.loss));
         for q in [0, 1, servers, servers + 1, u64::MAX] {
             let r = random.one(&[0, loss, loss + 1, random.0 % s, s - 1, s, s + 1, u64::MAX]);
-            let answer = own.and_then(|(set, plan)| passes(set, plan, q, r));
+            let answer = own.and_then(|(_, plan)| plan.pass(q, r));
             for room in [3, 4, 6] {
                 let got = in_numbers(room, |answer, room| unsafe { handed_pass(sp, sn, pp, pn, q, r, answer, room) });
                 same(got, told(answer.as_ref().map(|a| &a[..]).ok_or((11, 0)), room), "does it pass");
@@ -171,20 +172,15 @@ impl Case {
     }
 }
 
-fn passes(set: &Set, plan: &Plan, q: u64, r: u64) -> Option<[u64; 4]> {
-    let allowed = r == set.s || (plan.loss < r && r < set.s);
-    if q < 1 || q > plan.reserves.len() as u64 || !allowed {
-        return None;
-    }
-    Some(oracle::verdict(&plan.members_loads(q as usize), plan.b, set.s, plan.loss, r))
-}
-
 // A set as numbers, its unused room at zero.
 fn numbers_of(set: &Set) -> Vec<u64> {
     let mut numbers = vec![set.tasks.len() as u64, set.m, set.s, set.relj, set.relo, set.ctswo, set.resd, set.cpmdo];
     numbers.extend([set.masked.is_some() as u64, set.b()]);
     set.tasks.iter().for_each(|t| numbers.extend([t.id, t.c, t.d, t.t]));
-    numbers.resize(numbers.len().max(SET), 0);
+    numbers.resize(INTERRUPTS, 0);
+    numbers.push(set.interrupts.len() as u64);
+    set.interrupts.iter().for_each(|i| numbers.extend([i.p, i.c, i.d, i.t, i.j]));
+    numbers.resize(SET, 0);
     numbers
 }
 
@@ -194,10 +190,19 @@ fn junk(random: &mut Random, at: usize) -> u64 {
     random.one(&[1, most, random.0 % (most + 1), random.0 % 100])
 }
 
+// A set with a 05 line or without, with interrupts or without.
+fn any(random: &mut Random) -> Set {
+    match random.next() % 4 {
+        0 => good(random),
+        1 => masked(random),
+        _ => interrupted(random),
+    }
+}
+
 // A set with a plan, of at least so many tasks.
 fn planned(random: &mut Random, tasks: usize) -> (Set, Case) {
     for _ in 0..1000 {
-        let set = if random.next() % 2 == 0 { good(random) } else { masked(random) };
+        let set = any(random);
         let case = Case::of(numbers_of(&set));
         if set.tasks.len() >= tasks && case.plan.is_ok() {
             return (set, case);
@@ -212,9 +217,17 @@ fn full(random: &mut Random) -> Set {
     Set { m: 64, s: 10, cpmdo: 1, tasks, ..Set::default() }
 }
 
+// The first of them, with 32 interrupts.
+fn crowded(random: &mut Random, tasks: usize) -> Set {
+    let mut set = full(random);
+    set.tasks.truncate(tasks);
+    set.interrupts = (0..32).map(|i| Interrupt { p: 1 + i % 8, c: random.within(1, 4), d: 60 + i, t: 100, j: random.within(0, 9) }).collect();
+    set
+}
+
 fn examples() {
     let mut random = Random(21);
-    for name in ["a", "b", "c", "d", "e", "f", "g", "h1", "h2", "i", "j", "k", "m"] {
+    for name in ["a", "b", "c", "d", "e", "f", "g", "h1", "h2", "i", "j", "k", "m", "n1", "n2", "o"] {
         let set = oracle::read(&std::fs::read(format!("examples/{}.tasks", name)).unwrap()).unwrap();
         Case::of(numbers_of(&set)).all(&mut random);
     }
@@ -224,8 +237,7 @@ fn good_sets() {
     let mut random = Random(22);
     let mut accepted = 0;
     for _ in 0..500 {
-        let set = if random.next() % 2 == 0 { good(&mut random) } else { masked(&mut random) };
-        let case = Case::of(numbers_of(&set));
+        let case = Case::of(numbers_of(&any(&mut random)));
         case.all(&mut random);
         accepted += case.plan.is_ok() as u32;
     }
@@ -234,27 +246,34 @@ fn good_sets() {
 
 fn counts() {
     let mut random = Random(23);
-    let whole = numbers_of(&full(&mut random));
+    let whole = numbers_of(&crowded(&mut random, 64));
     assert!(Case::of(whole.clone()).plan.is_ok());
-    for count in [0, 1, 2, 63, 64, 65, 66, 128, 255, 256, 65_536, 1 << 32, u64::MAX] {
-        let mut numbers = whole.clone();
-        numbers[0] = count;
-        let case = Case::of(numbers);
-        assert_eq!(case.set.is_ok(), (1..=64).contains(&count));
-        case.all(&mut random);
-        case.with(&Case::of(whole.clone()).made(), &mut random);
+    for (at, counts) in [(0, 1..=64), (INTERRUPTS, 0..=32)] {
+        for count in [0, 1, 2, 31, 32, 33, 34, 63, 64, 65, 66, 128, 255, 256, 65_536, 1 << 32, u64::MAX] {
+            let mut numbers = whole.clone();
+            numbers[at] = count;
+            let case = Case::of(numbers);
+            assert_eq!(case.set.is_ok(), counts.contains(&count));
+            case.all(&mut random);
+            case.with(&Case::of(whole.clone()).made(), &mut random);
+        }
     }
 }
 
-// At every place of a set of 64 and of one of 3: the most that the field can hold, one more, and the most that the type can.
+// At every place of a set of 64 tasks, of one of 3, and of one of 3 with 32 interrupts: the most that the field can hold, one more,
+// and the most that the type can.
 fn too_large() {
     let mut random = Random(24);
     let three = planned(&mut random, 3).0;
     let mut refused = 0;
-    for set in [full(&mut random), Set { tasks: three.tasks[..3].to_vec(), ..three }] {
+    for set in [full(&mut random), Set { tasks: three.tasks[..3].to_vec(), ..three }, crowded(&mut random, 3)] {
         let whole = numbers_of(&set);
         for at in 1..SET {
             for value in [0xFF, 0xFFFF, 0xFF_FFFF, 0x100_0000, 0xFFFF_FFFF] {
+                // 65,535 as a period among 32 interrupts: a horizon that is long to walk.
+                if value == 0xFFFF && set.interrupts.len() == 32 && whole[at] == 100 {
+                    continue;
+                }
                 let mut numbers = whole.clone();
                 numbers[at] = value;
                 numbers[at] = taken(&numbers)[at];
@@ -264,7 +283,7 @@ fn too_large() {
             }
         }
     }
-    assert!(refused > 300, "only {} sets had a figure too large", refused);
+    assert!(refused > 500, "only {} sets had a figure too large", refused);
 }
 
 fn repeated_ids() {
@@ -286,15 +305,32 @@ fn repeated_ids() {
     }
 }
 
-// Rows 5 to 10, and row 11 of a set, broken alone and together, at any task.
+// Rows 5 to 10 and 13, and row 11 of a set, broken alone and together, at any task or interrupt.
 fn broken_rows() {
     let mut random = Random(26);
-    let mut seen = [0u32; 13];
+    let mut seen = [0u32; 14];
     for round in 0..4 {
-        for which in 0..128u32 {
+        for which in 0..512u32 {
             let (mut set, _) = planned(&mut random, 5);
             let breaks = |row: u32| which >> (row - 5) & 1 == 1;
             let mut task = || random.next() as usize % 5;
+            if which >= 128 {
+                set.interrupts.resize(4, Interrupt { p: 1, c: 1, d: set.s, t: set.s, j: 0 });
+            }
+            if breaks(12) {
+                let i = &mut set.interrupts[task() % 4];
+                match round {
+                    0 => i.p = set.m + 1,
+                    1 => i.c = i.d + 1,
+                    2 => i.j = i.d,
+                    _ => i.t = 1_000_001,
+                }
+            }
+            if breaks(13) {
+                set.interrupts[task() % 4].c = set.s / 2 + 1;
+                let t = &mut set.tasks[task()];
+                t.c = t.d;
+            }
             if breaks(6) {
                 let t = &mut set.tasks[task()];
                 match round {
@@ -334,6 +370,7 @@ fn broken_rows() {
             if breaks(11) {
                 match round {
                     0 => set.tasks[task()].t = 0x100_0000,
+                    1 if which >= 128 => set.interrupts[task() % 4].d = 0x100_0000,
                     1 => set.s = 0x100_0000,
                     2 => set.tasks[4].id = set.tasks[0].id,
                     _ => set.tasks.clear(),
@@ -344,7 +381,7 @@ fn broken_rows() {
             case.all(&mut random);
         }
     }
-    for row in [0, 5, 6, 7, 8, 9, 10, 11] {
+    for row in [0, 5, 6, 7, 8, 9, 10, 11, 13] {
         assert!(seen[row] > 0, "no set met row {}: {:?}", row, seen);
     }
 }
@@ -355,7 +392,8 @@ fn unused_room() {
     for _ in 0..300 {
         let (set, clean) = planned(&mut random, 1);
         let mut numbers = clean.numbers.clone();
-        for at in FIRST + 4 * set.tasks.len()..SET {
+        let used = INTERRUPTS + 1 + 5 * set.interrupts.len();
+        for at in (FIRST + 4 * set.tasks.len()..INTERRUPTS).chain(used..SET) {
             numbers[at] = junk(&mut random, at);
         }
         let case = Case::of(numbers);
@@ -364,7 +402,8 @@ fn unused_room() {
         let plan: Vec<u64> = case.figures.iter().map(|n| n.unwrap_or(random.next())).collect();
         case.with(&plan, &mut random);
         clean.with(&plan, &mut random);
-        Case::of(clean.numbers[..FIRST + 4 * set.tasks.len()].to_vec()).all(&mut random);
+        let left_out = if set.interrupts.is_empty() { FIRST + 4 * set.tasks.len() } else { used };
+        Case::of(clean.numbers[..left_out].to_vec()).all(&mut random);
     }
 }
 
@@ -403,11 +442,13 @@ fn other_plans() {
     for _ in 0..200 {
         let (mut set, case) = planned(&mut random, 2);
         case.with(&last.made(), &mut random);
-        match random.next() % 5 {
+        match random.next() % 7 {
             0 => set.m = random.within(1, 64),
             1 => set.tasks[1].c += 1,
             2 => set.cpmdo += 1,
             3 => set.masked = Some(set.b() + random.within(0, 2)),
+            4 => set.interrupts.reverse(),
+            5 => set.interrupts.truncate(1),
             _ => set.tasks.reverse(),
         }
         let other = Case::of(numbers_of(&set));
@@ -426,7 +467,7 @@ fn other_plans() {
 fn short_and_wide() {
     let mut random = Random(30);
     let (_, case) = planned(&mut random, 4);
-    for length in 0..60 {
+    for length in (0..60).chain(INTERRUPTS - 2..SET) {
         Case::of(case.numbers[..length].to_vec()).all(&mut random);
     }
     let made = case.made();
@@ -448,10 +489,10 @@ fn main() {
     let tests: [(&str, fn()); 10] = [
         ("examples handed in", examples),
         ("good sets", good_sets),
-        ("counts of tasks", counts),
+        ("counts of tasks and interrupts", counts),
         ("figures too large for their field", too_large),
         ("repeated ids", repeated_ids),
-        ("rows 5 to 11 broken", broken_rows),
+        ("rows 5 to 11 and 13 broken", broken_rows),
         ("unused room", unused_room),
         ("altered plans", altered_plans),
         ("plans of other sets", other_plans),

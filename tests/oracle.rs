@@ -10,6 +10,15 @@ pub struct Task {
     pub t: u64,
 }
 
+#[derive(Clone, Debug, PartialEq)]
+pub struct Interrupt {
+    pub p: u64,
+    pub c: u64,
+    pub d: u64,
+    pub t: u64,
+    pub j: u64,
+}
+
 #[derive(Clone, Debug, Default, PartialEq)]
 pub struct Set {
     pub m: u64,
@@ -21,6 +30,7 @@ pub struct Set {
     pub cpmdo: u64,
     pub masked: Option<u64>,
     pub tasks: Vec<Task>,
+    pub interrupts: Vec<Interrupt>,
 }
 
 impl Set {
@@ -55,6 +65,7 @@ enum Line {
     Header(Vec<u64>),
     Task(Vec<u64>),
     Masked(u64),
+    Interrupt(Vec<u64>),
     Malformed,
 }
 
@@ -75,6 +86,11 @@ fn classify(line: &[u8], closed: bool) -> Line {
     if line.starts_with(b"05") {
         if let Some(f) = hex_fields(line, &[4]) {
             return Line::Masked(f[0]);
+        }
+    }
+    if line.starts_with(b"07") {
+        if let Some(f) = hex_fields(line, &[2, 6, 6, 6, 4]) {
+            return Line::Interrupt(f);
         }
     }
     Line::Malformed
@@ -98,8 +114,11 @@ pub fn read(text: &[u8]) -> Result<Set, Refusal> {
             (Line::Header(_), _) => return Err((2, number)),
             (Line::Masked(b), 2) => set.masked = Some(b),
             (Line::Masked(_), _) => return Err((2, number)),
-            (Line::Task(_), 1) => return Err((2, 1)),
+            (Line::Task(_) | Line::Interrupt(_), 1) => return Err((2, 1)),
             (Line::Task(f), _) => {
+                if !set.interrupts.is_empty() {
+                    return Err((2, number));
+                }
                 if set.tasks.len() == 64 {
                     return Err((3, number));
                 }
@@ -107,6 +126,12 @@ pub fn read(text: &[u8]) -> Result<Set, Refusal> {
                     return Err((4, number));
                 }
                 set.tasks.push(Task { id: f[0], c: f[1], d: f[2], t: f[3] });
+            }
+            (Line::Interrupt(f), _) => {
+                if set.interrupts.len() == 32 {
+                    return Err((3, number));
+                }
+                set.interrupts.push(Interrupt { p: f[0], c: f[1], d: f[2], t: f[3], j: f[4] });
             }
         }
     }
@@ -126,8 +151,12 @@ fn figures(set: &Set) -> Option<Refusal> {
     if set.m < 1 || set.m > 64 || set.s == 0 {
         return Some((5, 0));
     }
-    let wrong = |t: &Task| !(1 <= t.c && t.c <= t.d && t.d <= t.t && t.t <= 1_000_000);
-    set.tasks.iter().position(wrong).map(|i| (6, i + 1))
+    let ordered = |c: u64, d: u64, t: u64| 1 <= c && c <= d && d <= t && t <= 1_000_000;
+    if let Some(i) = set.tasks.iter().position(|t| !ordered(t.c, t.d, t.t)) {
+        return Some((6, i + 1));
+    }
+    let wrong = |i: &Interrupt| !ordered(i.c, i.d, i.t) || i.j >= i.d || i.p < 1 || i.p > set.m;
+    set.interrupts.iter().position(wrong).map(|i| (6, 64 + i + 1))
 }
 
 #[derive(Clone, Copy, Debug)]
@@ -157,13 +186,6 @@ pub fn lcm(s: u64, periods: impl Iterator<Item = u64>) -> u128 {
     h
 }
 
-// The loads' own, and B ticks more from the smallest d up to, not including, the largest.
-pub fn demand(loads: &[Load], b: u64, t: u64) -> u64 {
-    let own: u64 = loads.iter().map(|l| if t < l.d { 0 } else { l.c * ((t - l.d) / l.t + 1) }).sum();
-    let waiting = loads.iter().any(|l| l.d <= t) && loads.iter().any(|l| t < l.d);
-    own + if waiting { b } else { 0 }
-}
-
 pub fn supply(s: u64, l: u64, r: u64, t: u64) -> u64 {
     if r == s {
         return t;
@@ -172,52 +194,114 @@ pub fn supply(s: u64, l: u64, r: u64, t: u64) -> u64 {
     (t / s) * (s - f) + (t % s).saturating_sub(f)
 }
 
-// The smallest failing length, by looking at every step of every load up to the horizon.
-pub fn first_failing(loads: &[Load], b: u64, s: u64, l: u64, r: u64) -> Option<u64> {
-    let h = lcm(s, loads.iter().map(|x| x.t)) as u64;
-    let mut worst: Option<u64> = None;
-    for load in loads {
-        let mut t = load.d;
-        while t <= h && worst.map_or(true, |w| t < w) {
-            if demand(loads, b, t) > supply(s, l, r, t) {
-                worst = Some(t);
+// The report's Eq. 9: what the interrupts of one processor ask for.
+fn interrupt_demand(own: &[Interrupt], t: u64) -> u64 {
+    let jobs = |i: &Interrupt| ((t as i64 - (i.d as i64 - i.j as i64)).div_euclid(i.t as i64) + 1).max(0) as u64;
+    own.iter().map(|i| jobs(i) * i.c).sum()
+}
+
+// What every server of a set stands on: the slot, the entry loss, B, and the interrupts of each processor from 1 to m.
+#[derive(Clone, Debug)]
+pub struct Board {
+    pub s: u64,
+    pub loss: u64,
+    pub b: u64,
+    pub processors: Vec<Vec<Interrupt>>,
+}
+
+impl Board {
+    pub fn of(set: &Set) -> Board {
+        let on = |p: u64| set.interrupts.iter().filter(|i| i.p == p).cloned().collect();
+        Board { s: set.s, loss: set.resd + set.cpmdo, b: set.b(), processors: (1..=set.m).map(on).collect() }
+    }
+
+    // The report's Eq. 10.
+    pub fn interrupt_load(&self, t: u64) -> u64 {
+        self.processors.iter().map(|own| interrupt_demand(own, t)).max().unwrap_or(0)
+    }
+
+    // The loads' own, B ticks more from the smallest d up to, not including, the largest, and the interrupts'.
+    pub fn demand(&self, loads: &[Load], t: u64) -> u64 {
+        let own: u64 = loads.iter().map(|l| if t < l.d { 0 } else { l.c * ((t - l.d) / l.t + 1) }).sum();
+        let waiting = loads.iter().any(|l| l.d <= t) && loads.iter().any(|l| t < l.d);
+        own + if waiting { self.b } else { 0 } + self.interrupt_load(t)
+    }
+
+    pub fn supply(&self, r: u64, t: u64) -> u64 {
+        supply(self.s, self.loss, r, t)
+    }
+
+    // The first deadline and the period of each load and of each interrupt.
+    fn deadlines(&self, loads: &[Load]) -> Vec<(u64, u64)> {
+        let interrupts = self.processors.iter().flatten().map(|i| (i.d - i.j, i.t));
+        loads.iter().map(|l| (l.d, l.t)).chain(interrupts).collect()
+    }
+
+    fn horizon(&self, deadlines: &[(u64, u64)]) -> u64 {
+        lcm(self.s, deadlines.iter().map(|(_, t)| *t)) as u64
+    }
+
+    // The smallest failing length, by looking at every deadline up to the horizon.
+    pub fn first_failing(&self, loads: &[Load], r: u64) -> Option<u64> {
+        let deadlines = self.deadlines(loads);
+        let h = self.horizon(&deadlines);
+        let mut worst: Option<u64> = None;
+        for (first, period) in deadlines {
+            let mut t = first;
+            while t <= h && worst.map_or(true, |w| t < w) {
+                if self.demand(loads, t) > self.supply(r, t) {
+                    worst = Some(t);
+                }
+                t += period;
             }
-            t += load.t;
         }
+        worst
     }
-    worst
-}
 
-// The smallest length with the least to spare, by looking at every step of every load up to three horizons.
-pub fn closest(loads: &[Load], b: u64, s: u64, l: u64, r: u64) -> u64 {
-    let h = lcm(s, loads.iter().map(|x| x.t)) as u64;
-    let steps = loads.iter().flat_map(|load| (load.d..=3 * h).step_by(load.t as usize));
-    steps.map(|t| (supply(s, l, r, t) - demand(loads, b, t), t)).min().unwrap().1
-}
-
-// 1 for yes, 0 for no; the length that it is said of, the demand and the supply there.
-pub fn verdict(loads: &[Load], b: u64, s: u64, l: u64, r: u64) -> [u64; 4] {
-    let (yes, t) = match first_failing(loads, b, s, l, r) {
-        None => (1, closest(loads, b, s, l, r)),
-        Some(t) => (0, t),
-    };
-    [yes, t, demand(loads, b, t), supply(s, l, r, t)]
-}
-
-// The same by looking at every length up to three horizons: a step is where the demand is more than a tick before.
-pub fn verdict_walked(loads: &[Load], b: u64, s: u64, l: u64, r: u64) -> [u64; 4] {
-    let h = lcm(s, loads.iter().map(|x| x.t)) as u64;
-    let mut least: Option<[u64; 4]> = None;
-    for t in 1..=3 * h {
-        let (asked, given) = (demand(loads, b, t), supply(s, l, r, t));
-        if asked > given {
-            return [0, t, asked, given];
-        }
-        if asked > demand(loads, b, t - 1) && least.map_or(true, |[_, _, w, v]| given - asked < v - w) {
-            least = Some([1, t, asked, given]);
-        }
+    // The smallest length with the least to spare, by looking at every deadline up to three horizons.
+    pub fn closest(&self, loads: &[Load], r: u64) -> u64 {
+        let deadlines = self.deadlines(loads);
+        let h = self.horizon(&deadlines);
+        let all = deadlines.iter().flat_map(|(first, period)| (*first..=3 * h).step_by(*period as usize));
+        let steps = all.filter(|t| self.demand(loads, *t) > self.demand(loads, *t - 1));
+        steps.map(|t| (self.supply(r, t) - self.demand(loads, t), t)).min().unwrap().1
     }
-    least.unwrap()
+
+    // 1 for yes, 0 for no; the length that it is said of, the demand and the supply there.
+    pub fn verdict(&self, loads: &[Load], r: u64) -> [u64; 4] {
+        let (yes, t) = match self.first_failing(loads, r) {
+            None => (1, self.closest(loads, r)),
+            Some(t) => (0, t),
+        };
+        [yes, t, self.demand(loads, t), self.supply(r, t)]
+    }
+
+    // The same by looking at every length up to three horizons: a step is where the demand is more than a tick before.
+    pub fn verdict_walked(&self, loads: &[Load], r: u64) -> [u64; 4] {
+        let h = self.horizon(&self.deadlines(loads));
+        let mut least: Option<[u64; 4]> = None;
+        let mut before = 0;
+        for t in 1..=3 * h {
+            let (asked, given) = (self.demand(loads, t), self.supply(r, t));
+            if asked > given {
+                return [0, t, asked, given];
+            }
+            if asked > before && least.map_or(true, |[_, _, w, v]| given - asked < v - w) {
+                least = Some([1, t, asked, given]);
+            }
+            before = asked;
+        }
+        least.unwrap()
+    }
+
+    // Upwards from the least allowed reserve, one by one, until the server passes.
+    pub fn smallest_reserve(&self, loads: &[Load]) -> u64 {
+        let mut reserve = self.loss + 1;
+        while reserve < self.s && self.first_failing(loads, reserve).is_some() {
+            reserve += 1;
+        }
+        reserve.max(self.loss + 1).min(self.s)
+    }
 }
 
 #[derive(Clone, Debug)]
@@ -231,13 +315,19 @@ pub struct Plan {
     pub ring: Vec<usize>,
     pub wholes: Vec<usize>,
     pub loads: Vec<Load>,
-    pub loss: u64,
-    pub b: u64,
+    pub board: Board,
 }
 
 impl Plan {
     pub fn members_loads(&self, q: usize) -> Vec<Load> {
         self.members[q - 1].iter().map(|i| self.loads[*i]).collect()
+    }
+
+    // Does server q pass with R: the verdict, none where the server is not there or R is not allowed.
+    pub fn pass(&self, q: u64, r: u64) -> Option<[u64; 4]> {
+        let allowed = r == self.board.s || (self.board.loss < r && r < self.board.s);
+        let there = 1 <= q && q <= self.reserves.len() as u64;
+        (there && allowed).then(|| self.board.verdict(&self.members_loads(q as usize), r))
     }
 }
 
@@ -252,18 +342,21 @@ pub fn plan(set: &Set) -> Result<Plan, Refusal> {
     if let Some(i) = set.tasks.iter().position(|t| set.relj >= t.d || cost(t) > t.d - set.relj) {
         return Err((8, i + 1));
     }
-    if lcm(set.s, set.tasks.iter().map(|t| t.t)) > 10_000_000 {
+    if lcm(set.s, set.tasks.iter().map(|t| t.t).chain(set.interrupts.iter().map(|i| i.t))) > 10_000_000 {
         return Err((9, 0));
     }
-    let loss = set.resd + set.cpmdo;
+    let board = Board::of(set);
     let loads: Vec<Load> = set.tasks.iter().map(|t| Load { c: cost(t), d: t.d - set.relj, t: t.t }).collect();
+    if let Some(i) = loads.iter().position(|l| board.first_failing(&[*l], set.s).is_some()) {
+        return Err((13, i + 1));
+    }
     let mut members: Vec<Vec<usize>> = Vec::new();
     let mut placed = Vec::new();
     for i in 0..loads.len() {
         let fits = |held: &Vec<usize>| {
             let mut together: Vec<Load> = held.iter().map(|j| loads[*j]).collect();
             together.push(loads[i]);
-            first_failing(&together, set.b(), set.s, loss, set.s).is_none()
+            board.first_failing(&together, set.s).is_none()
         };
         match members.iter().position(fits) {
             Some(q) => {
@@ -280,7 +373,7 @@ pub fn plan(set: &Set) -> Result<Plan, Refusal> {
         .iter()
         .map(|held| {
             let own: Vec<Load> = held.iter().map(|j| loads[*j]).collect();
-            smallest_reserve(&own, set.b(), set.s, loss)
+            board.smallest_reserve(&own)
         })
         .collect();
     let mut ring: Vec<usize> = Vec::new();
@@ -303,16 +396,7 @@ pub fn plan(set: &Set) -> Result<Plan, Refusal> {
     if r + whole > set.m as usize {
         return Err((10, r + whole));
     }
-    Ok(Plan { whole, r, reserves, starts, members, placed, ring, wholes, loads, loss, b: set.b() })
-}
-
-// Upwards from the least allowed reserve, one by one, until the server passes.
-pub fn smallest_reserve(loads: &[Load], b: u64, s: u64, loss: u64) -> u64 {
-    let mut reserve = loss + 1;
-    while reserve < s && first_failing(loads, b, s, loss, reserve).is_some() {
-        reserve += 1;
-    }
-    reserve.max(loss + 1).min(s)
+    Ok(Plan { whole, r, reserves, starts, members, placed, ring, wholes, loads, board })
 }
 
 // The server and the ticks left, counted tick by tick.
@@ -389,22 +473,30 @@ pub fn file(set: &Set) -> String {
     for t in &set.tasks {
         out += &format!("02{:02X}{:06X}{:06X}{:06X}\n", t.id, t.c, t.d, t.t);
     }
+    for i in &set.interrupts {
+        out += &format!("07{:02X}{:06X}{:06X}{:06X}{:04X}\n", i.p, i.c, i.d, i.t, i.j);
+    }
     out
 }
 
 // A set that a caller hands in as numbers: its count, the seven figures of the header, whether there is a 05 line and its B, then
-// id, C, D and T of 64 places.
-// Row 11: a count that is not 1 to 64, an id that repeats, or a figure with more digits than its field.
+// id, C, D and T of 64 places, how many interrupts there are, and processor, C, D, T and J of 32 places.
+// Row 11: a count that is not 1 to 64, or of interrupts above 32, an id that repeats, or a figure with more digits than its field.
 pub fn handed(numbers: &[u64]) -> Result<Set, Refusal> {
-    let count = numbers[0];
-    if !(1..=64).contains(&count) {
+    let (count, interrupts) = (numbers[0], numbers[266]);
+    if !(1..=64).contains(&count) || interrupts > 32 {
         return Err((11, 0));
     }
     let digits = |values: &[u64], widths: &[usize]| values.iter().zip(widths).any(|(v, w)| format!("{:X}", v).len() > *w);
     let header = &numbers[1..8];
-    let tasks: Vec<&[u64]> = numbers[10..].chunks(4).take(count as usize).collect();
+    let tasks: Vec<&[u64]> = numbers[10..266].chunks(4).take(count as usize).collect();
+    let interrupts: Vec<&[u64]> = numbers[267..].chunks(5).take(interrupts as usize).collect();
     let ids: std::collections::HashSet<u64> = tasks.iter().map(|t| t[0]).collect();
-    if ids.len() < tasks.len() || digits(header, &[2, 6, 4, 4, 4, 4, 4]) || tasks.iter().any(|t| digits(t, &[2, 6, 6, 6])) {
+    if ids.len() < tasks.len()
+        || digits(header, &[2, 6, 4, 4, 4, 4, 4])
+        || tasks.iter().any(|t| digits(t, &[2, 6, 6, 6]))
+        || interrupts.iter().any(|i| digits(i, &[2, 6, 6, 6, 4]))
+    {
         return Err((11, 0));
     }
     Ok(Set {
@@ -417,6 +509,7 @@ pub fn handed(numbers: &[u64]) -> Result<Set, Refusal> {
         cpmdo: header[6],
         masked: if numbers[8] == 0 { None } else { Some(numbers[9]) },
         tasks: tasks.iter().map(|t| Task { id: t[0], c: t[1], d: t[2], t: t[3] }).collect(),
+        interrupts: interrupts.iter().map(|i| Interrupt { p: i[0], c: i[1], d: i[2], t: i[3], j: i[4] }).collect(),
     })
 }
 

@@ -6,7 +6,7 @@ mod files;
 mod oracle;
 mod random;
 
-use files::{damaged, good};
+use files::{damaged, good, interrupted};
 use oracle::{Plan, Refusal, Set, Task};
 use random::Random;
 use std::collections::BTreeMap;
@@ -87,7 +87,7 @@ fn same_list(file: &[u8]) -> Result<String, Refusal> {
 }
 
 fn examples() {
-    for name in ["a", "b", "c", "d", "e", "f", "g", "h1", "h2", "i", "j", "k"] {
+    for name in ["a", "b", "c", "d", "e", "f", "g", "h1", "h2", "i", "j", "k", "m", "n1", "n2", "o"] {
         same_list(&std::fs::read(format!("examples/{}.tasks", name)).unwrap()).ok();
     }
     let list = |name: &str| oracle::switch_list(&std::fs::read(format!("examples/{}.tasks", name)).unwrap());
@@ -102,9 +102,19 @@ fn good_files() {
     assert!(lists > 1000, "only {} files had a list", lists);
 }
 
+fn interrupt_files() {
+    let mut random = Random(25);
+    let mut seen = [0u32; 14];
+    for _ in 0..2000 {
+        let list = same_list(oracle::file(&interrupted(&mut random)).as_bytes());
+        seen[list.map_or_else(|refusal| refusal.0 as usize, |_| 0)] += 1;
+    }
+    assert!(seen[0] > 400 && seen[13] > 50, "refusals: {:?}", seen);
+}
+
 fn damaged_files() {
     let mut random = Random(12);
-    let mut seen = [0u32; 13];
+    let mut seen = [0u32; 14];
     for _ in 0..30000 {
         let mut file = oracle::file(&good(&mut random)).into_bytes();
         damaged(&mut random, &mut file);
@@ -318,6 +328,7 @@ fn main() {
     counted::run(&[
         ("examples' switches", examples),
         ("good files' switches", good_files),
+        ("switches of files with 07 lines", interrupt_files),
         ("damaged files' switches", damaged_files),
         ("refused files' switches", refused_files),
         ("buffers for switches", buffers),

@@ -1,6 +1,6 @@
 # Finds, or installs, what the outside tests build and run with. Everything that is linked is for x86-64, as the proved
 # archives are; another processor runs it under an emulator.
-# Sets CC, RUSTC and RUN (arrays), and OBJDUMP.
+# Sets CC, RUSTC and RUN (arrays), OBJDUMP and OBJCOPY.
 have() { command -v "$1" >/dev/null 2>&1; }
 
 install() {
@@ -16,6 +16,7 @@ tools() {
     RUSTC=(rustc)
     RUN=()
     OBJDUMP=objdump
+    OBJCOPY=objcopy
     return
   fi
   have x86_64-linux-gnu-gcc || install gcc-x86-64-linux-gnu libc6-dev-amd64-cross
@@ -28,4 +29,5 @@ tools() {
   RUSTC=(/usr/bin/rustc --target x86_64-unknown-linux-gnu -C linker=x86_64-linux-gnu-gcc)
   RUN=(qemu-x86_64)
   OBJDUMP=x86_64-linux-gnu-objdump
+  OBJCOPY=x86_64-linux-gnu-objcopy
 }
