@@ -11,7 +11,7 @@ use lib.ListN.{length, getD, take, replicate}
 use lib.Seq.{getD-take, take-all}
 use borrow.Author.Tests.{leb-true, eqb-true}
 use Rattle.frames.specs.declared.table.Frame.{Frame}
-use Rattle.frames.specs.declared.table.Frame.the-variants.{Header, Task, Masked, Interrupt, Plan, Server, Placed, Processor, Refused, Switch}
+use Rattle.frames.specs.declared.table.Frame.the-variants.{Header, Task, Masked, Interrupt, Plan, Server, Placed, Processor, Refused, Switch, Accepted, Met}
 use Rattle.digits.specs.Digit.{legal, allLegal}
 use Rattle.frames.specs.Table.{allFrames, kindOf, widthsOf, fieldsIn, mostFields, mostWidth, mostDigits, sum, widthOf, fieldStart, lengthOf, front, rowOf, indexOf}
 use Rattle.laws.specs.Same.{same}
@@ -29,6 +29,8 @@ at-index g other Placed = refl
 at-index g other Processor = refl
 at-index g other Refused = refl
 at-index g other Switch = refl
+at-index g other Accepted = refl
+at-index g other Met = refl
 
 -- a test of every entry of a list
 abbrev every : {A : Type 0} → (A → Bool) → List A → Bool

@@ -1,11 +1,11 @@
 -- The table of frames: each kind with its field widths in digits, and the lengths that follow.
--- Document 01, "Lines of hexadecimal" (RULES 5.1).
+-- Document 01, "Lines of hexadecimal" (RULES 5.1); document 02, Req 01, 03, 04 and 08.
 use Prim.Native.Nat.{ℕ, zero, suc, _+_}
 use mathlib.Core.List.{List, [], _∷_, _++_}
 use lib.ListN.{length, getD, take, replicate}
 use Rattle.frames.specs.declared.table.Row.{Row}
 use Rattle.frames.specs.declared.table.Frame.{Frame}
-use Rattle.frames.specs.declared.table.Frame.the-variants.{Header, Task, Masked, Interrupt, Plan, Server, Placed, Processor, Refused, Switch}
+use Rattle.frames.specs.declared.table.Frame.the-variants.{Header, Task, Masked, Interrupt, Plan, Server, Placed, Processor, Refused, Switch, Accepted, Met}
 
 -- the byte LF, which closes a line
 abbrev pub LF : ℕ
@@ -15,7 +15,7 @@ LF = 10
 abbrev pub Shape : Type 0
 Shape = List ℕ × List ℕ
 
--- the rows of the table: 01, 02, 05, 07, 11, 12, 13, 14, 1F, 21
+-- the rows of the table: 01, 02, 05, 07, 11, 12, 13, 14, 1F, 21, 40, 41
 abbrev pub rows : List Shape
 rows =
     (48 ∷ 49 ∷ [], 2 ∷ 6 ∷ 4 ∷ 4 ∷ 4 ∷ 4 ∷ 4 ∷ [])
@@ -28,11 +28,13 @@ rows =
     ∷ (49 ∷ 52 ∷ [], 2 ∷ 2 ∷ 6 ∷ [])
     ∷ (49 ∷ 70 ∷ [], 2 ∷ 2 ∷ [])
     ∷ (50 ∷ 49 ∷ [], 8 ∷ 2 ∷ 2 ∷ [])
+    ∷ (52 ∷ 48 ∷ [], 8 ∷ [])
+    ∷ (52 ∷ 49 ∷ [], 2 ∷ 8 ∷ [])
     ∷ []
 
 -- the frames in the table's order
 abbrev pub allFrames : List Frame
-allFrames = Header ∷ Task ∷ Masked ∷ Interrupt ∷ Plan ∷ Server ∷ Placed ∷ Processor ∷ Refused ∷ Switch ∷ []
+allFrames = Header ∷ Task ∷ Masked ∷ Interrupt ∷ Plan ∷ Server ∷ Placed ∷ Processor ∷ Refused ∷ Switch ∷ Accepted ∷ Met ∷ []
 
 -- the index of a frame in the table
 abbrev pub indexOf : Frame → ℕ
@@ -46,6 +48,8 @@ indexOf Placed = 6
 indexOf Processor = 7
 indexOf Refused = 8
 indexOf Switch = 9
+indexOf Accepted = 10
+indexOf Met = 11
 
 unfoldable pub kindOf : Frame → List ℕ
 kindOf frame = getD rows (indexOf frame) ([], []) .0

@@ -15,10 +15,12 @@ pub enum Frame {
     Processor,
     Refused,
     Switch,
+    Accepted,
+    Met,
 }
 
 // The number of kinds, and the most fields that one of them has.
-pub const KINDS: usize = 10;
+pub const KINDS: usize = 12;
 
 pub const MOST_FIELDS: usize = 7;
 
@@ -41,6 +43,8 @@ pub const FRAMES: [Frame; KINDS] = [
     Frame::Processor,
     Frame::Refused,
     Frame::Switch,
+    Frame::Accepted,
+    Frame::Met,
 ];
 
 const HEADER: Row = Row {
@@ -113,6 +117,20 @@ const SWITCH: Row = Row {
     starts: [2, 10, 12, 14, 14, 14, 14, 14],
 };
 
+const ACCEPTED: Row = Row {
+    kind: *b"40",
+    fields: 1,
+    widths: [8, 0, 0, 0, 0, 0, 0],
+    starts: [2, 10, 10, 10, 10, 10, 10, 10],
+};
+
+const MET: Row = Row {
+    kind: *b"41",
+    fields: 2,
+    widths: [2, 8, 0, 0, 0, 0, 0],
+    starts: [2, 4, 12, 12, 12, 12, 12, 12],
+};
+
 pub const TABLE: [Row; KINDS] = [
     HEADER,
     TASK,
@@ -124,6 +142,8 @@ pub const TABLE: [Row; KINDS] = [
     PROCESSOR,
     REFUSED,
     SWITCH,
+    ACCEPTED,
+    MET,
 ];
 
 // A frame's row. The arms name the rows: whoever indexes TABLE by a number that is not constant lays all of it out on the stack.
@@ -141,5 +161,7 @@ pub fn row_of(frame: Frame) -> Row
         Frame::Processor => PROCESSOR,
         Frame::Refused => REFUSED,
         Frame::Switch => SWITCH,
+        Frame::Accepted => ACCEPTED,
+        Frame::Met => MET,
     }
 }

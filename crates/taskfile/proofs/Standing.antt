@@ -50,6 +50,8 @@ tag-index Frame.Placed = refl
 tag-index Frame.Processor = refl
 tag-index Frame.Refused = refl
 tag-index Frame.Switch = refl
+tag-index Frame.Accepted = refl
+tag-index Frame.Met = refl
 
 -- so a frame is told by its tag
 tag-frame : (frame kind : Frame) → tagOf the-type frame ≡ indexOf kind → frame ≡ kind

@@ -46,10 +46,20 @@ returns-10 : tie.Need-returns-10
 unfolding kindOf widthsOf sum front rowOf
 returns-10 c = sym (ap rowOf (c .enum-told10 .given .1))
 
+returns-11 : tie.Need-returns-11
+unfolding kindOf widthsOf sum front rowOf
+returns-11 c = sym (ap rowOf (c .enum-told11 .given .1))
+
+returns-12 : tie.Need-returns-12
+unfolding kindOf widthsOf sum front rowOf
+returns-12 c = sym (ap rowOf (c .enum-told12 .given .1))
+
 pub row-of-spec : {M : Type 1} → statement M
 row-of-spec =
     tie.close
     (tie.spec
+    (λ c. search needs)
+    (λ c. search needs)
     (λ c. search needs)
     (λ c. search needs)
     (λ c. search needs)
@@ -69,4 +79,6 @@ row-of-spec =
     returns-7
     returns-8
     returns-9
-    returns-10)
+    returns-10
+    returns-11
+    returns-12)
