@@ -4,6 +4,7 @@ use askwords::Question;
 use askwords::answer;
 use askwords::asked;
 use libc::STDERR_FILENO;
+use libc::STDIN_FILENO;
 use libc::STDOUT_FILENO;
 use refusals::Written;
 use shell::front::front;
@@ -34,7 +35,7 @@ fn main() {
         return;
     }
     let mut text = io::buffer();
-    let Input::Bytes(n) = read_input(&mut text) else {
+    let Input::Bytes(n) = read_input(STDIN_FILENO, &mut text) else {
         os::fail(b"ask: standard input");
         return;
     };

@@ -1,6 +1,7 @@
 // Reads a task file on standard input and prints its plan, or one 1F line, on standard output.
 // What it prints is `answered` of planfile's specs/Tool.antt. A failure to read or write is told on standard error.
 use libc::STDERR_FILENO;
+use libc::STDIN_FILENO;
 use libc::STDOUT_FILENO;
 use refusals::Written;
 use shell::front::front;
@@ -9,7 +10,7 @@ use shell::input::read_input;
 
 fn main() {
     let mut text = io::buffer();
-    let Input::Bytes(n) = read_input(&mut text) else {
+    let Input::Bytes(n) = read_input(STDIN_FILENO, &mut text) else {
         os::fail(b"rota: standard input");
         return;
     };

@@ -1,6 +1,5 @@
-// Standard input into a lent buffer. An input that ends is told apart from a read that fails.
+// An input, by its descriptor, into a lent buffer. One that ends is told apart from a read that fails.
 // No contract can say which bytes are read: what is said is that the count lies within the buffer.
-use libc::STDIN_FILENO;
 ghost use lib.ListN.{length};
 ghost use Rattle.shell.specs.Within.{Within};
 
@@ -10,10 +9,10 @@ pub enum Input {
 }
 
 // One read. No bytes: the input has ended.
-pub fn read_some(buf: &mut [u8]) -> Input
+pub fn read_some(fd: i32, buf: &mut [u8]) -> Input
     ensures { λ r. ⌜ Within r (length (now (buf .entry))) ⌝ }
 {
-    let got = libc::read(STDIN_FILENO, buf);
+    let got = libc::read(fd, buf);
     if got < 0 {
         return Input::Failed;
     }
@@ -22,12 +21,12 @@ pub fn read_some(buf: &mut [u8]) -> Input
 }
 
 // Reads until the buffer is full, the input ends or a read fails.
-pub fn read_input(buf: &mut [u8]) -> Input
+pub fn read_input(fd: i32, buf: &mut [u8]) -> Input
     ensures { λ r. ⌜ Within r (length (now (buf .entry))) ⌝ }
 {
     let mut done: usize = 0;
     while done < buf.len() {
-        let Input::Bytes(more) = read_some(&mut buf[done..]) else {
+        let Input::Bytes(more) = read_some(fd, &mut buf[done..]) else {
             return Input::Failed;
         };
         if more == 0 {

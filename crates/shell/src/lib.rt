@@ -1,3 +1,3 @@
-// What the programs share around the tool: standard input into a buffer, and the front of a buffer.
+// What the programs share around the tool: an input into a buffer, and the front of a buffer.
 pub mod front; // front.rt: the first bytes of a buffer
-pub mod input; // input.rt: standard input into a buffer
+pub mod input; // input.rt: an input into a buffer

@@ -11,18 +11,18 @@ use Rattle.shell.proofs.input.read_input.Statement.{statement}
 use Rattle.shell.proofs.input.read_input.Tie as tie
 
 abbrev Inv-loop : tie.InvT-loop
-Inv-loop buf₀ done₀ buf done = (done ≤ length buf) × (length buf ≡ length buf₀)
+Inv-loop fd₀ buf₀ done₀ buf done = (done ≤ length buf) × (length buf ≡ length buf₀)
 
 abbrev μ-loop : tie.MeasureT-loop
-μ-loop buf₀ done₀ buf done = length buf - done
+μ-loop fd₀ buf₀ done₀ buf done = length buf - done
 
 -- the buffer with the part read into it is as long as before
 kept : (c : tie.After-read-some Inv-loop μ-loop)
-    → length (putMid (c .before .before .before .loop .done) (length (c .before .before .before .loop .buf) - c .before .before .before .loop .done) (c .before .before .before .loop .buf) (c .read-some .last .0))
+    → length (putMid (c .before .before .before .loop .done) (length (c .before .before .before .loop .buf) - c .before .before .before .loop .done) (c .before .before .before .loop .buf) (c .read-some .last .1 .0))
     ≡ length (c .before .before .before .loop .buf)
 kept c =
     let l = c .before .before .before .loop in
-    same-len-mid (l .done) (length (l .buf) - l .done) (l .buf) (c .read-some .last .0) (c .read-some .kept .0)
+    same-len-mid (l .done) (length (l .buf) - l .done) (l .buf) (c .read-some .last .1 .0) (c .read-some .kept .1 .0)
 
 -- what one read gave lies within the rest of the buffer
 fewer : (c : tie.After-more Inv-loop μ-loop)

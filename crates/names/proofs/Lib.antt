@@ -1,0 +1,4 @@
+pub mod PartLaws
+pub mod HeldLaws
+pub mod CutLaws
+pub mod Claims
