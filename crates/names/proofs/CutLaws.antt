@@ -4,7 +4,7 @@ use Prim.Native.Nat.{ℕ, _+_, _-_, _≤_, _<_, min}
 use mathlib.Core.Path.{_≡_, refl, sym, _∙_, ap, ap₂}
 use mathlib.Core.List.{List}
 use native.Mathlib.Omega.{arith}
-use lib.ListN.{length, take, drop}
+use lib.ListN.{length, take, drop, length-drop}
 use lib.Seq.{take-all}
 use Rattle.bytes.specs.Bytes.{indexOf, slice}
 use Rattle.digits.specs.Stored.{stored}
@@ -12,7 +12,7 @@ use Rattle.frames.specs.Table.{LF}
 use Rattle.names.specs.declared.Cut.{Cut}
 use Rattle.names.specs.Names.{longestName}
 use Rattle.names.specs.Parts.{mostHeld, upToLF, heldWith, nameWith, cutOf}
-use Rattle.names.proofs.PartLaws.{up-to-length}
+use Rattle.names.proofs.PartLaws.{index-within, up-to-length}
 use Rattle.names.proofs.HeldLaws.{with-fits, with-none}
 
 module _ (part : List ℕ) (from : ℕ) {end : ℕ} (found : end ≡ from + indexOf LF (slice from (length part) part)) where
@@ -50,3 +50,13 @@ module _ (part : List ℕ) (from : ℕ) {end : ℕ} (found : end ≡ from + inde
     cut-is held (held + (end - from)) (omega (arith, more-is)),
     ap (stored name held) up-to-is ∙ sym (with-fits name held (upToLF (drop from part)) (omega (arith, more-is))),
   )
+
+-- a cut lies between where it was looked for and the part's end
+pub cut-from : (part : List ℕ) (from held : ℕ) {cut : Cut} → cut ≡ cutOf part from held → from ≤ cut .end
+unfolding cutOf
+cut-from part from held e = omega (arith, ap (λ (c : Cut). c .end) e)
+
+pub cut-within : (part : List ℕ) (from held : ℕ) {cut : Cut} → from ≤ length part → cut ≡ cutOf part from held → cut .end ≤ length part
+unfolding cutOf
+cut-within part from held h e =
+    omega (arith, ap (λ (c : Cut). c .end) e, up-to-length (drop from part), index-within LF (drop from part), length-drop from part)

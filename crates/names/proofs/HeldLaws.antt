@@ -43,6 +43,16 @@ pub with-none : (name : List ℕ) (held : ℕ) (more : List ℕ) → longestName
 unfolding nameWith
 with-none name held more h = cond-false _ _ (lt-leb _ _ h)
 
+-- the room for a name stays
+pub with-room : (name : List ℕ) (held : ℕ) (more : List ℕ) → length name ≡ longestName → length (nameWith name held more) ≡ longestName
+with-room name held more room = by-test (leb (held + length more) longestName) refl
+  where
+    by-test : (t : Bool) → leb (held + length more) longestName ≡ t → length (nameWith name held more) ≡ longestName
+    by-test true e =
+        let h : held + length more ≤ longestName = leb-true _ _ e in
+        ap length (with-fits name held more h) ∙ stored-length name held more (omega arith) ∙ room
+    by-test false e = ap length (with-none name held more (leb-false _ _ e)) ∙ room
+
 -- stored bytes stand behind those before them
 stored-front : (b : List ℕ) (at : ℕ) (x : List ℕ) → at + length x ≤ length b → take (at + length x) (stored b at x) ≡ take at b ++ x
 unfolding stored
@@ -55,12 +65,6 @@ module _ {begun name : List ℕ} {held : ℕ} (so : Holds begun name held) (more
   unfolding heldWith
   count-with = omega (arith, so .count, length-append begun more)
 
-  room-with : (t : Bool) → leb (held + length more) longestName ≡ t → length (nameWith name held more) ≡ longestName
-  room-with true e =
-      let h : held + length more ≤ longestName = leb-true _ _ e in
-      ap length (with-fits name held more h) ∙ stored-length name held more (omega (arith, so .room)) ∙ so .room
-  room-with false e = ap length (with-none name held more (leb-false _ _ e)) ∙ so .room
-
   bytes-with : length (begun ++ more) ≤ longestName → take (length (begun ++ more)) (nameWith name held more) ≡ begun ++ more
   bytes-with h =
       let l : length (begun ++ more) ≡ length begun + length more = length-append begun more in
@@ -71,4 +75,4 @@ module _ {begun name : List ℕ} {held : ℕ} (so : Holds begun name held) (more
 
   -- what was begun is held with these bytes behind it
   pub holds-with : Holds (begun ++ more) (nameWith name held more) (heldWith held more)
-  holds-with = record { room = room-with (leb (held + length more) longestName) refl; count = count-with; bytes = bytes-with }
+  holds-with = record { room = with-room name held more (so .room); count = count-with; bytes = bytes-with }

@@ -1,0 +1,3 @@
+pub mod SweepLaws
+pub mod PartLaws
+pub mod LastLaws
