@@ -112,3 +112,34 @@ unfolding PartFirst namesIn names
 parts-names begun [] = refl
 parts-names begun (part ∷ parts) =
     ap (λ (l : List (List ℕ)). ended begun part ++ l) (parts-names (begunBy begun part) parts) ∙ part-first begun part (whole parts)
+
+-- the names that end in two parts, and what is begun behind both
+pub ended-append : (begun part next : List ℕ) → ended begun (part ++ next) ≡ ended begun part ++ ended (begunBy begun part) next
+unfolding ended begunBy
+ended-append begun [] next = refl
+ended-append begun (b ∷ part) next = by-test (eqb b LF) (ended-append [] part next) (ended-append (begun ++ (b ∷ [])) part next)
+  where
+    by-test : (t : Bool) → ended [] (part ++ next) ≡ ended [] part ++ ended (begunBy [] part) next
+        → ended (begun ++ (b ∷ [])) (part ++ next) ≡ ended (begun ++ (b ∷ [])) part ++ ended (begunBy (begun ++ (b ∷ [])) part) next
+        → cond t (begun ∷ ended [] (part ++ next)) (ended (begun ++ (b ∷ [])) (part ++ next))
+        ≡ cond t (begun ∷ ended [] part) (ended (begun ++ (b ∷ [])) part) ++ ended (cond t (begunBy [] part) (begunBy (begun ++ (b ∷ [])) part)) next
+    by-test true anew on = ap (λ (l : List (List ℕ)). begun ∷ l) anew
+    by-test false anew on = on
+
+pub begun-append : (begun part next : List ℕ) → begunBy begun (part ++ next) ≡ begunBy (begunBy begun part) next
+unfolding begunBy
+begun-append begun [] next = refl
+begun-append begun (b ∷ part) next = by-test (eqb b LF) (begun-append [] part next) (begun-append (begun ++ (b ∷ [])) part next)
+  where
+    by-test : (t : Bool) → begunBy [] (part ++ next) ≡ begunBy (begunBy [] part) next
+        → begunBy (begun ++ (b ∷ [])) (part ++ next) ≡ begunBy (begunBy (begun ++ (b ∷ [])) part) next
+        → cond t (begunBy [] (part ++ next)) (begunBy (begun ++ (b ∷ [])) (part ++ next))
+        ≡ begunBy (cond t (begunBy [] part) (begunBy (begun ++ (b ∷ [])) part)) next
+    by-test true anew on = anew
+    by-test false anew on = on
+
+-- the names of a list are those that end in it, and the last
+pub names-ended : (list : List ℕ) → names list ≡ ended [] list ++ lastName (begunBy [] list)
+unfolding namesIn
+names-ended list =
+    sym (onto-none (names list)) ∙ ap (λ (l : List ℕ). begunOnto [] (names l)) (sym (append-nil list)) ∙ sym (parts-names [] (list ∷ []))

@@ -19,6 +19,10 @@ counts-none : (names : List (List ℕ)) (tally : Tally) → take (mostNames - ta
 unfolding countedAll
 counts-none names tally e = record { answers = []; each = rw e tt; tally = refl }
 
+-- of no names none
+pub counts-nothing : (tally : Tally) → Counts [] tally tally
+counts-nothing tally = counts-none [] tally (take-all (mostNames - tally .names) [] (omega arith))
+
 none-taken : {A : Type 0} (n : ℕ) (xs : List A) → n ≡ 0 → take n xs ≡ []
 none-taken n xs e = ap (λ (k : ℕ). take k xs) e
 

@@ -1,10 +1,10 @@
 -- Laws of a sweep: from name to name within a part, where the part ends, and where no more names are read.
 -- Assumes nothing.
-use Prim.Native.Nat.{ℕ, suc, _+_, _-_, _≤_, _<_}
+use Prim.Native.Nat.{ℕ, zero, suc, _+_, _-_, _≤_, _<_}
 use mathlib.Core.Path.{_≡_, refl, sym, _∙_, ap, ap₂}
 use mathlib.Core.List.{List, [], _∷_, _++_, append-assoc, append-nil}
 use native.Mathlib.Omega.{arith}
-use native.Mathlib.Numerals.{add-one}
+use native.Mathlib.Numerals.{unary-clauses}
 use lib.ListN.{length, take, drop, length-append, length-drop}
 use lib.Seq.{take-all, take-append-seam, drop-drop}
 use Rattle.bytes.specs.Bytes.{indexOf}
@@ -113,3 +113,23 @@ module _ {part : List ℕ} {from : Tally} {begun name : List ℕ} {at held : ℕ
             counted = ap (λ (t : Tally). countedOf t a) (g .counted) ∙ sym (all-append from (g .answers) (a ∷ []));
             holds = λ few. holds-none _ (with-more .room);
           }
+
+-- so many of two lists, one behind the other
+take-both : {A : Type 0} (n : ℕ) (xs ys : List A) → take n (xs ++ ys) ≡ take n xs ++ take (n - length (take n xs)) ys
+take-both zero xs ys = refl
+take-both (suc n) [] ys = let all : suc n ≡ suc n - 0 = omega arith in ap (λ (k : ℕ). take k ys) all
+take-both {A = A} (suc n) (x ∷ xs) ys = simp unary-clauses (ap (λ (l : List A). x ∷ l) (take-both n xs ys))
+
+-- names counted behind names
+pub counts-append : {names later : List (List ℕ)} {a b c : Tally} → Counts names a b → Counts later b c → Counts (names ++ later) a c
+counts-append {names} {later} {a} {b} p q =
+    let many : length (take (mostNames - a .names) names) ≡ length (p .answers) = each-length (take (mostNames - a .names) names) (p .answers) (p .each) in
+    let so : b .names ≡ a .names + length (p .answers) = ap (λ (t : Tally). t .names) (p .tally) ∙ all-names a (p .answers) in
+    let left : mostNames - a .names - length (take (mostNames - a .names) names) ≡ mostNames - b .names = omega arith in
+    record {
+      answers = p .answers ++ q .answers;
+      each =
+          rw (take-both (mostNames - a .names) names later, left)
+          (each-append (take (mostNames - a .names) names) (p .answers) (take (mostNames - b .names) later) (q .answers) (p .each) (q .each));
+      tally = q .tally ∙ ap (λ (t : Tally). countedAll t (q .answers)) (p .tally) ∙ sym (all-append a (p .answers) (q .answers));
+    }
