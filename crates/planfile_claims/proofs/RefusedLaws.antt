@@ -20,12 +20,18 @@ module _ (P : Refusal → Type 0) where
   handed Done file r here next e = next refl e
   handed (Refused q) file r here next e = let same : q ≡ r = cc in here r (ap Refused same)
 
-  planned : ((set : TaskSet) (q : Refusal) → planOf set .outcome ≡ Refused q → P q) → (set : TaskSet) (r : Refusal) → plannedSet set .outcome ≡ Refused r → P r
+  planned : (set : TaskSet) → ((q : Refusal) → planOf set .outcome ≡ Refused q → P q) → (r : Refusal) → plannedSet set .outcome ≡ Refused r → P r
   unfolding plannedSet
-  planned plans set r e = handed (planOf set .outcome) (record { outcome = Done; set = set; plan = planOf set .plan }) r (plans set) (λ d f. clash (cc)) e
+  planned set plans r e = handed (planOf set .outcome) (record { outcome = Done; set = set; plan = planOf set .plan }) r plans (λ d f. clash (cc)) e
 
+  -- the planner's, of the set that was read
+  pub refused-of : (text : List ℕ) → ((q : Refusal) → readOf text .outcome ≡ Refused q → P q) →
+      (readOf text .outcome ≡ Done → (q : Refusal) → planOf (readOf text .set) .outcome ≡ Refused q → P q) → (r : Refusal) → filedOf text .outcome ≡ Refused r → P r
+  unfolding filedOf
+  refused-of text reads plans r e =
+      handed (readOf text .outcome) (plannedSet (readOf text .set)) r reads (λ d f. planned (readOf text .set) (plans d) r f) e
+
+  -- or of any set
   pub refused-by : (text : List ℕ) → ((q : Refusal) → readOf text .outcome ≡ Refused q → P q) →
       ((set : TaskSet) (q : Refusal) → planOf set .outcome ≡ Refused q → P q) → (r : Refusal) → filedOf text .outcome ≡ Refused r → P r
-  unfolding filedOf
-  refused-by text reads plans r e =
-      handed (readOf text .outcome) (plannedSet (readOf text .set)) r reads (λ d f. planned plans (readOf text .set) r f) e
+  refused-by text reads plans r e = refused-of text reads (λ d. plans (readOf text .set)) r e

@@ -17,7 +17,7 @@ use Rattle.filed_claims.specs.Claims.{FileAccepted, setIn, planIn}
 use Rattle.filed_claims.proofs.FiledLaws.{filed-full, filed-made}
 use Rattle.switch_claims.proofs.Claims.{no-ring-no-lines, ring-has-lines, list-short as switches-short}
 use Rattle.rack.specs.Rack.{bytesOf, planBytes, planLeaves, listText}
-use Rattle.told.proofs.ToldLaws.{number-row}
+use Rattle.refusals.proofs.NumberLaws.{number-row}
 use Rattle.rack_claims.specs.Claims.{PlanSuffices, PlanTooShort, Determined, ZeroIsDone, listStatus, listAnswer, HasRoom, TooShort, ListSuffices, ListTooShort, ListRefused, ListToldApart}
 use Rattle.rack_claims.proofs.ListLaws.{own-status, list-given, list-short, list-own, by-status}
 

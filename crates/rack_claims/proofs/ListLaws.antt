@@ -23,7 +23,7 @@ use Rattle.planfile_claims.proofs.Claims.{places-fit}
 use Rattle.filed_claims.specs.Claims.{FileAccepted}
 use Rattle.switch_claims.proofs.Claims.{filed-other}
 use Rattle.told.specs.Told.{statusOf, leavesNumbers}
-use Rattle.told.proofs.ToldLaws.{number-row}
+use Rattle.refusals.proofs.NumberLaws.{number-row}
 use Rattle.rack.specs.Rack.{listText, listNumbers, listTold, leavesText, listLeaves}
 use Rattle.rack_claims.specs.Claims.{listStatus, GivesList, RefusesList, HasRoom, TooShort}
 

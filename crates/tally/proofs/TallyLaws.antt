@@ -7,7 +7,7 @@ use native.Mathlib.Omega.{arith}
 use lib.ListN.{length, getD, set, length-set}
 use Rattle.refusals.specs.Refused.{numberOf}
 use Rattle.refusals.specs.declared.Refusal.{Refusal}
-use Rattle.refusals.specs.declared.Refusal.the-variants.{Line, Order, Count, Twice, Board, Range, Slot, Tight, Horizon, Full, Ask, Room, Alone}
+use Rattle.refusals.proofs.NumberLaws.{number-row}
 use Rattle.refusals.specs.declared.Outcome.{Outcome}
 use Rattle.refusals.specs.declared.Outcome.the-variants.{Done, Refused}
 use Rattle.tally.specs.declared.Answer.{Answer}
@@ -29,22 +29,6 @@ entry-sum [] i = omega arith
 entry-sum (n ∷ ns) zero = omega arith
 entry-sum (n ∷ ns) (suc i) = omega (arith, entry-sum ns i)
 
--- every refusal's number has its place
-pub number-placed : (r : Refusal) → numberOf r < numbers
-number-placed (Line k) = omega arith
-number-placed (Order k) = omega arith
-number-placed (Count k) = omega arith
-number-placed (Twice k) = omega arith
-number-placed Board = omega arith
-number-placed (Range k) = omega arith
-number-placed (Slot k) = omega arith
-number-placed (Tight k) = omega arith
-number-placed Horizon = omega arith
-number-placed (Full k) = omega arith
-number-placed Ask = omega arith
-number-placed Room = omega arith
-number-placed (Alone k) = omega arith
-
 pub zero-adds : Adds zeroTally
 unfolding sum
 zero-adds = record { room = refl; adds = refl }
@@ -62,7 +46,7 @@ under-adds t number h so =
 pub counted-adds : (t : Tally) (a : Answer) → Adds t → Adds (countedOf t a)
 counted-adds t Unopened so = under-adds t 0 (omega arith) so
 counted-adds t (Filed Done) so = accepted-adds t so
-counted-adds t (Filed (Refused r)) so = under-adds t (numberOf r) (number-placed r) so
+counted-adds t (Filed (Refused r)) so = under-adds t (numberOf r) (omega (arith, number-row r)) so
 
 pub all-adds : (t : Tally) (answers : List Answer) → Adds t → Adds (countedAll t answers)
 unfolding countedAll

@@ -1,35 +1,17 @@
--- Laws of answers told in numbers: the status of a refusal, numbers that have room or not.
+-- Laws of answers told in numbers: numbers that have room or not.
 -- Assumes nothing.
 use Prim.Native.Nat.{ℕ, _+_, _≤_, _<_}
 use mathlib.Core.List.{List, [], _∷_}
 use mathlib.Core.Path.{_≡_, refl, sym, _∙_, ap, subst}
 use borrow.Author.Tests.{lt-ltb, le-ltb}
-use lib.Dec.{lit≤}
 use lib.ListN.{length}
 use native.Mathlib.Omega.{arith}
-use Rattle.refusals.specs.Refused.{numberOf}
 use Rattle.digits.specs.Stored.{stored}
 use Rattle.refusals.specs.declared.Refusal.{Refusal}
-use Rattle.refusals.specs.declared.Refusal.the-variants.{Line, Order, Count, Twice, Board, Range, Slot, Tight, Horizon, Full, Ask, Room, Alone}
+use Rattle.refusals.specs.declared.Refusal.the-variants.{Room}
 use Rattle.refusals.specs.declared.Outcome.{Outcome}
 use Rattle.refusals.specs.declared.Outcome.the-variants.{Done, Refused}
 use Rattle.told.specs.Told.{statusOf, toldOf, leavesNumbers}
-
--- the number of a refusal is 1 to 13
-pub number-row : (r : Refusal) → (1 ≤ numberOf r) × (numberOf r ≤ 13)
-number-row (Line k) = (lit≤ tt, lit≤ tt)
-number-row (Order k) = (lit≤ tt, lit≤ tt)
-number-row (Count k) = (lit≤ tt, lit≤ tt)
-number-row (Twice k) = (lit≤ tt, lit≤ tt)
-number-row Board = (lit≤ tt, lit≤ tt)
-number-row (Range k) = (lit≤ tt, lit≤ tt)
-number-row (Slot k) = (lit≤ tt, lit≤ tt)
-number-row (Tight k) = (lit≤ tt, lit≤ tt)
-number-row Horizon = (lit≤ tt, lit≤ tt)
-number-row (Full k) = (lit≤ tt, lit≤ tt)
-number-row Ask = (lit≤ tt, lit≤ tt)
-number-row Room = (lit≤ tt, lit≤ tt)
-number-row (Alone k) = (lit≤ tt, lit≤ tt)
 
 -- what an answer holds and its status, by name
 abbrev pub Told : Outcome → (numbers answer : List ℕ) (status : ℕ) (left : List ℕ) → Type 0

@@ -2,7 +2,8 @@
 -- Assumes nothing.
 use native.Mathlib.Omega.{arith}
 use borrow.Author.Needs.{needs}
-use Rattle.tally.proofs.TallyLaws.{number-placed, counted-unopened, counted-accepted, counted-refused}
+use Rattle.refusals.proofs.NumberLaws.{number-row}
+use Rattle.tally.proofs.TallyLaws.{counted-unopened, counted-accepted, counted-refused}
 use Rattle.tally.proofs.counted.Statement.{statement}
 use Rattle.tally.proofs.counted.Tie as tie
 
@@ -28,7 +29,7 @@ under-number-requires-2 : tie.Need-under-number-requires-2
 under-number-requires-2 c κs =
     let o = c .before .before in
     let s = o .before .before .before .before .before in
-    (s .pre, omega (arith, number-placed (o .outcome .given .0 .0)))
+    (s .pre, omega (arith, number-row (o .outcome .given .0 .0)))
 
 pub counted-spec : {M : Type 1} → statement M
 counted-spec =

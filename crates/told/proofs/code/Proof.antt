@@ -1,7 +1,7 @@
 -- `told::code` meets its contract: a refusal's number is at most 13, and its place a byte. Assumes nothing.
 use Prim.Native.Nat.{_≤_, _<_}
 use native.Mathlib.Omega.{arith}
-use Rattle.told.proofs.ToldLaws.{number-row}
+use Rattle.refusals.proofs.NumberLaws.{number-row}
 use borrow.Author.Needs.{needs}
 use Rattle.told.proofs.code.Statement.{statement}
 use Rattle.told.proofs.code.Tie as tie

@@ -1,0 +1,1 @@
+// No code of its own: what is promised of a sweep.
