@@ -1,6 +1,6 @@
 # Finds, or installs, what the outside tests build and run with. Everything that is linked is for x86-64, as the proved
 # archives are; another processor runs it under an emulator.
-# Sets CC, RUSTC and RUN (arrays), OBJDUMP and OBJCOPY.
+# Sets CC, RUSTC, RUN and, for the programs of the proofs, LOAD (arrays), OBJDUMP and OBJCOPY.
 have() { command -v "$1" >/dev/null 2>&1; }
 
 install() {
@@ -15,6 +15,7 @@ tools() {
     CC=(gcc)
     RUSTC=(rustc)
     RUN=()
+    LOAD=()
     OBJDUMP=objdump
     OBJCOPY=objcopy
     return
@@ -28,6 +29,9 @@ tools() {
   CC=(x86_64-linux-gnu-gcc)
   RUSTC=(/usr/bin/rustc --target x86_64-unknown-linux-gnu -C linker=x86_64-linux-gnu-gcc)
   RUN=(qemu-x86_64)
+  local lib
+  lib=$(dirname "$(dirname "$(readlink -f "$(command -v rt)")")")/toolchain/lib
+  LOAD=("${RUN[@]}" "$lib/ld-linux-x86-64.so.2" --library-path "$lib")
   OBJDUMP=x86_64-linux-gnu-objdump
   OBJCOPY=x86_64-linux-gnu-objcopy
 }
