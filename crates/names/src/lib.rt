@@ -10,7 +10,7 @@ ghost use Rattle.names.specs.Parts.{mostHeld, upToLF, nameWith, cutOf};
 // The most bytes of a name that is opened, and how many are held of a longer one.
 pub const LONGEST_NAME: usize = 255;
 
-pub const MOST_HELD: usize = LONGEST_NAME + 1;
+const MOST_HELD: usize = LONGEST_NAME + 1;
 
 // Where the name at hand ends in a part of the list, or else the part, and how many of its bytes are held.
 pub struct Cut {

@@ -51,9 +51,9 @@ file-numbers text =
     refused-of Told text
     (λ q e. (number-row q .0, inl (omega (arith, reading.read-refuses text q e .0))))
     (λ done q e.
-        let only = plan-only (readOf text .set) q e in
-        row-told (only .0) (only .1) q (only .2)
-        (λ ask. clash (cc (never-asks text done, plan-exactly PlannerRow.ASK (readOf text .set) 0 .0 (e ∙ ap Refused ask) .holds))))
+    let only = plan-only (readOf text .set) q e in
+    row-told (only .0) (only .1) q (only .2)
+    (λ ask. clash (cc (never-asks text done, plan-exactly PlannerRow.ASK (readOf text .set) 0 .0 (e ∙ ap Refused ask) .holds))))
 
 -- of such an answer neither 11 nor 12 is met
 none-met : (n : ℕ) → (n ≡ 11) ⊎ (n ≡ 12) → (o : Outcome) → ((r : Refusal) → o ≡ Refused r → Told r) → meets n (Filed o) ≡ false
