@@ -1,11 +1,10 @@
 -- The claims of specs/Claims.
 -- Assumes nothing.
 use Prim.Native.Nat.{ℕ}
-use mathlib.Core.Path.{_≡_, refl, _∙_, ap}
+use mathlib.Core.Path.{refl, _∙_, ap}
 use mathlib.Core.Bool.{cond}
-use mathlib.Core.List.{List, [], _∷_, _++_}
+use mathlib.Core.List.{List, [], _∷_}
 use lib.Dec.{eqb}
-use Rattle.laws.proofs.Choices.{cond-false}
 use borrow.Author.Tests.{ne-eqb}
 use Rattle.frames.specs.Table.{LF}
 use Rattle.names.specs.Names.{onto, names}

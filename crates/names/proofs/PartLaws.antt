@@ -1,12 +1,12 @@
 -- Laws of a list of names that comes in parts: what the next LF cuts off, and the names of all parts are those of the whole list.
 -- Assumes nothing.
-use Prim.Native.Nat.{ℕ, zero, suc, _+_, _≤_, _<_}
+use Prim.Native.Nat.{ℕ, suc, _+_, _≤_, _<_}
 use mathlib.Core.Path.{_≡_, refl, sym, _∙_, ap, ap₂}
 use mathlib.Core.Bool.{Bool, true, false, cond}
 use mathlib.Core.List.{List, [], _∷_, _++_, append-assoc, append-nil}
 use native.Mathlib.Omega.{arith}
 use lib.Dec.{eqb}
-use lib.ListN.{length, take, drop}
+use lib.ListN.{length, drop}
 use lib.Seq.{length-take-le, take-all}
 use Rattle.bytes.specs.Bytes.{indexOf, indexAfter}
 use Rattle.frames.specs.Table.{LF}

@@ -3,7 +3,6 @@
 use Prim.Native.Nat.{ℕ}
 use mathlib.Core.List.{List, [], _∷_, _++_, map}
 use mathlib.Core.Path.{_≡_}
-use Prim.Native.String.{String}
 use Rattle.frames.specs.Table.{LF}
 use Rattle.quoted.specs.Quoted.{bytesOf}
 use Rattle.names.specs.Names.{names}

@@ -1,11 +1,11 @@
 -- The claims of specs/Claims.
 -- Assumes nothing.
-use Prim.Native.Nat.{ℕ, _+_, _^_, _≤_, _<_}
+use Prim.Native.Nat.{ℕ, _≤_}
 use mathlib.Core.Logic.{inl, inr}
-use mathlib.Core.Path.{_≡_, refl, sym, _∙_, ap}
-use mathlib.Core.List.{List, [], _∷_, map}
+use mathlib.Core.Path.{_≡_, refl, _∙_, ap}
+use mathlib.Core.List.{List, []}
 use native.Mathlib.Omega.{arith}
-use lib.ListN.{length, getD, take, length-take}
+use lib.ListN.{length, getD, length-take}
 use lib.Seq.{take-all}
 use Rattle.digits.specs.Number.{hex}
 use Rattle.digits.specs.Digit.{digitOf}
@@ -14,13 +14,12 @@ use Rattle.framewrite.specs.Line.{fields, lineOf}
 use Rattle.framelines.specs.Each.{eachLine}
 use Rattle.names.specs.Names.{names}
 use Rattle.tally.specs.declared.Tally.{Tally}
-use Rattle.tally.specs.Tally.{numbers, mostNames, zeroTally, countedAll, sum, Adds}
+use Rattle.tally.specs.Tally.{numbers, mostNames, zeroTally, Adds}
 use Rattle.tally.proofs.TallyLaws.{zero-adds, all-adds, all-names, accepted-most, refused-most}
-use Rattle.tallytext.specs.Text.{numbersTold, tallyText}
+use Rattle.tallytext.specs.Text.{tallyText}
 use Rattle.sweepfile.specs.Answered.{opens}
-use Rattle.sweeping.specs.Sweeping.{Counts}
 use Rattle.sweeping.proofs.SweepLaws.{each-length}
-use Rattle.sweep_claims.specs.Claims.{namesRead, CountOf, howMany, accepts, meets, EachCountedOnce, AddsUp, AllRead, FileNumbers, NotOpened, ReportWhole, ReportSo}
+use Rattle.sweep_claims.specs.Claims.{namesRead, CountOf, EachCountedOnce, AddsUp, AllRead, FileNumbers, NotOpened, ReportWhole, ReportSo}
 use Rattle.sweep_claims.proofs.NumberLaws as met
 use Rattle.sweep_claims.proofs.CountLaws.{all-accepted, all-refused, zeros-at, sum-told}
 use Rattle.sweep_claims.proofs.OpensLaws.{too-long, with-nul, any-other}

@@ -1,7 +1,6 @@
 -- Laws of counts by answers: how many are accepted, and how many meet each number.
 -- Assumes nothing.
-use Prim.Native.Nat.{ℕ, zero, suc, _+_, _≤_, _<_}
-use mathlib.Core.Logic.{inl, inr}
+use Prim.Native.Nat.{ℕ, zero, suc, _+_, _<_}
 use mathlib.Core.Path.{_≡_, refl, sym, _∙_, ap}
 use mathlib.Core.Bool.{Bool, true, false, cond}
 use mathlib.Core.List.{List, [], _∷_, map}
@@ -16,7 +15,7 @@ use Rattle.refusals.proofs.NumberLaws.{number-row}
 use Rattle.tally.specs.declared.Answer.{Answer}
 use Rattle.tally.specs.declared.Answer.the-variants.{Unopened, Filed}
 use Rattle.tally.specs.declared.Tally.{Tally}
-use Rattle.tally.specs.Tally.{numbers, under, countedOf, countedAll, sum, Adds}
+use Rattle.tally.specs.Tally.{numbers, countedOf, countedAll, sum, Adds}
 use Rattle.tally.proofs.TallyLaws.{counted-adds}
 use Rattle.tallytext.specs.Text.{numbersTold}
 use Rattle.sweep_claims.specs.Claims.{howMany, accepts, meets}

@@ -12,7 +12,7 @@ use Rattle.refusals.specs.declared.Refusal.{Refusal}
 use Rattle.refusals.specs.declared.Outcome.the-variants.{Done, Refused}
 use Rattle.refusals.specs.Refused.{numberOf}
 use Rattle.taskplan.specs.File.{filedOf}
-use Rattle.names.specs.Names.{names, longestName}
+use Rattle.names.specs.Names.{names}
 use Rattle.tally.specs.declared.Answer.{Answer}
 use Rattle.tally.specs.declared.Answer.the-variants.{Unopened, Filed}
 use Rattle.tally.specs.declared.Tally.{Tally}

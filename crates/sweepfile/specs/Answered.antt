@@ -18,7 +18,7 @@ use Rattle.taskplan.specs.File.{filedOf}
 unfoldable pub opens : (name : List ℕ) → Bool
 opens name = ltb 0 (length name) && (leb (length name) longestName && eqb (indexOf 0 name) (length name))
 
--- the answer of some file: it can't be opened or read, or what is read of it is a file's bytes, and its outcome is theirs
+-- the answer of some file: it can't be opened or read, or it has bytes, and the outcome of reading and planning these
 abbrev pub OfFile : Answer → Type 0
 OfFile a = (a ≡ Unopened) ⊎ ((text : List ℕ) × (a ≡ Filed (filedOf text .outcome)))
 

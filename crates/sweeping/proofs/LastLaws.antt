@@ -1,18 +1,18 @@
 -- Laws of the name that the list's end ends.
 -- Assumes nothing.
-use Prim.Native.Nat.{ℕ, zero, suc, _-_, _≤_, _<_}
-use mathlib.Core.Path.{_≡_, refl, sym, _∙_, ap}
+use Prim.Native.Nat.{ℕ, _-_, _≤_, _<_}
+use mathlib.Core.Path.{_≡_, refl, _∙_, ap}
 use mathlib.Core.List.{List, [], _∷_}
 use native.Mathlib.Omega.{arith}
 use lib.ListN.{length, take}
 use lib.Seq.{take-all}
-use Rattle.names.specs.Parts.{Holds, lastName}
+use Rattle.names.specs.Parts.{lastName}
 use Rattle.tally.specs.declared.Answer.{Answer}
 use Rattle.tally.specs.declared.Tally.{Tally}
 use Rattle.tally.specs.Tally.{mostNames, countedOf, countedAll}
-use Rattle.sweepfile.specs.Answered.{AnsweredHeld, EachAnswered}
+use Rattle.sweepfile.specs.Answered.{AnsweredHeld}
 use Rattle.sweeping.specs.declared.Sweep.{Sweep}
-use Rattle.sweeping.specs.Sweeping.{Counts, Holding, Ends}
+use Rattle.sweeping.specs.Sweeping.{Counts, Ends}
 
 -- no name is counted where none is read
 counts-none : (names : List (List ℕ)) (tally : Tally) → take (mostNames - tally .names) names ≡ [] → Counts names tally tally

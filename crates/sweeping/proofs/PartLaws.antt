@@ -1,7 +1,7 @@
 -- Laws of the loop over the names of a part: what holds before each name, and what is said where it ends.
 -- Assumes nothing.
-use Prim.Native.Nat.{ℕ, _+_, _-_, _≤_, _<_}
-use mathlib.Core.Path.{_≡_, refl, sym, _∙_, ap}
+use Prim.Native.Nat.{ℕ, _+_, _≤_, _<_}
+use mathlib.Core.Path.{_≡_, sym, _∙_, ap}
 use mathlib.Core.List.{List}
 use native.Mathlib.Omega.{arith}
 use lib.ListN.{length, drop}
@@ -14,7 +14,6 @@ use Rattle.tally.specs.declared.Tally.{Tally}
 use Rattle.tally.specs.Tally.{mostNames, countedOf}
 use Rattle.tally.proofs.TallyLaws.{counted-adds, counted-names}
 use Rattle.sweepfile.specs.Answered.{AnsweredHeld}
-use Rattle.sweeping.specs.declared.Sweep.{Sweep}
 use Rattle.sweeping.specs.Sweeping.{Sweeping, Holding, Sweeps}
 use Rattle.sweeping.proofs.SweepLaws.{Gone, gone-none, gone-full, gone-counts, gone-holds, gone-next}
 
@@ -46,7 +45,7 @@ module _ {part before : List ℕ} {had : ℕ} {from : Tally} {name : List ℕ} {
     cut-held = ap (λ (c : Cut). c .held) is
 
     room : length after ≡ longestName
-    room = ap length left ∙ with-room name held (upToLF (drop at part)) (so .goes .room)
+    room = ap length left ∙ with-room name held (upToLF (drop at part)) (so .goes .long)
 
     held-few : cut .held ≤ mostHeld
     unfolding heldWith
@@ -57,7 +56,7 @@ module _ {part before : List ℕ} {had : ℕ} {from : Tally} {name : List ℕ} {
     part-end all =
         let whole : at + length (upToLF (drop at part)) ≡ length part = sym cut-end ∙ all in
         record {
-          goes = record { room = room; held = held-few; adds = so .goes .adds; few = so .goes .few };
+          goes = record { long = room; held = held-few; adds = so .goes .adds; few = so .goes .few };
           counts = λ begun h. gone-counts (so .gone begun h) more whole;
           holds = λ begun h few. rw (left, cut-held) (gone-holds (so .gone begun h) more whole);
         }
@@ -68,7 +67,7 @@ module _ {part before : List ℕ} {had : ℕ} {from : Tally} {name : List ℕ} {
       part-next = record {
         within = omega arith;
         goes = record {
-          room = room;
+          long = room;
           held = omega arith;
           adds = rw one (counted-adds tally a (so .goes .adds));
           few = omega (arith, ap (λ (t : Tally). t .names) one, counted-names tally a);

@@ -5,21 +5,20 @@ use mathlib.Core.Path.{_≡_, refl, sym, _∙_, ap, ap₂}
 use mathlib.Core.List.{List, [], _∷_, _++_, append-assoc, append-nil}
 use native.Mathlib.Omega.{arith}
 use native.Mathlib.Numerals.{unary-clauses}
-use lib.ListN.{length, take, drop, length-append, length-drop}
+use lib.ListN.{length, take, drop, length-drop}
 use lib.Seq.{take-all, take-append-seam, drop-drop}
 use Rattle.bytes.specs.Bytes.{indexOf}
 use Rattle.frames.specs.Table.{LF}
-use Rattle.names.specs.Names.{longestName}
-use Rattle.names.specs.Parts.{mostHeld, Holds, ended, begunBy, lastName, upToLF, heldWith, nameWith}
+use Rattle.names.specs.Parts.{Holds, ended, begunBy, upToLF, heldWith, nameWith}
 use Rattle.names.proofs.PartLaws.{up-to-length, cut-at, no-cut}
-use Rattle.names.proofs.HeldLaws.{holds-none, holds-with, with-room}
+use Rattle.names.proofs.HeldLaws.{holds-none, holds-with}
 use Rattle.tally.specs.declared.Answer.{Answer}
 use Rattle.tally.specs.declared.Tally.{Tally}
 use Rattle.tally.specs.Tally.{mostNames, countedOf, countedAll}
-use Rattle.tally.proofs.TallyLaws.{all-names, all-append, counted-adds}
-use Rattle.sweepfile.specs.Answered.{AnsweredHeld, Answered, EachAnswered}
+use Rattle.tally.proofs.TallyLaws.{all-names, all-append}
+use Rattle.sweepfile.specs.Answered.{AnsweredHeld, EachAnswered}
 use Rattle.sweeping.specs.declared.Sweep.{Sweep}
-use Rattle.sweeping.specs.Sweeping.{Counts, Sweeping, Holding, Sweeps}
+use Rattle.sweeping.specs.Sweeping.{Counts, Holding}
 
 -- as many names as answers
 pub each-length : (names : List (List ℕ)) (answers : List Answer) → EachAnswered names answers → length names ≡ length answers

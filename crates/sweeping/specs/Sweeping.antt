@@ -19,22 +19,22 @@ pub record Counts (names : List (List ℕ)) (before after : Tally) : Type 0 wher
   pub tally : after ≡ countedAll before answers
 
 -- a sweep that may go on, with room for a name
-pub record Sweeping (name : List ℕ) (sweep : Sweep) : Type 0 where
-  pub room : length name ≡ longestName
+pub record Sweeping (room : List ℕ) (sweep : Sweep) : Type 0 where
+  pub long : length room ≡ longestName
   pub held : sweep .held ≤ mostHeld
   pub adds : Adds (sweep .tally)
   pub few : sweep .tally .names ≤ mostNames
 
--- as long as names are read, what is begun is held
-abbrev pub Holding : (begun name : List ℕ) → Sweep → Type 0
-Holding begun name sweep = sweep .tally .names < mostNames → Holds begun name (sweep .held)
+-- as long as names are read, what is begun is held in that room
+abbrev pub Holding : (begun room : List ℕ) → Sweep → Type 0
+Holding begun room sweep = sweep .tally .names < mostNames → Holds begun room (sweep .held)
 
--- a part of the list is swept: the names that end in it are counted, and what is begun behind it is held
-pub record Sweeps (part : List ℕ) (before : List ℕ) (sweep : Sweep) (after : List ℕ) (r : Sweep) : Type 0 where
-  pub goes : Sweeping after r
-  pub counts : (begun : List ℕ) → Holding begun before sweep → Counts (ended begun part) (sweep .tally) (r .tally)
-  pub holds : (begun : List ℕ) → Holding begun before sweep → Holding (begunBy begun part) after r
+-- a part of the list is swept: whatever was begun before it, the names that end in it are counted, and what is begun behind it is held
+pub record Sweeps (part room : List ℕ) (sweep : Sweep) (left : List ℕ) (r : Sweep) : Type 0 where
+  pub goes : Sweeping left r
+  pub counts : (begun : List ℕ) → Holding begun room sweep → Counts (ended begun part) (sweep .tally) (r .tally)
+  pub holds : (begun : List ℕ) → Holding begun room sweep → Holding (begunBy begun part) left r
 
 -- the list ends: what is begun is counted, where it is a name
-abbrev pub Ends : (name : List ℕ) (sweep : Sweep) → Tally → Type 0
-Ends name sweep tally = (begun : List ℕ) → Holding begun name sweep → Counts (lastName begun) (sweep .tally) tally
+abbrev pub Ends : (room : List ℕ) (sweep : Sweep) → Tally → Type 0
+Ends room sweep tally = (begun : List ℕ) → Holding begun room sweep → Counts (lastName begun) (sweep .tally) tally

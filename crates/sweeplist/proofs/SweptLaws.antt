@@ -1,7 +1,7 @@
 -- Laws of a list that is swept part by part: what is counted so far, and where the list ends.
 -- Assumes nothing.
 use Prim.Native.Nat.{ℕ, _≤_}
-use mathlib.Core.Path.{_≡_, refl, sym, _∙_}
+use mathlib.Core.Path.{_≡_}
 use mathlib.Core.List.{List, [], _++_}
 use native.Mathlib.Omega.{arith}
 use lib.ListN.{length}
@@ -10,7 +10,7 @@ use Rattle.names.specs.Parts.{ended, begunBy}
 use Rattle.names.proofs.PartLaws.{ended-append, begun-append, names-ended}
 use Rattle.names.proofs.HeldLaws.{holds-none}
 use Rattle.tally.specs.declared.Tally.{Tally}
-use Rattle.tally.specs.Tally.{mostNames, zeroTally, countedAll}
+use Rattle.tally.specs.Tally.{mostNames, zeroTally}
 use Rattle.tally.proofs.TallyLaws.{zero-adds}
 use Rattle.sweeping.specs.declared.Sweep.{Sweep}
 use Rattle.sweeping.specs.Sweeping.{Counts, Sweeping, Holding, Sweeps, Ends}
@@ -28,7 +28,7 @@ pub record SoFar (name : List ℕ) (sweep : Sweep) : Type 0 where
 pub none-yet : (name : List ℕ) {tally : Tally} → length name ≡ longestName → tally ≡ zeroTally → SoFar name (record { held = 0; tally = tally })
 unfolding ended begunBy
 none-yet name room e = record {
-  goes = record { room = room; held = omega arith; adds = rw e zero-adds; few = rw e (omega arith) };
+  goes = record { long = room; held = omega arith; adds = rw e zero-adds; few = rw e (omega arith) };
   list = [];
   counts = rw e (counts-nothing zeroTally);
   holds = λ more. holds-none name room;

@@ -2,7 +2,6 @@
 -- Assumes nothing.
 use mathlib.Core.Path.{refl, ap}
 use mathlib.Core.Logic.{inl, inr}
-use lib.ListN.{take}
 use Rattle.tally.specs.declared.Answer.the-variants.{Filed}
 use Rattle.taskplan.specs.declared.FileAnswer.{FileAnswer}
 use borrow.Author.Needs.{needs}

@@ -1,10 +1,9 @@
 -- Each turn cuts one name off and counts it, until the part ends or no more names are read.
 -- Assumes nothing.
-use Prim.Native.Nat.{_+_, _-_, _≤_, _<_}
+use Prim.Native.Nat.{_+_, _-_, _<_}
 use mathlib.Core.Path.{_≡_, sym, _∙_, ap}
 use native.Mathlib.Omega.{arith}
 use lib.ListN.{length}
-use borrow.Author.Needs.{needs}
 use Rattle.names.specs.Names.{longestName}
 use Rattle.names.proofs.CutLaws.{cut-from, cut-within}
 use Rattle.names.proofs.HeldLaws.{with-room}
@@ -24,16 +23,16 @@ loop-holds c = part-none _ (c .before .before .before .pre)
 cut-name-requires : tie.Need-cut-name-requires Inv-loop μ-loop
 cut-name-requires c κs =
     let so = c .before .before .before .loop .inv in
-    (so .within, so .goes .room, so .goes .held)
+    (so .within, so .goes .long, so .goes .held)
 
 -- the room for a name stays
 room : (c : tie.After-cut-name Inv-loop μ-loop) → length (c .cut-name .last .1 .1 .0) ≡ longestName
-room c = ap length (c .cut-name .ensures .1) ∙ with-room _ _ _ (c .before .before .before .before .loop .inv .goes .room)
+room c = ap length (c .cut-name .ensures .1) ∙ with-room _ _ _ (c .before .before .before .before .loop .inv .goes .long)
 
 same-length : tie.Need-same-length Inv-loop μ-loop
 same-length c =
     let cut = c .before .before .before in
-    room cut ∙ sym (cut .before .before .before .before .before .before .before .before .pre .room)
+    room cut ∙ sym (cut .before .before .before .before .before .before .before .before .pre .long)
 
 returns : tie.Need-returns Inv-loop μ-loop
 returns c =
@@ -71,7 +70,7 @@ loop-again c =
     part-next (here .before .before .before .before .loop .inv) (here .before .before .if1 .taken) (here .cut-name .ensures .0) (here .cut-name .ensures .1) (some at) (c .before .held-answer .ensures) (c .counted .ensures)
 
 same-length-2 : tie.Need-same-length-2 Inv-loop μ-loop
-same-length-2 c = c .before .before .loop .inv .goes .room ∙ sym (c .before .before .before .before .before .before .pre .room)
+same-length-2 c = c .before .before .loop .inv .goes .long ∙ sym (c .before .before .before .before .before .before .pre .long)
 
 returns-2 : tie.Need-returns-2 Inv-loop μ-loop
 returns-2 c = part-full (c .before .before .loop .inv) (c .if1 .left)
