@@ -71,7 +71,7 @@ pub fn charged(set: TaskSet) -> Rows
     requires { ⌜ (set .count ≤ mostTasks) × (set .interrupts .count ≤ mostInterrupts) ⌝ }
     ensures { λ r. ⌜ r ≡ rowsOf set ⌝ }
 {
-    let outcome = taskrows::figures(set);
+    let outcome = rangerows::figures(set);
     if let Outcome::Refused(refusal) = outcome {
         return Rows::Refused(refusal);
     }

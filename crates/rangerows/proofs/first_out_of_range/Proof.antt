@@ -6,10 +6,10 @@ use native.Mathlib.Omega.{arith}
 use borrow.Author.Needs.{needs}
 use lib.ListN.{length, length-map}
 use Rattle.tasks.specs.Set.{mostTasks, zeroTask}
 use Rattle.taskrows.specs.Rows.{rangeRow}
 use Rattle.tasks.proofs.SearchLaws.{Passed, passed-none, passed-next, found-first, all-first}
-use Rattle.taskrows.proofs.first_out_of_range.Statement.{statement}
-use Rattle.taskrows.proofs.first_out_of_range.Tie as tie
+use Rattle.rangerows.proofs.first_out_of_range.Statement.{statement}
+use Rattle.rangerows.proofs.first_out_of_range.Tie as tie
 
 abbrev Inv-loop : tie.InvT-loop
 Inv-loop set count i₀ i = Passed rangeRow zeroTask (set .tasks) count i

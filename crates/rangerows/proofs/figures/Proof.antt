@@ -10,10 +10,10 @@ use Rattle.tasks.specs.declared.set.TaskSet.{TaskSet}
 use Rattle.tasks.specs.Set.{mostTasks, mostInterrupts, members, interruptsIn}
 use Rattle.tasks.specs.Search.{firstTask, atTask}
 use Rattle.tasks.proofs.Firsts.{first-within, at-none, at-some}
 use Rattle.taskrows.specs.Rows.{boardRow, rangeRow, interruptRow, rangeAt, figuresOutcome}
 use Rattle.taskrows.proofs.FiguresLaws.{figures-board, figures-task, figures-interrupts}
-use Rattle.taskrows.proofs.figures.Statement.{statement}
-use Rattle.taskrows.proofs.figures.Tie as tie
+use Rattle.rangerows.proofs.figures.Statement.{statement}
+use Rattle.rangerows.proofs.figures.Tie as tie
 
 returns : tie.Need-returns
 returns c =

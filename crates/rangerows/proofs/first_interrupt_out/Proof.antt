@@ -6,10 +6,10 @@ use native.Mathlib.Omega.{arith}
 use borrow.Author.Needs.{needs}
 use lib.ListN.{length, length-map}
 use Rattle.tasks.specs.Set.{mostInterrupts, zeroInterrupt}
 use Rattle.taskrows.specs.Rows.{interruptRow}
 use Rattle.tasks.proofs.SearchLaws.{Passed, passed-none, passed-next, found-first, all-first}
-use Rattle.taskrows.proofs.first_interrupt_out.Statement.{statement}
-use Rattle.taskrows.proofs.first_interrupt_out.Tie as tie
+use Rattle.rangerows.proofs.first_interrupt_out.Statement.{statement}
+use Rattle.rangerows.proofs.first_interrupt_out.Tie as tie
 
 abbrev Inv-loop : tie.InvT-loop
 Inv-loop processors interrupts count k₀ k = Passed (interruptRow processors) zeroInterrupt (interrupts .each) count k
