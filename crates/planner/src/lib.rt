@@ -91,7 +91,7 @@ fn placed(set: TaskSet, horizon: u64) -> PlanAnswer
 pub fn make(set: TaskSet) -> PlanAnswer
     ensures { λ r. ⌜ r ≡ planOf set ⌝ }
 {
-    if taskask::asks(set) {
+    if askrow::asks(set) {
         return refused(Refusal::Ask);
     }
     let rows = charged(set);

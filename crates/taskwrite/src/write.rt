@@ -1,10 +1,10 @@
 // Writing a task set as a file, at the start of a lent buffer.
 // Row 11 comes before row 12, and a refused write stores nothing.
+use askrow::asks;
 use rangerows::first_interrupt_out;
 use rangerows::first_out_of_range;
 use refusals::Refusal;
 use refusals::Written;
-use taskask::asks;
 use taskrows::breaks_board;
 use tasks::set::TaskSet;
 use tasktext::put_text;

@@ -6,10 +6,10 @@ use native.Mathlib.Omega.{arith}
 use borrow.Author.Needs.{needs}
 use lib.ListN.{length, length-map}
 use Rattle.tasks.specs.Set.{mostInterrupts, zeroInterrupt}
 use Rattle.taskask.specs.Ask.{interruptOverflows}
 use Rattle.tasks.proofs.SearchLaws.{Passed, passed-none, passed-next, found-some, all-some}
-use Rattle.taskask.proofs.interrupts_overflow.Statement.{statement}
-use Rattle.taskask.proofs.interrupts_overflow.Tie as tie
+use Rattle.askrow.proofs.interrupts_overflow.Statement.{statement}
+use Rattle.askrow.proofs.interrupts_overflow.Tie as tie
 
 abbrev Inv-loop : tie.InvT-loop
 Inv-loop interrupts count k₀ k = Passed interruptOverflows zeroInterrupt (interrupts .each) count k

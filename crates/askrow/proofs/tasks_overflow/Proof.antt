@@ -6,10 +6,10 @@ use native.Mathlib.Omega.{arith}
 use borrow.Author.Needs.{needs}
 use lib.ListN.{length, length-map}
 use Rattle.tasks.specs.Set.{mostTasks, zeroTask}
 use Rattle.taskask.specs.Ask.{taskOverflows}
 use Rattle.tasks.proofs.SearchLaws.{Passed, passed-none, passed-next, found-some, all-some}
-use Rattle.taskask.proofs.tasks_overflow.Statement.{statement}
-use Rattle.taskask.proofs.tasks_overflow.Tie as tie
+use Rattle.askrow.proofs.tasks_overflow.Statement.{statement}
+use Rattle.askrow.proofs.tasks_overflow.Tie as tie
 
 abbrev Inv-loop : tie.InvT-loop
 Inv-loop set count i₀ i = Passed taskOverflows zeroTask (set .tasks) count i

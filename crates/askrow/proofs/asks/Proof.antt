@@ -5,10 +5,10 @@ use mathlib.Core.Path.{_≡_, refl, sym, _∙_}
 use borrow.Author.Needs.{needs}
 use Rattle.tasks.specs.Set.{members}
 use Rattle.tasks.specs.Search.{some}
 use Rattle.taskask.specs.Ask.{countRow, twiceRow, headerOverflows, taskOverflows, maskedOverflows}
 use Rattle.taskask.proofs.Carried.{ask-rows, count-within, interrupts-within}
-use Rattle.taskask.proofs.asks.Statement.{statement}
-use Rattle.taskask.proofs.asks.Tie as tie
+use Rattle.askrow.proofs.asks.Statement.{statement}
+use Rattle.askrow.proofs.asks.Tie as tie
 
 returns : tie.Need-returns
 returns c = sym (ask-rows (c .before .before .args .set) (sym (c .before .breaks-count .ensures) ∙ c .if1 .taken) refl refl refl refl refl)

@@ -4,9 +4,9 @@ use native.Mathlib.Omega.{arith}
 use mathlib.Core.Path.{sym, _∙_, ap}
 use borrow.Author.Needs.{needs}
 use Rattle.frames.specs.Table.{widthsOf}
 use Rattle.taskask.specs.Ask.{maskedOverflows}
-use Rattle.taskask.proofs.masked_overflows.Statement.{statement}
-use Rattle.taskask.proofs.masked_overflows.Tie as tie
+use Rattle.overflowing.proofs.masked_overflows.Statement.{statement}
+use Rattle.overflowing.proofs.masked_overflows.Tie as tie
 
 returns : tie.Need-returns
 unfolding maskedOverflows
