@@ -7,8 +7,8 @@ use refusals::Refusal;
 use refusals::Written;
 use taskrows::breaks_board;
 use tasks::set::TaskSet;
-use tasktext::put_text;
-use tasktext::text_length;
+use textlength::text_length;
+use textwrite::put_text;
 ghost use mathlib.Core.Path.{_≡_};
 ghost use Rattle.taskwrite.specs.Write.{writerAsks, Wrote};
 

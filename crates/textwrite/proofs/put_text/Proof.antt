@@ -12,10 +12,10 @@ use Rattle.tasks.specs.Set.{mostTasks, mostInterrupts, zeroTask}
 use Rattle.tasks.specs.Values.{taskValues}
 use Rattle.optionallines.specs.Lines.{maskedLine}
 use Rattle.optionallines.proofs.OptionalLaws.{masked-most}
 use Rattle.tasktext.specs.Text.{mostFigures}
 use Rattle.tasktext.proofs.TextLaws.{Within, task-sized, text-bytes, text-put}
-use Rattle.tasktext.proofs.put_text.Statement.{statement}
-use Rattle.tasktext.proofs.put_text.Tie as tie
+use Rattle.textwrite.proofs.put_text.Statement.{statement}
+use Rattle.textwrite.proofs.put_text.Tie as tie
 
 within : (s : tie.Start) → Within (s .args .set)
 within s =

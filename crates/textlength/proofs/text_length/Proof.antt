@@ -6,8 +6,8 @@ use borrow.Author.Needs.{needs}
 use Rattle.frames.specs.Table.{widthsOf, sum}
 use Rattle.optionallines.specs.Lines.{maskedLine}
 use Rattle.optionallines.proofs.OptionalLaws.{masked-most}
-use Rattle.tasktext.proofs.text_length.Statement.{statement}
-use Rattle.tasktext.proofs.text_length.Tie as tie
+use Rattle.textlength.proofs.text_length.Statement.{statement}
+use Rattle.textlength.proofs.text_length.Tie as tie
 
 lines-length-requires : tie.Need-lines-length-requires
 lines-length-requires c κs = omega arith

@@ -1,0 +1,38 @@
+// The text of a task set: one 01 line, the 05 line where the set has one, then the 02 lines and the 07 lines, each in file order.
+use framelines::lines_length;
+use framelines::put_lines;
+use frames::table::Frame;
+use framewrite::put_line;
+use optionallines::masked_length;
+use optionallines::put_interrupts;
+use optionallines::put_masked;
+use tasks::set::TaskSet;
+use tasks::values::header_values;
+use tasktext::task_figures;
+ghost use mathlib.Core.Path.{_≡_};
+ghost use Prim.Native.Nat.{_≤_};
+ghost use lib.ListN.{length as bytes};
+ghost use Rattle.digits.specs.Stored.{stored};
+ghost use Rattle.tasks.specs.Set.{mostTasks, mostInterrupts};
+ghost use Rattle.tasktext.specs.Text.{textOf};
+
+// Writes the text of a set into a buffer that has the room.
+pub fn put_text(out: &mut [u8], set: TaskSet)
+    requires { ⌜ set .count ≤ mostTasks ⌝ }
+    requires { ⌜ set .interrupts .count ≤ mostInterrupts ⌝ }
+    requires { ⌜ bytes (textOf set) ≤ bytes (now out) ⌝ }
+    ensures { λ r. ⌜ now (out .exit) ≡ stored (now (out .entry)) 0 (textOf set) ⌝ }
+{
+    let header = set.header;
+    let first = header_values(header);
+    put_line(out, 0, Frame::Header, &first);
+    let second = lines_length(Frame::Header, 1);
+    let masked = header.masked;
+    put_masked(out, second, masked);
+    let at = second + masked_length(masked);
+    let values = task_figures(set);
+    let count = set.count;
+    put_lines(out, at, Frame::Task, &values, count);
+    let behind = at + lines_length(Frame::Task, count);
+    put_interrupts(out, behind, set.interrupts);
+}
