@@ -19,6 +19,13 @@ halfAt numbers i = numberAt numbers i % 2 ^ 16
 abbrev pub wordAt : (numbers : List ℕ) (i : ℕ) → ℕ
 wordAt numbers i = numberAt numbers i % 2 ^ 32
 
+-- where the tasks of a set start, and where the count of the interrupts stands
+abbrev pub tasksAt : ℕ
+tasksAt = 10
+
+abbrev pub interruptsAt : ℕ
+interruptsAt = tasksAt + 4 * mostTasks
+
 -- a server's numbers: its count, its places, then reserve, start and cache cost
 abbrev pub perServer : ℕ
 perServer = mostTasks + 4

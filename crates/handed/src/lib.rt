@@ -1,8 +1,18 @@
-// A set and a plan that are handed in as numbers, in the order of their fields, unused room too: the numbers, and where a plan's parts stand.
+// A set and a plan that are handed in as numbers, in the order of their fields, unused room too: the numbers, and where the parts stand.
 // What they are stands in specs/Handed.antt.
 use tasks::set::TaskSet;
 ghost use mathlib.Core.Path.{_≡_};
 ghost use Rattle.handed.specs.Handed.{numberAt};
+
+pub const BYTE: u64 = 256;
+
+pub const HALF: u64 = 65_536;
+
+pub const WORD: u64 = 4_294_967_296;
+
+pub const TASKS: usize = 10;
+
+pub const INTERRUPTS: usize = TASKS + 4 * TaskSet::MOST_TASKS;
 
 pub const SERVERS: usize = 5;
 

@@ -1,7 +1,7 @@
--- `handedset::header_from` meets its contract: each figure is its number, at the field's width, and the 05 line is that of its two numbers. Assumes nothing.
+-- `handedheader::header_from` meets its contract: each figure is its number, at the field's width, and the 05 line is that of its two numbers. Assumes nothing.
 use borrow.Author.Needs.{needs}
-use Rattle.handedset.proofs.header_from.Statement.{statement}
-use Rattle.handedset.proofs.header_from.Tie as tie
+use Rattle.handedheader.proofs.header_from.Statement.{statement}
+use Rattle.handedheader.proofs.header_from.Tie as tie
 
 returns : tie.Need-returns
 returns c =

@@ -1,8 +1,8 @@
--- `handedset::masked_from` meets its contract: number 8 says whether there is a 05 line, number 9 is its figure. Assumes nothing.
+-- `handedheader::masked_from` meets its contract: number 8 says whether there is a 05 line, number 9 is its figure. Assumes nothing.
 use borrow.Author.Needs.{needs}
 use borrow.Author.Tests.{eq-eqb, ne-eqb}
-use Rattle.handedset.proofs.masked_from.Statement.{statement}
-use Rattle.handedset.proofs.masked_from.Tie as tie
+use Rattle.handedheader.proofs.masked_from.Statement.{statement}
+use Rattle.handedheader.proofs.masked_from.Tie as tie
 
 returns : tie.Need-returns
 returns c = rw (← c .before .number-at .ensures, eq-eqb _ _ (c .if1 .taken))

@@ -1,7 +1,7 @@
--- `handedset::interrupt_from` meets its contract: each figure is its number, at the field's width. Assumes nothing.
+-- `handedinterrupts::interrupt_from` meets its contract: each figure is its number, at the field's width. Assumes nothing.
 use borrow.Author.Needs.{needs}
-use Rattle.handedset.proofs.interrupt_from.Statement.{statement}
-use Rattle.handedset.proofs.interrupt_from.Tie as tie
+use Rattle.handedinterrupts.proofs.interrupt_from.Statement.{statement}
+use Rattle.handedinterrupts.proofs.interrupt_from.Tie as tie
 
 returns : tie.Need-returns
 returns c =

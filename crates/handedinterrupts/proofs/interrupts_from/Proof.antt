@@ -1,13 +1,14 @@
--- `handedset::interrupts_from` meets its contract. The loop's invariant: the places passed hold the interrupts of their numbers.
+-- `handedinterrupts::interrupts_from` meets its contract. The loop's invariant: the places passed hold the interrupts of their numbers.
 -- The measure is what is left of the room. Assumes nothing.
 use Prim.Native.Nat.{ℕ, _+_, _*_, _-_}
 use native.Mathlib.Omega.{arith}
 use borrow.Author.Needs.{needs}
 use Rattle.tasks.specs.Set.{mostInterrupts, zeroInterrupt}
-use Rattle.handedset.specs.Set.{interruptsAt, interruptFrom, interruptsFrom}
+use Rattle.handed.specs.Handed.{interruptsAt}
+use Rattle.handedinterrupts.specs.Interrupts.{interruptFrom, interruptsFrom}
 use Rattle.handed.proofs.HandedLaws.{FilledTo, to-none, to-next, to-all}
-use Rattle.handedset.proofs.interrupts_from.Statement.{statement}
-use Rattle.handedset.proofs.interrupts_from.Tie as tie
+use Rattle.handedinterrupts.proofs.interrupts_from.Statement.{statement}
+use Rattle.handedinterrupts.proofs.interrupts_from.Tie as tie
 
 abbrev Inv-loop : tie.InvT-loop
 Inv-loop numbers each₀ k₀ each k = FilledTo mostInterrupts zeroInterrupt (λ (i : ℕ). interruptFrom numbers (interruptsAt + 1 + 5 * i)) k each
