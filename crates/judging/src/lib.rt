@@ -44,5 +44,5 @@ pub fn judged(
     let slot = header.slot as u64;
     let lost = loss(header, cache);
     let end = 3 * k + interrupts.len();
-    verdict::judge::verdict(&loads[..end], k, masked, slot, lost, reserve, own)
+    readings::verdict(&loads[..end], k, masked, slot, lost, reserve, own)
 }

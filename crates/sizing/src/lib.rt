@@ -49,7 +49,7 @@ pub fn reserve_of(
     let masked = header.masked_ticks() as u64;
     let slot = header.slot as u64;
     let end = 3 * count + interrupts.len();
-    verdict::reserve::smallest_reserve(&loads[..end], count, masked, slot, loss(header, cache), own)
+    reserving::smallest_reserve(&loads[..end], count, masked, slot, loss(header, cache), own)
 }
 
 // The reserves of servers 1 to count, in server order.

@@ -1,5 +1,4 @@
 // Whether a server passes with a reserve: the search for a length at which demand exceeds supply.
 // One search serves placement, the sizing of reserves and the question.
 pub mod answer; // answer.rt: yes or no, with a reading
-pub mod judge; // judge.rt: does it pass, and the verdict
-pub mod reserve; // reserve.rt: the smallest reserve
+pub mod judge; // judge.rt: does it pass

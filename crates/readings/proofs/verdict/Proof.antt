@@ -15,10 +15,10 @@ use Rattle.slack.proofs.LeastLaws.{least-within}
 use Rattle.masking.specs.declared.Gain.{Gain}
 use Rattle.masking.specs.Masking.{Gains, gaining, gainOf}
 use Rattle.masking.proofs.OwnLaws.{own-gains}
 use Rattle.verdict.specs.Verdict.{verdictOf}
 use Rattle.verdict.proofs.Judged.{gap-asked, gap-usable, searched, none-short, judged-yes, judged-no}
-use Rattle.verdict.proofs.judge.verdict.Statement.{statement}
-use Rattle.verdict.proofs.judge.verdict.Tie as tie
+use Rattle.readings.proofs.verdict.Statement.{statement}
+use Rattle.readings.proofs.verdict.Tie as tie
 
 abbrev start : tie.After-gain-of → tie.Start
 start c = c .before .before .before

@@ -9,10 +9,10 @@ use Rattle.interrupting.specs.Interrupts.{asked}
 use Rattle.masking.specs.declared.Gain.{Gain}
 use Rattle.masking.specs.Masking.{gaining, gainOf}
 use Rattle.masking.proofs.OwnLaws.{own-gains}
 use Rattle.verdict.specs.Verdict.{passing}
-use Rattle.verdict.proofs.Sizing.{Sized, sizing-starts, sizing-ring, sizing-down, sizing-up, sizing-ends}
-use Rattle.verdict.proofs.reserve.smallest_reserve.Statement.{statement}
-use Rattle.verdict.proofs.reserve.smallest_reserve.Tie as tie
+use Rattle.reserving.proofs.Sizing.{Sized, sizing-starts, sizing-ring, sizing-down, sizing-up, sizing-ends}
+use Rattle.reserving.proofs.smallest_reserve.Statement.{statement}
+use Rattle.reserving.proofs.smallest_reserve.Tie as tie
 
 abbrev Inv-loop : tie.InvT-loop
 Inv-loop loads n masked slot loss horizon gain lo₀ hi₀ lo hi = Sized (gaining (gainOf masked (loadsOf loads n)) (asked loads n)) horizon slot loss lo hi

@@ -5,9 +5,9 @@ use native.Mathlib.Omega.{arith}
 use Rattle.interrupting.proofs.SlicesLaws.{asked-room}
 use Rattle.masking.specs.Masking.{gaining}
 use Rattle.masking.proofs.GainLaws.{gain-most}
 use Rattle.verdict.specs.Verdict.{readingPast}
-use Rattle.verdict.proofs.judge.reading.Statement.{statement}
-use Rattle.verdict.proofs.judge.reading.Tie as tie
+use Rattle.readings.proofs.reading.Statement.{statement}
+use Rattle.readings.proofs.reading.Tie as tie
 
 add-asked : tie.Need-add-asked
 add-asked c =

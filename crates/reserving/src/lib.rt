@@ -1,14 +1,14 @@
-// The size of a server's reserve. What it means stands in specs/Reserve.antt.
+// The size of a server's reserve. What it means stands in specs/Reserve.antt of verdict.
 // A larger allowed reserve never turns yes into no, so halving finds the smallest.
-use crate::judge::passes_gaining;
 use masking::gain_of;
+use verdict::judge::passes_gaining;
 ghost use mathlib.Core.Path.{_≡_};
 ghost use Rattle.demand.specs.Load.{loadsOf};
 ghost use Rattle.interrupting.specs.Interrupts.{asked};
 ghost use Rattle.interrupting.specs.Interrupted.{Interrupted};
 ghost use Rattle.masking.specs.Masking.{Maskable, gaining, gainOf};
 ghost use Rattle.verdict.specs.Verdict.{Testable};
 ghost use Rattle.verdict.specs.Reserve.{smallestReserve};
 
 // No reserve up to lo is enough; hi is, or it is the whole processor.
 pub fn smallest_reserve(
