@@ -28,7 +28,8 @@ tools() {
   fi
   CC=(x86_64-linux-gnu-gcc)
   RUSTC=(/usr/bin/rustc --target x86_64-unknown-linux-gnu -C linker=x86_64-linux-gnu-gcc)
-  RUN=(qemu-x86_64)
+  # The emulator carries `rep stosb` out a byte at a time; without it the C library clears memory as fast as it copies.
+  RUN=(qemu-x86_64 -cpu max,-erms)
   local lib
   lib=$(dirname "$(dirname "$(readlink -f "$(command -v rt)")")")/toolchain/lib
   LOAD=("${RUN[@]}" "$lib/ld-linux-x86-64.so.2" --library-path "$lib")
