@@ -1,6 +1,6 @@
-// What an archive of the tool answers to some 58,000 task files, with 05 lines and without, none with a 07 line: one line a file,
-// a fingerprint of its plan's bytes and of what the questions say. Two builds that answer alike print alike; tests/same compares
-// them.
+// What an archive of the tool answers to some 58,000 task files, with 05 lines and without, none with a 03 or 07 line: one line a
+// file, a fingerprint of its plan's bytes and of what the questions say. Two builds that answer alike print alike; tests/same
+// compares them.
 mod files;
 #[allow(dead_code)]
 mod oracle;
@@ -29,7 +29,8 @@ impl Print {
 }
 
 fn tell(file: &[u8], random: &mut Random) {
-    if file.split(|b| *b == b'\n').any(|line| line.starts_with(b"07") && line.len() == 26) {
+    let later = |line: &[u8]| line.starts_with(b"03") || line.starts_with(b"07");
+    if file.split(|b| *b == b'\n').any(|line| later(line) && line.len() == 26) {
         return;
     }
     let mut print = Print(0xcbf2_9ce4_8422_2325);
@@ -72,7 +73,7 @@ fn wild(random: &mut Random) -> Set {
         let d = if random.next() % 8 == 0 { any(random, 0xFF_FFFF) } else { random.within(t / 2, t) };
         let c = if random.next() % 8 == 0 { any(random, 0xFF_FFFF) } else { random.within(1, t / 10) };
         let id = if random.next() % 64 == 0 { random.within(0, 255) } else { i };
-        set.tasks.push(Task { id, c, d, t });
+        set.tasks.push(Task { id, c, d, t, cache: None });
     }
     set
 }

@@ -48,6 +48,16 @@ pub fn with_line(file: &[u8], b: u64) -> Vec<u8> {
     [&file[..31], format!("05{:04X}\n", b).as_bytes(), &file[31..]].concat()
 }
 
+// A good file without 07 lines, its 02 lines as 03 lines, with the costs that are given.
+pub fn with_costs(file: &[u8], mut cost: impl FnMut() -> u64) -> Vec<u8> {
+    let text = std::str::from_utf8(file).unwrap();
+    let line = |line: &str| match line.strip_prefix("02") {
+        Some(figures) => format!("03{}{:04X}\n", figures, cost()),
+        None => format!("{}\n", line),
+    };
+    text.lines().map(line).collect::<String>().into_bytes()
+}
+
 // Many servers that each nearly take the next task: every task is tried against every server.
 pub fn halves() -> String {
     let mut text = String::from("01400005A000000000000000000000\n");

@@ -5,9 +5,10 @@ mod files;
 mod oracle;
 mod random;
 
-use files::{damaged, good, interrupted, interrupts, interrupts_anywhere, masked, masked_anywhere};
+use files::{cached, caches, caches_anywhere, damaged, good, interrupted, interrupts, interrupts_anywhere, masked, masked_anywhere, other_slot};
 use oracle::{Interrupt, Plan, Set, Task};
 use random::Random;
+use std::collections::HashSet;
 
 extern "C" {
     fn rack_plan(tasks: *const u8, tasks_len: usize, out: *mut u8, out_len: usize) -> usize;
@@ -52,7 +53,7 @@ fn refusal(file: &[u8]) -> usize {
 }
 
 fn examples() {
-    for name in ["a", "b", "c", "d", "e", "f", "g", "h1", "h2", "i", "j", "k", "m", "n1", "n2", "o"] {
+    for name in ["a", "b", "c", "d", "e", "f", "g", "h1", "h2", "i", "j", "k", "m", "n1", "n2", "o", "p1", "p2", "q"] {
         let file = std::fs::read(format!("examples/{}.tasks", name)).unwrap();
         let plan = std::fs::read(format!("examples/{}.plan", name)).unwrap();
         assert_eq!(plan_text(&file), plan, "example {}", name);
@@ -116,7 +117,7 @@ fn small(random: &mut Random) -> Set {
     for id in 0..random.within(1, 6) {
         let t = random.one(&divisors).max(s);
         let d = random.within(s, t);
-        set.tasks.push(Task { id, c: random.within(1, (d / 3).max(1)), d, t });
+        set.tasks.push(Task { id, c: random.within(1, (d / 3).max(1)), d, t, cache: None });
     }
     set
 }
@@ -130,11 +131,10 @@ fn every_length(set: &Set, mut answered: impl FnMut(&Plan, [u64; 4], u64, u64)) 
     };
     let file = oracle::file(set).into_bytes();
     same_plan(&file);
-    for (q, own) in plan.reserves.iter().enumerate() {
-        let loads = plan.members_loads(q + 1);
-        let deadlines = || loads.iter().map(|l| l.d);
-        for r in (plan.board.loss + 1..set.s).chain([set.s]) {
-            let expected = plan.board.verdict_walked(&loads, r);
+    for (q, (server, own)) in plan.servers.iter().zip(&plan.reserves).enumerate() {
+        let deadlines = || server.loads.iter().map(|l| l.d);
+        for r in (server.loss + 1..set.s).chain([set.s]) {
+            let expected = plan.board.verdict_walked(server, r);
             assert_eq!(pass(&file, q as u64 + 1, r), (0, expected), "server {} reserve {}\n{}", q + 1, r, oracle::file(set));
             assert_eq!(expected[0] == 1, r >= *own, "server {} reserve {}\n{}", q + 1, r, oracle::file(set));
             answered(&plan, expected, deadlines().min().unwrap(), deadlines().max().unwrap());
@@ -207,7 +207,7 @@ fn refused(set: &Set, number: usize, place: usize) {
 const LIGHT: Interrupt = Interrupt { p: 1, c: 1, d: 50, t: 100, j: 0 };
 
 fn three_tasks(m: u64) -> Set {
-    Set { m, s: 10, tasks: (0..3).map(|id| Task { id, c: 1, d: 100, t: 100 }).collect(), ..Set::default() }
+    Set { m, s: 10, tasks: (0..3).map(|id| Task { id, c: 1, d: 100, t: 100, cache: None }).collect(), ..Set::default() }
 }
 
 // Each bound of an interrupt's figures, reached and passed, at every place; a task's comes before, and the board's before that.
@@ -259,7 +259,7 @@ fn interrupt_ranges() {
 fn many_interrupts() {
     let mut random = Random(36);
     for (count, line, tasks) in (28..=40).flat_map(|count| [(count, None, 3), (count, Some(2), 3), (count, None, 64), (count, Some(0), 64)]) {
-        let tasks: Vec<Task> = (0..tasks).map(|id| Task { id, c: 1, d: 700, t: 720 }).collect();
+        let tasks: Vec<Task> = (0..tasks).map(|id| Task { id, c: 1, d: 700, t: 720, cache: None }).collect();
         let lines = 1 + line.map_or(0, |_| 1) + tasks.len();
         let interrupts = (0..count).map(|_| Interrupt { p: random.within(1, 8), c: 1, d: random.within(100, 240), t: 240, j: random.within(0, 9) }).collect();
         let set = Set { m: 64, s: 10, masked: line, tasks, interrupts, ..Set::default() };
@@ -283,7 +283,7 @@ fn many_interrupts() {
 
 // A task that fails alone is named, the first in the file, wherever it stands and however full the boards would be.
 fn alone() {
-    let tasks = |cost: u64, n: u64| (0..n).map(move |id| Task { id, c: cost, d: 10, t: 10 });
+    let tasks = |cost: u64, n: u64| (0..n).map(move |id| Task { id, c: cost, d: 10, t: 10, cache: None });
     let interrupts = vec![Interrupt { p: 1, c: 2, d: 10, t: 10, j: 1 }];
     for n in [1, 2, 3, 17, 64] {
         for m in [1, n / 2 + 1, 64] {
@@ -308,7 +308,7 @@ fn alone() {
     }
     // Among small tasks one that the server before it would have to share with nothing but the interrupts.
     let mut set = Set { m: 2, s: 10, tasks: tasks(1, 5).collect(), interrupts, ..Set::default() };
-    set.tasks[3] = Task { id: 3, c: 17, d: 20, t: 20 };
+    set.tasks[3] = Task { id: 3, c: 17, d: 20, t: 20, cache: None };
     refused(&set, 13, 4);
     set.tasks[3].c = 16;
     assert_eq!(refusal(oracle::file(&set).as_bytes()), 0);
@@ -321,7 +321,7 @@ fn interrupt_lengths() {
         let mut set = small(&mut random);
         set.masked = random.one(&[0, 0, 1, 4]).checked_sub(1);
         interrupts(&mut random, &mut set, 6);
-        let processors: std::collections::HashSet<u64> = set.interrupts.iter().map(|i| i.p).collect();
+        let processors: HashSet<u64> = set.interrupts.iter().map(|i| i.p).collect();
         let counted = every_length(&set, |plan, [_, t, w, _], from, until| {
             before += (t < from) as u32;
             between += (plan.board.b > 0 && from <= t && t < until) as u32;
@@ -332,6 +332,271 @@ fn interrupt_lengths() {
     assert!(before > 300, "only {} answers named a length below every deadline of a task", before);
     assert!(between > 100, "only {} answers named a length that gains", between);
     assert!(hidden > 300, "only {} answers had tasks and interrupts of several processors", hidden);
+}
+
+fn cached_files() {
+    let mut random = Random(41);
+    let (mut seen, mut moved, mut apart, mut mixed, mut parted) = ([0u32; 14], 0, 0, 0, 0);
+    for _ in 0..6000 {
+        let set = cached(&mut random);
+        let file = oracle::file(&set).into_bytes();
+        same_plan(&file);
+        seen[refusal(&file)] += 1;
+        let plain = Set { tasks: set.tasks.iter().map(|t| Task { cache: None, ..t.clone() }).collect(), ..set.clone() };
+        moved += (plan_text(&file) != plan_text(oracle::file(&plain).as_bytes())) as u32;
+        if let Ok(plan) = oracle::plan(&set) {
+            let losses: HashSet<u64> = plan.servers.iter().map(|server| server.loss).filter(|loss| loss + 1 < set.s).collect();
+            let costs = |held: &Vec<usize>| held.iter().map(|i| set.cache(&set.tasks[*i])).collect::<HashSet<u64>>();
+            let most = plan.servers.iter().map(|server| server.cache).max().unwrap();
+            apart += (losses.len() > 1) as u32;
+            mixed += plan.members.iter().any(|held| costs(held).len() > 1) as u32;
+            parted += plan.servers.iter().any(|server| server.loads.iter().any(|l| l.c - server.cache + most > l.d)) as u32;
+        }
+    }
+    assert!(seen[0] > 1500 && seen[8] > 300 && seen[10] > 100 && seen[13] > 100, "refusals: {:?}", seen);
+    assert!(moved > 2000, "only {} files had another plan without their 03 lines", moved);
+    assert!(apart > 500, "only {} plans had reserves of several entry losses", apart);
+    assert!(mixed > 1000, "only {} plans had a server with tasks of several costs", mixed);
+    assert!(parted > 500, "only {} plans had a task with no room for the cost of another server", parted);
+}
+
+// 03 lines anywhere, 05 and 07 lines too, whole and damaged: on line 1, between 02 lines, behind 07 lines, with the id of another.
+fn cached_lines() {
+    let mut random = Random(42);
+    let mut seen = [0u32; 14];
+    for i in 0..20000 {
+        let set = match i % 4 {
+            0 => good(&mut random),
+            1 => interrupted(&mut random),
+            2 => Set { tasks: vec![], ..good(&mut random) },
+            _ => cached(&mut random),
+        };
+        let mut file = oracle::file(&set).into_bytes();
+        caches_anywhere(&mut random, &mut file);
+        if i % 5 == 0 {
+            interrupts_anywhere(&mut random, &mut file);
+        }
+        if i % 3 == 0 {
+            damaged(&mut random, &mut file);
+        }
+        if i % 7 == 0 {
+            file.truncate(random.within(0, 90) as usize);
+        }
+        same_plan(&file);
+        seen[refusal(&file)] += 1;
+    }
+    for number in [0, 1, 2, 3, 4, 6, 7, 8, 10, 13] {
+        assert!(seen[number] > 10, "hardly a file met refusal {}: {:?}", number, seen);
+    }
+}
+
+// What a task's line may become, and the refusal that the file then meets: a digit or a cost short and long, another kind in its
+// length, its own kind with another cost, twice, behind an interrupt or a header.
+fn other_lines(header: &str, line: &str, last: bool) -> Vec<(String, usize)> {
+    let (tail, figures) = (&line[2..], &line[2..22]);
+    vec![
+        (format!("{}0\n", line), 1),
+        (format!("{}0000\n", line), 1),
+        (format!("{}\n", &line[..line.len() - 1]), 1),
+        (format!("{}\n", &line[..line.len() - 4]), 1),
+        (format!("{} \n", line), 1),
+        (format!("{}\r\n", line), 1),
+        (line.to_string(), 1),
+        (format!("{}\n{}\n", line, line), 4),
+        (format!("02{}\n", tail), if tail.len() == 20 { 0 } else { 1 }),
+        (format!("03{}\n", tail), if tail.len() == 24 { 0 } else { 1 }),
+        (format!("02{}\n", figures), 0),
+        (format!("03{}\n", figures), 1),
+        (format!("03{}0000\n", figures), 0),
+        (format!("03{}FFFF\n", figures), 8),
+        (format!("03{}000a\n", figures), 1),
+        (format!("03{}00G0\n", figures), 1),
+        (format!("30{}0000\n", figures), 1),
+        (format!("07{}0000\n", figures), if last { 0 } else { 2 }),
+        (format!("07{}0000\n{}\n", figures, line), 2),
+        (format!("{}{}\n", header, line), 2),
+    ]
+}
+
+// Three tasks of any kinds, each line in turn become another.
+fn cached_lines_one_by_one() {
+    let mut set = three_tasks(2);
+    set.cpmdo = 0xB;
+    for which in 0..8 {
+        set.tasks.iter_mut().enumerate().for_each(|(i, t)| t.cache = Some(0xA + i as u64).filter(|_| which >> i & 1 == 1));
+        let lines: Vec<String> = oracle::file(&set).lines().map(|line| format!("{}\n", line)).collect();
+        same_plan(lines.concat().as_bytes());
+        assert_eq!(refusal(lines.concat().as_bytes()), 0);
+        for at in 1..4 {
+            for (other, number) in other_lines(&lines[0], lines[at].trim_end(), at == 3) {
+                let mut lines = lines.clone();
+                lines[at] = other;
+                let file = lines.concat();
+                same_plan(file.as_bytes());
+                assert_eq!(refusal(file.as_bytes()), number, "{}", file);
+            }
+        }
+    }
+}
+
+// 64 tasks of any mix are read; a 65th is one too many at its line, and one with an id that was there is named at its own.
+fn many_cached() {
+    let mut random = Random(43);
+    for count in 60..=68 {
+        for mix in 0..5 {
+            let line = random.one(&[0, 0, 1]).checked_sub(1);
+            let mut given = |id: u64| [id < 64, id >= 64, id == 0, true, random.next() % 2 == 0][mix];
+            let tasks: Vec<Task> = (0..count).map(|id| Task { id, c: 1, d: 700, t: 720, cache: Some(id % 9).filter(|_| given(id)) }).collect();
+            let before = 1 + line.map_or(0, |_| 1);
+            let mut set = Set { m: 64, s: 20, cpmdo: 3, masked: line, tasks, ..Set::default() };
+            let file = oracle::file(&set).into_bytes();
+            same_plan(&file);
+            assert_eq!(plan_text(&file), plan_text(&file[..file.len().min(LOOKED_AT)]));
+            if count > 64 {
+                refused(&set, 3, before + 65);
+            } else {
+                assert_eq!(refusal(&file), 0);
+            }
+            for more in ["0", "\n", "0340000001000064000064\n", "03400000010000640000640000\n", "0240000001000064000064\n", "050001\n"] {
+                same_plan(&[&file[..], more.as_bytes()].concat());
+            }
+            let (first, second) = (random.within(0, 61) as usize, random.within(62, 63) as usize);
+            if second < set.tasks.len() {
+                set.tasks[second].id = set.tasks[first % second].id;
+                refused(&set, 4, before + second + 1);
+            }
+        }
+    }
+}
+
+// Row 8 by the task's own cost, whatever its neighbours' are: at every place the most that there is room for, and one tick more.
+fn cached_tight() {
+    for n in [1, 2, 3, 17, 64] {
+        for place in 0..n as usize {
+            let tasks = (0..n).map(|id| Task { id, c: 3, d: 30, t: 60, cache: Some(id % 3).filter(|c| *c > 0) }).collect();
+            let mut set = Set { m: 64, s: 30, relj: 2, relo: 1, ctswo: 2, cpmdo: 4, tasks, ..Set::default() };
+            for (cost, tight) in [(0, false), (19, false), (20, false), (21, true), (0xFFFF, true)] {
+                set.tasks[place].cache = Some(cost);
+                if tight {
+                    refused(&set, 8, place + 1);
+                    set.tasks[n as usize - 1].cache = Some(0xFFFE);
+                    refused(&set, 8, place + 1);
+                } else {
+                    same_plan(oracle::file(&set).as_bytes());
+                    assert_eq!(refusal(oracle::file(&set).as_bytes()), 0);
+                }
+            }
+            // By the header's cost alone a task of an 02 line is too tight, one of a 03 line is not.
+            set.tasks.iter_mut().for_each(|t| t.cache = Some(1));
+            set.cpmdo = 21;
+            assert_eq!(refusal(oracle::file(&set).as_bytes()), 0);
+            set.tasks[place].cache = None;
+            refused(&set, 8, place + 1);
+        }
+    }
+}
+
+// Rows 6, 7 and 9 of a 03 line as of an 02 line, at every place; the lower row first.
+fn cached_rows() {
+    for (n, place) in [1, 2, 17, 64].iter().flat_map(|n| (0..*n).map(move |place| (*n as u64, place as usize))) {
+        let tasks = (0..n).map(|id| Task { id, c: 1, d: 50, t: 100, cache: Some(1) }).collect();
+        let mut set = Set { m: 64, s: 11, tasks, ..Set::default() };
+        set.tasks[place].t = 999_983;
+        refused(&set, 9, 0);
+        set.tasks[place].d = 9;
+        refused(&set, 7, place + 1);
+        set.tasks[place].cache = Some(9);
+        refused(&set, 7, place + 1);
+        set.s = 1;
+        refused(&set, 8, place + 1);
+        set.tasks[place].c = 10;
+        refused(&set, 6, place + 1);
+        set.s = 0;
+        refused(&set, 5, 0);
+    }
+}
+
+// Two tasks that ask for little share a server up to the cost with which the first still meets its deadline; each costs the other.
+fn neighbours() {
+    for cost in 0..=40 {
+        for (own, header) in [(0, 0), (3, 0), (0, 7), (5, 2)] {
+            let short = Task { id: 1, c: 5, d: 20, t: 1000, cache: Some(own) };
+            let long = Task { id: 2, c: 1, d: 1000, t: 1000, cache: Some(cost) };
+            for tasks in [vec![short.clone(), long.clone()], vec![long.clone(), short.clone()]] {
+                let set = Set { m: 2, s: 20, relo: 1, cpmdo: header, tasks, ..Set::default() };
+                let file = oracle::file(&set).into_bytes();
+                same_plan(&file);
+                let servers = if 5 + 1 + cost.max(own) <= 20 { 1 } else { 2 };
+                assert_eq!(oracle::plan(&set).unwrap().servers.len(), servers, "cost {}", cost);
+                let loss = if servers == 1 { cost.max(own) } else { set.cache(&set.tasks[0]) };
+                for r in 1..20 {
+                    assert_eq!(pass(&file, 1, r).0 == 0, loss < r, "cost {} reserve {}", cost, r);
+                }
+            }
+        }
+    }
+}
+
+// A 03 line with the header's cost changes nothing, nor does the header's cost where each task has its own.
+fn costs_of_all() {
+    let mut random = Random(44);
+    for _ in 0..1500 {
+        let mut set = if random.next() % 2 == 0 { good(&mut random) } else { interrupted(&mut random) };
+        let plan = plan_text(oracle::file(&set).as_bytes());
+        let cost = set.cpmdo;
+        set.tasks.iter_mut().filter(|_| random.next() % 2 == 0).for_each(|t| t.cache = Some(cost));
+        assert_eq!(plan, plan_text(oracle::file(&set).as_bytes()), "{}", oracle::file(&set));
+        set.tasks.iter_mut().for_each(|t| t.cache = Some(cost));
+        set.cpmdo = random.one(&[0, 1, 2, 65_535]);
+        assert_eq!(plan, plan_text(oracle::file(&set).as_bytes()), "{}", oracle::file(&set));
+    }
+}
+
+fn cached_lengths() {
+    let mut random = Random(45);
+    let (mut asked, mut apart, mut charged) = (0, 0, 0);
+    while asked < 600 {
+        let mut set = Set { masked: random.one(&[0, 0, 1, 4]).checked_sub(1), ..small(&mut random) };
+        if random.next() % 4 == 0 {
+            interrupts(&mut random, &mut set, 3);
+        }
+        other_slot(&mut random, &mut set);
+        caches(&mut random, &mut set);
+        let mut several = false;
+        let counted = every_length(&set, |plan, _, _, _| several |= plan.servers.iter().any(|server| server.loss != plan.servers[0].loss));
+        asked += counted as u32;
+        apart += several as u32;
+        charged += (counted && set.tasks.iter().any(|t| t.cache.map_or(false, |cache| cache != set.cpmdo))) as u32;
+    }
+    assert!(apart > 150 && charged > 300, "only {} plans with several losses, {} with costs unlike the header's", apart, charged);
+}
+
+// Each server with every reserve, allowed from its own entry loss on: the same R may be allowed for one server and not for another.
+fn cached_reserves() {
+    let mut random = Random(46);
+    let (mut asked, mut unlike) = (0, 0);
+    while asked < 1000 {
+        let set = cached(&mut random);
+        if set.s > 60 {
+            continue;
+        }
+        let plan = match oracle::plan(&set) {
+            Ok(plan) => plan,
+            Err(_) => continue,
+        };
+        asked += 1;
+        let file = oracle::file(&set).into_bytes();
+        for r in 0..=set.s + 1 {
+            let mut answers = [0, 0];
+            for q in 0..=plan.reserves.len() + 1 {
+                let expected = plan.pass(q as u64, r).map_or((11 * 256, [0xA5; 4]), |answer| (0, answer));
+                assert_eq!(pass(&file, q as u64, r), expected, "server {} reserve {}\n{}", q, r, oracle::file(&set));
+                answers[(expected.0 == 0) as usize] += 1;
+            }
+            unlike += (answers[0] > 2 && answers[1] > 0) as u32;
+        }
+    }
+    assert!(unlike > 500, "only {} reserves were allowed for one server and not for another", unlike);
 }
 
 fn damaged_files() {
@@ -349,7 +614,7 @@ fn damaged_files() {
 }
 
 // RACK_TASKS_BYTES of include/rack.h.
-const LOOKED_AT: usize = 2405;
+const LOOKED_AT: usize = 2661;
 
 // Past the last task that fits, whatever follows, the answer is that of the bytes that are looked at.
 fn long_files() {
@@ -358,7 +623,7 @@ fn long_files() {
         let mut set = good(&mut random);
         set.masked = line;
         set.m = 64;
-        set.tasks = (0..count).map(|i| Task { id: i % 256, c: 1, d: 100, t: 100 }).collect();
+        set.tasks = (0..count).map(|i| Task { id: i % 256, c: 1, d: 100, t: 100, cache: None }).collect();
         set.s = 10;
         let file = oracle::file(&set).into_bytes();
         same_plan(&file);
@@ -381,7 +646,7 @@ fn most_servers() {
     let mut set = Set { m: 64, s: 1440, ..Set::default() };
     for i in 0..64 {
         let t = [14400, 15840, 20160, 25200, 27720, 30240, 33264, 43200][i as usize % 8];
-        set.tasks.push(Task { id: i, c: t / 2 + 1, d: t, t });
+        set.tasks.push(Task { id: i, c: t / 2 + 1, d: t, t, cache: None });
     }
     let file = oracle::file(&set).into_bytes();
     assert_eq!(plan_text(&file).len(), 23 + 64 * 21 + 64 * 7 + 33 * 13);
@@ -393,7 +658,7 @@ fn who_runs() {
     let mut random = Random(14);
     let mut asked = 0;
     while asked < 400 {
-        let set = if asked % 2 == 0 { good(&mut random) } else { interrupted(&mut random) };
+        let set = [good, interrupted, cached][asked % 3](&mut random);
         let file = oracle::file(&set).into_bytes();
         let plan = match oracle::plan(&set) {
             Ok(plan) => plan,
@@ -437,9 +702,9 @@ fn does_pass() {
 
 // Horizons of some millions of ticks: each server with its reserve, one tick less and more, a whole processor, and some others.
 fn long_horizons() {
-    let mut random = Random(18);
+    let (mut random, mut costs) = (Random(18), Random(47));
     let mut later = 0;
-    for i in 0..100 {
+    for i in 0..120 {
         let horizon = [9_979_200, 9_990_000, 10_000_000][i % 3];
         let periods: Vec<u64> = (20_000..=1_000_000).filter(|d| horizon % d == 0).collect();
         let b = random.one(&[0, 100, 10_000]);
@@ -447,25 +712,28 @@ fn long_horizons() {
         for id in 0..random.within(2, 16) {
             let t = random.one(&periods);
             let d = random.within(t / 2, t);
-            set.tasks.push(Task { id, c: random.within(1, d / 8), d, t });
+            set.tasks.push(Task { id, c: random.within(1, d / 8), d, t, cache: None });
         }
         for _ in 0..random.one(&[0, 0, 3, 12]) {
             let t = random.one(&periods);
             let d = random.within(t / 2, t);
             set.interrupts.push(Interrupt { p: random.within(1, 4), c: random.within(1, d / 64), d, t, j: random.within(0, 9_999) });
         }
+        if i % 2 == 1 {
+            set.cpmdo = costs.within(0, 9);
+            set.tasks.iter_mut().for_each(|t| t.cache = costs.one(&[0, 1, 1 + costs.0 % 20, 1 + costs.0 % 300]).checked_sub(1));
+        }
         let (file, plan) = match oracle::plan(&set) {
             Ok(plan) => (oracle::file(&set).into_bytes(), plan),
             Err(_) => continue,
         };
-        for (q, own) in plan.reserves.iter().enumerate() {
-            let loads = plan.members_loads(q + 1);
+        for (q, (server, own)) in plan.servers.iter().zip(&plan.reserves).enumerate() {
             let mut reserves = vec![own - 1, *own, own + 1, set.s];
             reserves.extend((0..8).map(|_| random.within(1, set.s)));
-            for r in reserves.into_iter().filter(|r| *r == set.s || (plan.board.loss < *r && *r < set.s)) {
-                let expected = plan.board.verdict(&loads, r);
+            for r in reserves.into_iter().filter(|r| *r == set.s || (server.loss < *r && *r < set.s)) {
+                let expected = plan.board.verdict(server, r);
                 assert_eq!(pass(&file, q as u64 + 1, r), (0, expected), "server {} reserve {}\n{}", q + 1, r, oracle::file(&set));
-                later += (expected[0] == 1 && expected[1] > loads.iter().map(|l| l.d).min().unwrap()) as u32;
+                later += (expected[0] == 1 && expected[1] > server.loads.iter().map(|l| l.d).min().unwrap()) as u32;
             }
         }
     }
@@ -516,6 +784,16 @@ fn main() {
         ("32 interrupts and more", many_interrupts),
         ("tasks that fail alone", alone),
         ("does it pass with 07 lines, at every length", interrupt_lengths),
+        ("files with 03 lines", cached_files),
+        ("03 lines everywhere", cached_lines),
+        ("03 lines one by one", cached_lines_one_by_one),
+        ("64 tasks and more with 03 lines", many_cached),
+        ("03 lines that are too tight", cached_tight),
+        ("rows 5 to 9 of 03 lines", cached_rows),
+        ("neighbours' costs", neighbours),
+        ("one cost for all in 03 lines", costs_of_all),
+        ("does it pass with 03 lines, at every length", cached_lengths),
+        ("does it pass with 03 lines, every reserve", cached_reserves),
         ("damaged files", damaged_files),
         ("long files", long_files),
         ("short buffers", short_buffers),

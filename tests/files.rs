@@ -28,7 +28,7 @@ pub fn good(random: &mut Random) -> Set {
         let share = random.within(1, 8);
         let c = random.within(1, (d / share).max(1));
         let id = ids.swap_remove(random.within(0, ids.len() as u64 - 1) as usize);
-        set.tasks.push(Task { id, c, d, t });
+        set.tasks.push(Task { id, c, d, t, cache: None });
     }
     set
 }
@@ -67,6 +67,57 @@ pub fn interrupted(random: &mut Random) -> Set {
     set
 }
 
+// A slot of another length over the same horizon: a long one leaves room for reserves whose entry losses differ.
+pub fn other_slot(random: &mut Random, set: &mut Set) {
+    let horizon = lcm(set.s, set.tasks.iter().map(|t| t.t)) as u64;
+    let least = set.tasks.iter().map(|t| t.d).min().unwrap();
+    let slots: Vec<u64> = (2..=least).filter(|s| horizon % s == 0).collect();
+    if !slots.is_empty() {
+        set.s = random.one(&slots);
+    }
+}
+
+// 03 lines for none, some or all of a set's tasks, and a cost in the header for the others. A task has room for so much cost as
+// makes its c its d: costs are none, a few ticks, a few with a large one among them, or about what some task has room for; now and
+// then one is a tick too much. Where each task has its own, the header's may be any.
+pub fn caches(random: &mut Random, set: &mut Set) {
+    let overheads = set.relj + set.relo + 2 * set.ctswo;
+    let rooms: Vec<u64> = set.tasks.iter().map(|t| t.d.saturating_sub(t.c + overheads)).collect();
+    set.cpmdo = random.within(0, 6).min(*rooms.iter().min().unwrap());
+    let (lines, costs, large) = (random.one(&[0, 1, 2, 3, 4, 4, 4, 4]), random.next() % 5, random.within(0, rooms.len() as u64 - 1) as usize);
+    for i in 0..rooms.len() {
+        let (few, any) = (random.within(0, 4).min(rooms[i]), random.one(&rooms));
+        let cost = match costs {
+            0 => random.one(&[0, 0, few]),
+            1 if i == large => random.within(few, rooms[i]),
+            2 => random.one(&[few, any.saturating_sub(1), any, any + 1]).min(rooms[i]),
+            3 if random.next() % 4 == 0 => random.within(few, rooms[i]),
+            _ => few,
+        };
+        set.tasks[i].cache = if random.next() % 4 < lines { Some(cost) } else { None };
+    }
+    if random.next() % 16 == 0 {
+        set.tasks[large].cache = Some(rooms[large] + 1);
+    }
+    if set.tasks.iter().all(|t| t.cache.is_some()) {
+        set.cpmdo = random.one(&[set.cpmdo, 0, 9, 300, 65_535]);
+    }
+}
+
+// A set with 03 lines, with a 05 line or without, with interrupts or without.
+pub fn cached(random: &mut Random) -> Set {
+    let mut set = if random.next() % 4 == 0 { interrupted(random) } else { good(random) };
+    if random.next() % 4 == 0 {
+        set.masked = Some(random.within(0, 4));
+    }
+    if random.next() % 2 == 0 {
+        set.tasks.iter_mut().for_each(|t| t.c = (t.c / 2).max(1));
+    }
+    other_slot(random, &mut set);
+    caches(random, &mut set);
+    set
+}
+
 // Where a file's lines start, and its end where a line ends there.
 fn line_starts(file: &[u8]) -> Vec<usize> {
     (0..=file.len()).filter(|at| *at == 0 || file[*at - 1] == b'\n').collect()
@@ -78,6 +129,37 @@ pub fn masked_anywhere(random: &mut Random, file: &mut Vec<u8>) {
         let lines = line_starts(file);
         let at = lines[random.within(0, lines.len().min(6) as u64 - 1) as usize];
         let line = format!("05{:0width$X}\n", random.within(0, 255), width = [4, 4, 4, 4, 3, 5][random.within(0, 5) as usize]);
+        file.splice(at..at, line.into_bytes());
+    }
+}
+
+// 03 lines put in at any line, some of them a digit short or long, in lower case, or with a figure out of its range; and lines that
+// become 02 or 03 lines, with four digits more, four less, or as many.
+pub fn caches_anywhere(random: &mut Random, file: &mut Vec<u8>) {
+    for _ in 0..random.within(1, 3) {
+        let lines = line_starts(file);
+        let at = lines[random.within(0, lines.len() as u64 - 1) as usize];
+        let end = file[at..].iter().position(|b| *b == b'\n').map_or(file.len(), |n| at + n);
+        if random.next() % 4 == 0 && at + 6 < end {
+            file[at + 1] = random.one(&[b'2' as u64, b'3' as u64]) as u8;
+            match random.next() % 3 {
+                0 => drop(file.splice(end..end, *b"0001")),
+                1 => drop(file.drain(end - 4..end)),
+                _ => (),
+            }
+            continue;
+        }
+        let id = random.within(0, 255);
+        let (t, least) = (random.one(&[240, 720]), random.one(&[0, 1, 1, 1, 1, 1, 1, 1]));
+        let most = random.one(&[t, t, t, t, t, 2 * t]);
+        let d = random.within(t / 2, most);
+        let c = random.within(least, d / 8 + 1);
+        let width = if random.next() % 16 == 0 { random.one(&[3, 5]) as usize } else { 4 };
+        let cost = random.one(&[0, 1, random.0 % 12, d - c, d - c + 1]);
+        let mut line = format!("03{:02X}{:06X}{:06X}{:06X}{:0width$X}\n", id, c, d, t, cost, width = width);
+        if random.next() % 16 == 0 {
+            line = line.to_lowercase();
+        }
         file.splice(at..at, line.into_bytes());
     }
 }

@@ -4,7 +4,7 @@ mod files;
 mod oracle;
 mod random;
 
-use files::{good, interrupted, masked};
+use files::{cached, good, interrupted, masked};
 use oracle::{Interrupt, Plan, Refusal, Set, Task};
 use random::Random;
 use std::sync::atomic::{AtomicUsize, Ordering};
@@ -21,7 +21,7 @@ extern "C" {
 
 // where a set's tasks start among its numbers, where the number of its interrupts stands, how many these numbers are, and a plan's
 const FIRST: usize = 10;
-const INTERRUPTS: usize = FIRST + 4 * 64;
+const INTERRUPTS: usize = FIRST + 6 * 64;
 const SET: usize = INTERRUPTS + 1 + 5 * 32;
 const PLAN: usize = 5 + 68 * 64 + 64 + 2 * 64;
 const JUNK: u64 = 0xA5A5_A5A5_A5A5_A5A5;
@@ -92,7 +92,7 @@ fn bits(i: usize) -> u32 {
         2 => 32,
         3..=7 | 9 => 16,
         8 | INTERRUPTS => 64,
-        _ if i < INTERRUPTS => [8, 32, 32, 32][(i - FIRST) % 4],
+        _ if i < INTERRUPTS => [8, 32, 32, 32, 64, 16][(i - FIRST) % 6],
         _ => [8, 32, 32, 32, 16][(i - INTERRUPTS - 1) % 5],
     }
 }
@@ -151,8 +151,9 @@ impl Case {
                 same(got, told(answer.as_ref().map(|a| &a[..]).ok_or((11, 0)), room), "who runs");
             }
         }
-        let (servers, s, loss) = own.map_or((3, 10, 0), |(set, plan)| (plan.reserves.len() as u64, set.s, plan.board.loss));
+        let (servers, s) = own.map_or((3, 10), |(set, plan)| (plan.reserves.len() as u64, set.s));
         for q in [0, 1, servers, servers + 1, u64::MAX] {
+            let loss = own.and_then(|(_, plan)| plan.servers.get(q.wrapping_sub(1) as usize)).map_or(0, |server| server.loss);
             let r = random.one(&[0, loss, loss + 1, random.0 % s, s - 1, s, s + 1, u64::MAX]);
             let answer = own.and_then(|(_, plan)| plan.pass(q, r));
             for room in [3, 4, 6] {
@@ -176,7 +177,7 @@ impl Case {
 fn numbers_of(set: &Set) -> Vec<u64> {
     let mut numbers = vec![set.tasks.len() as u64, set.m, set.s, set.relj, set.relo, set.ctswo, set.resd, set.cpmdo];
     numbers.extend([set.masked.is_some() as u64, set.b()]);
-    set.tasks.iter().for_each(|t| numbers.extend([t.id, t.c, t.d, t.t]));
+    set.tasks.iter().for_each(|t| numbers.extend([t.id, t.c, t.d, t.t, t.cache.is_some() as u64, t.cache.unwrap_or(0)]));
     numbers.resize(INTERRUPTS, 0);
     numbers.push(set.interrupts.len() as u64);
     set.interrupts.iter().for_each(|i| numbers.extend([i.p, i.c, i.d, i.t, i.j]));
@@ -186,15 +187,16 @@ fn numbers_of(set: &Set) -> Vec<u64> {
 
 // Numbers of every size, that fit a set's types.
 fn junk(random: &mut Random, at: usize) -> u64 {
-    let most = (1 << bits(at)) - 1;
-    random.one(&[1, most, random.0 % (most + 1), random.0 % 100])
+    let most = u64::MAX >> (64 - bits(at));
+    random.one(&[1, most, random.0 & most, random.0 % 100])
 }
 
-// A set with a 05 line or without, with interrupts or without.
+// A set with a 05 line or without, with 03 lines or without, with interrupts or without.
 fn any(random: &mut Random) -> Set {
-    match random.next() % 4 {
+    match random.next() % 6 {
         0 => good(random),
         1 => masked(random),
+        2 | 3 => cached(random),
         _ => interrupted(random),
     }
 }
@@ -211,9 +213,10 @@ fn planned(random: &mut Random, tasks: usize) -> (Set, Case) {
     panic!("no set with a plan was found");
 }
 
-// 64 tasks with a plan.
+// 64 tasks with a plan, half of them with a cache cost of their own.
 fn full(random: &mut Random) -> Set {
-    let tasks = (0..64).map(|i| Task { id: 255 - i * 3, c: random.within(1, 20), d: 100, t: 100 }).collect();
+    let caches = [None, Some(0), None, Some(2)];
+    let tasks = (0..64).map(|i| Task { id: 255 - i * 3, c: random.within(1, 20), d: 100, t: 100, cache: caches[i as usize % 4] }).collect();
     Set { m: 64, s: 10, cpmdo: 1, tasks, ..Set::default() }
 }
 
@@ -227,7 +230,7 @@ fn crowded(random: &mut Random, tasks: usize) -> Set {
 
 fn examples() {
     let mut random = Random(21);
-    for name in ["a", "b", "c", "d", "e", "f", "g", "h1", "h2", "i", "j", "k", "m", "n1", "n2", "o"] {
+    for name in ["a", "b", "c", "d", "e", "f", "g", "h1", "h2", "i", "j", "k", "m", "n1", "n2", "o", "p1", "p2", "q"] {
         let set = oracle::read(&std::fs::read(format!("examples/{}.tasks", name)).unwrap()).unwrap();
         Case::of(numbers_of(&set)).all(&mut random);
     }
@@ -294,7 +297,7 @@ fn repeated_ids() {
             for j in 0..i {
                 let mut numbers = whole.clone();
                 numbers[0] = count as u64;
-                numbers[FIRST + 4 * i] = numbers[FIRST + 4 * j];
+                numbers[FIRST + 6 * i] = numbers[FIRST + 6 * j];
                 let case = Case::of(numbers);
                 assert_eq!(case.set.is_err(), i < count);
                 if i < 8 || j == 0 || i == j + 1 || random.next() % 16 == 0 {
@@ -345,10 +348,10 @@ fn broken_rows() {
                 (t.c, t.d) = (1, set.s - 1);
             }
             if breaks(8) {
-                if round % 2 == 0 {
-                    set.relj = 65_535;
-                } else {
-                    set.relo = 65_535;
+                match round {
+                    0 | 2 => set.relj = 65_535,
+                    1 => set.relo = 65_535,
+                    _ => set.tasks[task()].cache = Some(65_535),
                 }
             }
             if breaks(9) {
@@ -393,7 +396,7 @@ fn unused_room() {
         let (set, clean) = planned(&mut random, 1);
         let mut numbers = clean.numbers.clone();
         let used = INTERRUPTS + 1 + 5 * set.interrupts.len();
-        for at in (FIRST + 4 * set.tasks.len()..INTERRUPTS).chain(used..SET) {
+        for at in (FIRST + 6 * set.tasks.len()..INTERRUPTS).chain(used..SET) {
             numbers[at] = junk(&mut random, at);
         }
         let case = Case::of(numbers);
@@ -402,7 +405,7 @@ fn unused_room() {
         let plan: Vec<u64> = case.figures.iter().map(|n| n.unwrap_or(random.next())).collect();
         case.with(&plan, &mut random);
         clean.with(&plan, &mut random);
-        let left_out = if set.interrupts.is_empty() { FIRST + 4 * set.tasks.len() } else { used };
+        let left_out = if set.interrupts.is_empty() { FIRST + 6 * set.tasks.len() } else { used };
         Case::of(clean.numbers[..left_out].to_vec()).all(&mut random);
     }
 }
@@ -442,13 +445,15 @@ fn other_plans() {
     for _ in 0..200 {
         let (mut set, case) = planned(&mut random, 2);
         case.with(&last.made(), &mut random);
-        match random.next() % 7 {
+        match random.next() % 9 {
             0 => set.m = random.within(1, 64),
             1 => set.tasks[1].c += 1,
             2 => set.cpmdo += 1,
             3 => set.masked = Some(set.b() + random.within(0, 2)),
             4 => set.interrupts.reverse(),
             5 => set.interrupts.truncate(1),
+            6 => set.tasks[1].cache = Some(set.cache(&set.tasks[1])),
+            7 => set.tasks[1].cache = [None, Some(0), Some(set.cpmdo + 1)][random.next() as usize % 3],
             _ => set.tasks.reverse(),
         }
         let other = Case::of(numbers_of(&set));

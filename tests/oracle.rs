@@ -8,6 +8,7 @@ pub struct Task {
     pub c: u64,
     pub d: u64,
     pub t: u64,
+    pub cache: Option<u64>,
 }
 
 #[derive(Clone, Debug, PartialEq)]
@@ -37,6 +38,11 @@ impl Set {
     // The ticks for which a job can hold interrupts off.
     pub fn b(&self) -> u64 {
         self.masked.unwrap_or(0)
+    }
+
+    // The cache cost of a task by itself: that of its 03 line, or the header's.
+    pub fn cache(&self, task: &Task) -> u64 {
+        task.cache.unwrap_or(self.cpmdo)
     }
 }
 
@@ -83,6 +89,11 @@ fn classify(line: &[u8], closed: bool) -> Line {
             return Line::Task(f);
         }
     }
+    if line.starts_with(b"03") {
+        if let Some(f) = hex_fields(line, &[2, 6, 6, 6, 4]) {
+            return Line::Task(f);
+        }
+    }
     if line.starts_with(b"05") {
         if let Some(f) = hex_fields(line, &[4]) {
             return Line::Masked(f[0]);
@@ -125,7 +136,7 @@ pub fn read(text: &[u8]) -> Result<Set, Refusal> {
                 if set.tasks.iter().any(|t| t.id == f[0]) {
                     return Err((4, number));
                 }
-                set.tasks.push(Task { id: f[0], c: f[1], d: f[2], t: f[3] });
+                set.tasks.push(Task { id: f[0], c: f[1], d: f[2], t: f[3], cache: f.get(4).copied() });
             }
             (Line::Interrupt(f), _) => {
                 if set.interrupts.len() == 32 {
@@ -166,6 +177,26 @@ pub struct Load {
     pub t: u64,
 }
 
+// A server as its tasks make it: what each asks for, and the loss at each entry, by the largest cache cost among them.
+#[derive(Clone, Debug)]
+pub struct Server {
+    pub cache: u64,
+    pub loss: u64,
+    pub loads: Vec<Load>,
+}
+
+impl Server {
+    pub fn of(set: &Set, tasks: &[&Task]) -> Server {
+        let cache = tasks.iter().map(|t| set.cache(t)).max().unwrap();
+        let loads = tasks.iter().map(|t| Load { c: charged(set, t, cache), d: t.d - set.relj, t: t.t }).collect();
+        Server { cache, loss: set.resd + cache, loads }
+    }
+}
+
+fn charged(set: &Set, task: &Task, cache: u64) -> u64 {
+    task.c + set.relo + 2 * set.ctswo + cache
+}
+
 pub fn gcd(a: u64, b: u64) -> u64 {
     let (mut a, mut b) = (a, b);
     while b != 0 {
@@ -200,11 +231,10 @@ fn interrupt_demand(own: &[Interrupt], t: u64) -> u64 {
     own.iter().map(|i| jobs(i) * i.c).sum()
 }
 
-// What every server of a set stands on: the slot, the entry loss, B, and the interrupts of each processor from 1 to m.
+// What every server of a set stands on: the slot, B, and the interrupts of each processor from 1 to m.
 #[derive(Clone, Debug)]
 pub struct Board {
     pub s: u64,
-    pub loss: u64,
     pub b: u64,
     pub processors: Vec<Vec<Interrupt>>,
 }
@@ -212,7 +242,7 @@ pub struct Board {
 impl Board {
     pub fn of(set: &Set) -> Board {
         let on = |p: u64| set.interrupts.iter().filter(|i| i.p == p).cloned().collect();
-        Board { s: set.s, loss: set.resd + set.cpmdo, b: set.b(), processors: (1..=set.m).map(on).collect() }
+        Board { s: set.s, b: set.b(), processors: (1..=set.m).map(on).collect() }
     }
 
     // The report's Eq. 10.
@@ -221,20 +251,21 @@ impl Board {
     }
 
     // The loads' own, B ticks more from the smallest d up to, not including, the largest, and the interrupts'.
-    pub fn demand(&self, loads: &[Load], t: u64) -> u64 {
+    pub fn demand(&self, server: &Server, t: u64) -> u64 {
+        let loads = &server.loads;
         let own: u64 = loads.iter().map(|l| if t < l.d { 0 } else { l.c * ((t - l.d) / l.t + 1) }).sum();
         let waiting = loads.iter().any(|l| l.d <= t) && loads.iter().any(|l| t < l.d);
         own + if waiting { self.b } else { 0 } + self.interrupt_load(t)
     }
 
-    pub fn supply(&self, r: u64, t: u64) -> u64 {
-        supply(self.s, self.loss, r, t)
+    pub fn supply(&self, server: &Server, r: u64, t: u64) -> u64 {
+        supply(self.s, server.loss, r, t)
     }
 
     // The first deadline and the period of each load and of each interrupt.
-    fn deadlines(&self, loads: &[Load]) -> Vec<(u64, u64)> {
+    fn deadlines(&self, server: &Server) -> Vec<(u64, u64)> {
         let interrupts = self.processors.iter().flatten().map(|i| (i.d - i.j, i.t));
-        loads.iter().map(|l| (l.d, l.t)).chain(interrupts).collect()
+        server.loads.iter().map(|l| (l.d, l.t)).chain(interrupts).collect()
     }
 
     fn horizon(&self, deadlines: &[(u64, u64)]) -> u64 {
@@ -242,14 +273,14 @@ impl Board {
     }
 
     // The smallest failing length, by looking at every deadline up to the horizon.
-    pub fn first_failing(&self, loads: &[Load], r: u64) -> Option<u64> {
-        let deadlines = self.deadlines(loads);
+    pub fn first_failing(&self, server: &Server, r: u64) -> Option<u64> {
+        let deadlines = self.deadlines(server);
         let h = self.horizon(&deadlines);
         let mut worst: Option<u64> = None;
         for (first, period) in deadlines {
             let mut t = first;
             while t <= h && worst.map_or(true, |w| t < w) {
-                if self.demand(loads, t) > self.supply(r, t) {
+                if self.demand(server, t) > self.supply(server, r, t) {
                     worst = Some(t);
                 }
                 t += period;
@@ -259,30 +290,30 @@ impl Board {
     }
 
     // The smallest length with the least to spare, by looking at every deadline up to three horizons.
-    pub fn closest(&self, loads: &[Load], r: u64) -> u64 {
-        let deadlines = self.deadlines(loads);
+    pub fn closest(&self, server: &Server, r: u64) -> u64 {
+        let deadlines = self.deadlines(server);
         let h = self.horizon(&deadlines);
         let all = deadlines.iter().flat_map(|(first, period)| (*first..=3 * h).step_by(*period as usize));
-        let steps = all.filter(|t| self.demand(loads, *t) > self.demand(loads, *t - 1));
-        steps.map(|t| (self.supply(r, t) - self.demand(loads, t), t)).min().unwrap().1
+        let steps = all.filter(|t| self.demand(server, *t) > self.demand(server, *t - 1));
+        steps.map(|t| (self.supply(server, r, t) - self.demand(server, t), t)).min().unwrap().1
     }
 
     // 1 for yes, 0 for no; the length that it is said of, the demand and the supply there.
-    pub fn verdict(&self, loads: &[Load], r: u64) -> [u64; 4] {
-        let (yes, t) = match self.first_failing(loads, r) {
-            None => (1, self.closest(loads, r)),
+    pub fn verdict(&self, server: &Server, r: u64) -> [u64; 4] {
+        let (yes, t) = match self.first_failing(server, r) {
+            None => (1, self.closest(server, r)),
             Some(t) => (0, t),
         };
-        [yes, t, self.demand(loads, t), self.supply(r, t)]
+        [yes, t, self.demand(server, t), self.supply(server, r, t)]
     }
 
     // The same by looking at every length up to three horizons: a step is where the demand is more than a tick before.
-    pub fn verdict_walked(&self, loads: &[Load], r: u64) -> [u64; 4] {
-        let h = self.horizon(&self.deadlines(loads));
+    pub fn verdict_walked(&self, server: &Server, r: u64) -> [u64; 4] {
+        let h = self.horizon(&self.deadlines(server));
         let mut least: Option<[u64; 4]> = None;
         let mut before = 0;
         for t in 1..=3 * h {
-            let (asked, given) = (self.demand(loads, t), self.supply(r, t));
+            let (asked, given) = (self.demand(server, t), self.supply(server, r, t));
             if asked > given {
                 return [0, t, asked, given];
             }
@@ -295,12 +326,12 @@ impl Board {
     }
 
     // Upwards from the least allowed reserve, one by one, until the server passes.
-    pub fn smallest_reserve(&self, loads: &[Load]) -> u64 {
-        let mut reserve = self.loss + 1;
-        while reserve < self.s && self.first_failing(loads, reserve).is_some() {
+    pub fn smallest_reserve(&self, server: &Server) -> u64 {
+        let mut reserve = server.loss + 1;
+        while reserve < self.s && self.first_failing(server, reserve).is_some() {
             reserve += 1;
         }
-        reserve.max(self.loss + 1).min(self.s)
+        reserve.max(server.loss + 1).min(self.s)
     }
 }
 
@@ -314,20 +345,16 @@ pub struct Plan {
     pub placed: Vec<usize>,
     pub ring: Vec<usize>,
     pub wholes: Vec<usize>,
-    pub loads: Vec<Load>,
+    pub servers: Vec<Server>,
     pub board: Board,
 }
 
 impl Plan {
-    pub fn members_loads(&self, q: usize) -> Vec<Load> {
-        self.members[q - 1].iter().map(|i| self.loads[*i]).collect()
-    }
-
     // Does server q pass with R: the verdict, none where the server is not there or R is not allowed.
     pub fn pass(&self, q: u64, r: u64) -> Option<[u64; 4]> {
-        let allowed = r == self.board.s || (self.board.loss < r && r < self.board.s);
-        let there = 1 <= q && q <= self.reserves.len() as u64;
-        (there && allowed).then(|| self.board.verdict(&self.members_loads(q as usize), r))
+        let server = self.servers.get(q.checked_sub(1)? as usize)?;
+        let allowed = r == self.board.s || (server.loss < r && r < self.board.s);
+        allowed.then(|| self.board.verdict(server, r))
     }
 }
 
@@ -338,27 +365,23 @@ pub fn plan(set: &Set) -> Result<Plan, Refusal> {
     if let Some(i) = set.tasks.iter().position(|t| t.d < set.s) {
         return Err((7, i + 1));
     }
-    let cost = |t: &Task| t.c + set.relo + 2 * set.ctswo + set.cpmdo;
-    if let Some(i) = set.tasks.iter().position(|t| set.relj >= t.d || cost(t) > t.d - set.relj) {
+    let own = |t: &Task| charged(set, t, set.cache(t));
+    if let Some(i) = set.tasks.iter().position(|t| set.relj >= t.d || own(t) > t.d - set.relj) {
         return Err((8, i + 1));
     }
     if lcm(set.s, set.tasks.iter().map(|t| t.t).chain(set.interrupts.iter().map(|i| i.t))) > 10_000_000 {
         return Err((9, 0));
     }
     let board = Board::of(set);
-    let loads: Vec<Load> = set.tasks.iter().map(|t| Load { c: cost(t), d: t.d - set.relj, t: t.t }).collect();
-    if let Some(i) = loads.iter().position(|l| board.first_failing(&[*l], set.s).is_some()) {
+    let server = |held: &[usize]| Server::of(set, &held.iter().map(|i| &set.tasks[*i]).collect::<Vec<_>>());
+    let passes = |held: &[usize]| board.first_failing(&server(held), set.s).is_none();
+    if let Some(i) = (0..set.tasks.len()).position(|i| !passes(&[i])) {
         return Err((13, i + 1));
     }
     let mut members: Vec<Vec<usize>> = Vec::new();
     let mut placed = Vec::new();
-    for i in 0..loads.len() {
-        let fits = |held: &Vec<usize>| {
-            let mut together: Vec<Load> = held.iter().map(|j| loads[*j]).collect();
-            together.push(loads[i]);
-            board.first_failing(&together, set.s).is_none()
-        };
-        match members.iter().position(fits) {
+    for i in 0..set.tasks.len() {
+        match members.iter().position(|held| passes(&[&held[..], &[i]].concat())) {
             Some(q) => {
                 members[q].push(i);
                 placed.push(q + 1);
@@ -369,13 +392,8 @@ pub fn plan(set: &Set) -> Result<Plan, Refusal> {
             }
         }
     }
-    let reserves: Vec<u64> = members
-        .iter()
-        .map(|held| {
-            let own: Vec<Load> = held.iter().map(|j| loads[*j]).collect();
-            board.smallest_reserve(&own)
-        })
-        .collect();
+    let servers: Vec<Server> = members.iter().map(|held| server(held)).collect();
+    let reserves: Vec<u64> = servers.iter().map(|server| board.smallest_reserve(server)).collect();
     let mut ring: Vec<usize> = Vec::new();
     let mut starts = Vec::new();
     let mut wholes = Vec::new();
@@ -396,7 +414,7 @@ pub fn plan(set: &Set) -> Result<Plan, Refusal> {
     if r + whole > set.m as usize {
         return Err((10, r + whole));
     }
-    Ok(Plan { whole, r, reserves, starts, members, placed, ring, wholes, loads, board })
+    Ok(Plan { whole, r, reserves, starts, members, placed, ring, wholes, servers, board })
 }
 
 // The server and the ticks left, counted tick by tick.
@@ -471,7 +489,8 @@ pub fn file(set: &Set) -> String {
         out += &format!("05{:04X}\n", b);
     }
     for t in &set.tasks {
-        out += &format!("02{:02X}{:06X}{:06X}{:06X}\n", t.id, t.c, t.d, t.t);
+        let figures = format!("{:02X}{:06X}{:06X}{:06X}", t.id, t.c, t.d, t.t);
+        out += &t.cache.map_or(format!("02{}\n", figures), |cache| format!("03{}{:04X}\n", figures, cache));
     }
     for i in &set.interrupts {
         out += &format!("07{:02X}{:06X}{:06X}{:06X}{:04X}\n", i.p, i.c, i.d, i.t, i.j);
@@ -480,17 +499,18 @@ pub fn file(set: &Set) -> String {
 }
 
 // A set that a caller hands in as numbers: its count, the seven figures of the header, whether there is a 05 line and its B, then
-// id, C, D and T of 64 places, how many interrupts there are, and processor, C, D, T and J of 32 places.
+// id, C, D, T, whether there is a cache cost and the cost of 64 places, how many interrupts there are, and processor, C, D, T and
+// J of 32 places.
 // Row 11: a count that is not 1 to 64, or of interrupts above 32, an id that repeats, or a figure with more digits than its field.
 pub fn handed(numbers: &[u64]) -> Result<Set, Refusal> {
-    let (count, interrupts) = (numbers[0], numbers[266]);
+    let (count, interrupts) = (numbers[0], numbers[394]);
     if !(1..=64).contains(&count) || interrupts > 32 {
         return Err((11, 0));
     }
     let digits = |values: &[u64], widths: &[usize]| values.iter().zip(widths).any(|(v, w)| format!("{:X}", v).len() > *w);
     let header = &numbers[1..8];
-    let tasks: Vec<&[u64]> = numbers[10..266].chunks(4).take(count as usize).collect();
-    let interrupts: Vec<&[u64]> = numbers[267..].chunks(5).take(interrupts as usize).collect();
+    let tasks: Vec<&[u64]> = numbers[10..394].chunks(6).take(count as usize).collect();
+    let interrupts: Vec<&[u64]> = numbers[395..].chunks(5).take(interrupts as usize).collect();
     let ids: std::collections::HashSet<u64> = tasks.iter().map(|t| t[0]).collect();
     if ids.len() < tasks.len()
         || digits(header, &[2, 6, 4, 4, 4, 4, 4])
@@ -508,7 +528,7 @@ pub fn handed(numbers: &[u64]) -> Result<Set, Refusal> {
         resd: header[5],
         cpmdo: header[6],
         masked: if numbers[8] == 0 { None } else { Some(numbers[9]) },
-        tasks: tasks.iter().map(|t| Task { id: t[0], c: t[1], d: t[2], t: t[3] }).collect(),
+        tasks: tasks.iter().map(|t| Task { id: t[0], c: t[1], d: t[2], t: t[3], cache: if t[4] == 0 { None } else { Some(t[5]) } }).collect(),
         interrupts: interrupts.iter().map(|i| Interrupt { p: i[0], c: i[1], d: i[2], t: i[3], j: i[4] }).collect(),
     })
 }
@@ -538,7 +558,7 @@ pub fn numbers(set: &Set, plan: &Plan) -> Vec<Option<u64>> {
         let start = if plan.reserves[q] == set.s { 0 } else { plan.starts[q] };
         out.push(Some(held.len() as u64));
         out.extend(room(&places, 64));
-        out.extend(room(&[plan.reserves[q], start, set.cpmdo], 3));
+        out.extend(room(&[plan.reserves[q], start, plan.servers[q].cache], 3));
     }
     let placed: Vec<u64> = plan.placed.iter().map(|q| *q as u64).collect();
     out.extend(room(&placed, 64));

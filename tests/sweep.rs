@@ -179,7 +179,7 @@ fn pieces<'a>(list: &'a [u8], size: &mut impl FnMut() -> usize) -> Vec<&'a [u8]>
 }
 
 fn two_tasks() -> Set {
-    let tasks = vec![Task { id: 1, c: 6, d: 10, t: 10 }, Task { id: 2, c: 6, d: 10, t: 10 }];
+    let tasks = vec![Task { id: 1, c: 6, d: 10, t: 10, cache: None }, Task { id: 2, c: 6, d: 10, t: 10, cache: None }];
     Set { m: 2, s: 10, tasks, ..Set::default() }
 }
 
@@ -330,15 +330,18 @@ fn long_names() {
 // Files longer than what is read of them: the answer is the whole file's. The longest that counts has a header at its end.
 fn long_files() {
     let mut folder = Folder::new("files");
-    let of = |tasks: u64, interrupts: usize| {
-        let tasks = (0..tasks).map(|i| Task { id: i % 256, c: 1, d: 100, t: 100 }).collect();
+    let of = |tasks: u64, interrupts: usize, cache: Option<u64>| {
+        let tasks = (0..tasks).map(|i| Task { id: i % 256, c: 1, d: 100, t: 100, cache }).collect();
         let interrupts = vec![Interrupt { p: 1, c: 1, d: 100, t: 100, j: 0 }; interrupts];
         oracle::file(&Set { m: 64, s: 10, masked: Some(0), tasks, interrupts, ..Set::default() }).into_bytes()
     };
     for (tasks, interrupts) in [(64, 0), (64, 32), (64, 33), (65, 0), (176, 0), (177, 0), (178, 0), (1_000, 0), (1, 32), (1, 200)] {
-        folder.put(format!("{}-{}", tasks, interrupts), &of(tasks, interrupts));
+        folder.put(format!("{}-{}", tasks, interrupts), &of(tasks, interrupts, None));
     }
-    let most = of(64, 32);
+    for (tasks, interrupts) in [(64, 0), (64, 32), (64, 33), (65, 0), (150, 0), (151, 0), (152, 0), (1_000, 0)] {
+        folder.put(format!("cost-{}-{}", tasks, interrupts), &of(tasks, interrupts, Some(1)));
+    }
+    let most = of(64, 32, Some(0));
     for more in [&b"x"[..], b"\n", &most[..30], &most[..31], &most, &[0; 4_000], &[b'\n'; 100_000], &[b'0'; 3_000]] {
         folder.put(format!("more-{}", more.len()), &[&most, more].concat());
     }
@@ -346,8 +349,8 @@ fn long_files() {
         folder.put(format!("zero-{}", bytes), &vec![0; bytes]);
         folder.put(format!("line-{}", bytes), &vec![b'\n'; bytes]);
     }
-    let answers = ["64-32", "64-33", "more-30", "more-31", "1-200"].map(|name| folder.answers[name.as_bytes()]);
-    assert_eq!(answers, [None, Some(3), Some(1), Some(2), Some(3)]);
+    let answers = ["64-32", "cost-64-32", "cost-64-33", "more-30", "more-31", "1-200"].map(|name| folder.answers[name.as_bytes()]);
+    assert_eq!(answers, [None, None, Some(3), Some(1), Some(2), Some(3)]);
     for name in folder.answers.keys() {
         folder.same(name);
     }
@@ -391,20 +394,17 @@ fn lists_in_pieces() {
     }
 }
 
-// A folder of files by chance: good ones, some with 05 or 07 lines, and damaged ones.
+// A folder of files by chance: good ones, some with 03, 05 or 07 lines, and damaged ones.
 fn by_chance(random: &mut Random) -> Folder {
     let mut folder = Folder::of_each("chance");
-    for i in 0..160 {
-        let set = match i % 4 {
-            0 => files::good(random),
-            1 => files::masked(random),
-            _ => files::interrupted(random),
-        };
+    for i in 0..240 {
+        let set = [files::good, files::masked, files::interrupted, files::cached][i % 4](random);
         let mut file = oracle::file(&set).into_bytes();
-        match i % 5 {
+        match i % 7 {
             0 => files::damaged(random, &mut file),
             1 => files::masked_anywhere(random, &mut file),
             2 => files::interrupts_anywhere(random, &mut file),
+            3 => files::caches_anywhere(random, &mut file),
             _ => (),
         }
         folder.put(format!("{}", i), &file);

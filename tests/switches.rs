@@ -6,7 +6,7 @@ mod files;
 mod oracle;
 mod random;
 
-use files::{damaged, good, interrupted};
+use files::{cached, caches_anywhere, damaged, good, interrupted};
 use oracle::{Plan, Refusal, Set, Task};
 use random::Random;
 use std::collections::BTreeMap;
@@ -87,7 +87,7 @@ fn same_list(file: &[u8]) -> Result<String, Refusal> {
 }
 
 fn examples() {
-    for name in ["a", "b", "c", "d", "e", "f", "g", "h1", "h2", "i", "j", "k", "m", "n1", "n2", "o"] {
+    for name in ["a", "b", "c", "d", "e", "f", "g", "h1", "h2", "i", "j", "k", "m", "n1", "n2", "o", "p1", "p2", "q"] {
         same_list(&std::fs::read(format!("examples/{}.tasks", name)).unwrap()).ok();
     }
     let list = |name: &str| oracle::switch_list(&std::fs::read(format!("examples/{}.tasks", name)).unwrap());
@@ -112,6 +112,21 @@ fn interrupt_files() {
     assert!(seen[0] > 400 && seen[13] > 50, "refusals: {:?}", seen);
 }
 
+// 03 lines, every third time in lines that are put in anywhere and damaged.
+fn cached_files() {
+    let mut random = Random(26);
+    let mut seen = [0u32; 14];
+    for i in 0..3000 {
+        let mut file = oracle::file(&cached(&mut random)).into_bytes();
+        if i % 3 == 0 {
+            caches_anywhere(&mut random, &mut file);
+            damaged(&mut random, &mut file);
+        }
+        seen[same_list(&file).map_or_else(|refusal| refusal.0 as usize, |_| 0)] += 1;
+    }
+    assert!(seen[0] > 700 && seen[1] > 200 && seen[8] > 50, "refusals: {:?}", seen);
+}
+
 fn damaged_files() {
     let mut random = Random(12);
     let mut seen = [0u32; 14];
@@ -130,7 +145,7 @@ fn damaged_files() {
 // From no task to more than a set holds; then the slot, a horizon, an empty file.
 fn refused_files() {
     let set = |s: u64, t: u64, count: u64| {
-        let tasks = (0..count).map(|i| Task { id: i % 256, c: 1, d: t, t }).collect();
+        let tasks = (0..count).map(|i| Task { id: i % 256, c: 1, d: t, t, cache: None }).collect();
         oracle::file(&Set { m: 64, s, tasks, ..Set::default() }).into_bytes()
     };
     let refusal = |file: &[u8]| same_list(file).err();
@@ -161,7 +176,7 @@ fn buffers() {
 
 // A file of tasks of period S, without overheads: one of more than half a slot has its own server, and its cost is the reserve.
 fn of_costs(s: u64, costs: &[u64]) -> Set {
-    let tasks = costs.iter().enumerate().map(|(i, c)| Task { id: i as u64, c: *c, d: s, t: s }).collect();
+    let tasks = costs.iter().enumerate().map(|(i, c)| Task { id: i as u64, c: *c, d: s, t: s, cache: None }).collect();
     Set { m: 64, s, tasks, ..Set::default() }
 }
 
@@ -329,6 +344,7 @@ fn main() {
         ("examples' switches", examples),
         ("good files' switches", good_files),
         ("switches of files with 07 lines", interrupt_files),
+        ("switches of files with 03 lines", cached_files),
         ("damaged files' switches", damaged_files),
         ("refused files' switches", refused_files),
         ("buffers for switches", buffers),

@@ -1,22 +1,23 @@
--- Row 13 of the refusals: a task that fails alone in a server. Document 02, Req 08.
+-- Row 13 of the refusals: a task that fails alone in a server. Document 02, Req 07 and Req 08.
 use mathlib.Core.List.{List, [], _∷_}
 use mathlib.Core.Bool.{Bool, not}
-use Rattle.demand.specs.Load.{Load, Meets, Every}
+use Rattle.demand.specs.Load.{Meets, Every}
 use Rattle.tasks.specs.declared.set.Header.{Header}
 use Rattle.tasks.specs.declared.set.Task.{Task}
 use Rattle.tasks.specs.declared.set.TaskSet.{TaskSet}
-use Rattle.loads.specs.Charge.{figuresOf, chargedIn}
+use Rattle.loads.specs.Charge.{chargedIn}
+use Rattle.loads.specs.Figures.{Figures, figuresOf}
 use Rattle.members.specs.Server.{Board, fits}
 use Rattle.setfigures.specs.Board.{setBoard}
 
--- a server of this load alone fails with a whole processor
-abbrev pub failsAlone : Board → Load → Bool
-failsAlone b l = not (fits b (l ∷ []))
+-- a server of a task of these figures alone fails with a whole processor
+abbrev pub failsAlone : Board → Figures → Bool
+failsAlone b f = not (fits b (f ∷ []))
 
 -- 13 ALONE: a server of this task alone fails with a whole processor
 unfoldable pub aloneRow : TaskSet → Task → Bool
-aloneRow set t = failsAlone (setBoard set) (figuresOf t)
+aloneRow set t = failsAlone (setBoard set) (figuresOf (set .header) t)
 
--- each load, charged, has c ≤ d: row 8 is clear
-abbrev pub Met : Header → List Load → Type 0
-Met h loads = Every (λ (l : Load). Meets (chargedIn h (h .cpmdo) l)) loads
+-- each task, charged with its own cache cost, has c ≤ d: row 8 is clear
+abbrev pub Met : Header → List Figures → Type 0
+Met h figures = Every (λ (f : Figures). Meets (chargedIn h (f .cache) f)) figures

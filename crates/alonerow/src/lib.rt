@@ -1,11 +1,11 @@
 // Row 13 of the refusals over figures and interrupts.
-// What it means stands in specs/Alone.antt. The tasks' own figures stand in one slice, three for each, of which the first n count, and
-// the interrupts in another, four numbers for each.
+// What it means stands in specs/Alone.antt. The tasks' own figures stand in one slice, of which the first n count, and
+// the interrupts in another, four numbers for each of both.
 use taking::alone;
 use tasks::set::Header;
 ghost use mathlib.Core.Path.{_≡_};
-ghost use Rattle.demand.specs.Load.{loadsOf};
 ghost use Rattle.tasks.specs.Search.{firstTask};
+ghost use Rattle.loads.specs.Figures.{figuresTo};
 ghost use Rattle.members.specs.Server.{boardOf, Filed, Bounded};
 ghost use Rattle.alonerow.specs.Alone.{failsAlone, Met};
 
@@ -19,8 +19,8 @@ pub fn first_alone(
 ) -> usize
     requires { ⌜ Filed header (now figures) n horizon ⌝ }
     requires { ⌜ Bounded header (now interrupts) horizon ⌝ }
-    requires { ⌜ Met header (loadsOf (now figures) n) ⌝ }
-    ensures { λ r. ⌜ r ≡ firstTask (failsAlone (boardOf header (now (interrupts .entry)))) (loadsOf (now (figures .entry)) n) ⌝ }
+    requires { ⌜ Met header (figuresTo (now figures) n) ⌝ }
+    ensures { λ r. ⌜ r ≡ firstTask (failsAlone (boardOf header (now (interrupts .entry)))) (figuresTo (now (figures .entry)) n) ⌝ }
 {
     if interrupts.len() == 0 {
         return 0;

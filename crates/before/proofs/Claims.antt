@@ -1,12 +1,12 @@
 -- The proofs of what specs/Claims.antt claims.
 -- Assumes nothing.
-use Prim.Native.Nat.{ℕ, _≤_}
+use Prim.Native.Nat.{ℕ}
 use mathlib.Core.List.{List}
-use mathlib.Core.Path.{_≡_, refl, sym, _∙_, ap}
+use mathlib.Core.Path.{_≡_, refl, _∙_, ap}
 use Rattle.refusals.specs.declared.Outcome.{Outcome}
 use Rattle.refusals.specs.declared.Outcome.the-variants.{Done, Refused}
 use Rattle.refusals.specs.declared.Written.{Written}
-use Rattle.tasks.specs.declared.set.Optional.the-variants.{Absent, Given}
+use Rattle.tasks.specs.declared.set.Optional.the-variants.{Absent}
 use Rattle.tasks.specs.declared.set.TaskSet.{TaskSet}
 use Rattle.tasks.specs.Set.{zeroSet, interruptsWith, setOf}
 use Rattle.taskfile.specs.File.{headerAt}
@@ -27,7 +27,7 @@ use Rattle.setfigures.specs.Board.{setInterrupts}
 use Rattle.tightrows.specs.Rows.{slotRow, tightRow}
 use Rattle.rows.specs.Rows.{horizonOf, horizonRow, chargedOutcome}
 use Rattle.alonerow.specs.Alone.{aloneRow}
-use Rattle.layout.specs.Made.{reservesWith, planWith, setPlacement, setReserves, planMade}
+use Rattle.layout.specs.Made.{reservesWith, cachesWith, planWith, setPlacement, setReserves, planMade}
 use Rattle.planner.specs.Planner.{needed, fullRow, planOutcome, planOf}
 use Rattle.taskplan.specs.declared.FileAnswer.{FileAnswer}
 use Rattle.taskplan.specs.File.{unless, refusedFile, plannedSet, filedOf}
@@ -39,40 +39,23 @@ use Rattle.askfile.specs.OfFile.{whoOfFile, passOfFile, whoIn, passIn}
 use Rattle.planlines.specs.Line.{refusalText}
 use Rattle.switchlist.specs.Write.{planSwitches}
 use Rattle.switchfile.specs.OfFile.{switched, listed}
-use Rattle.before.specs.Earlier.{Earlier, before04, before08}
+use Rattle.before.specs.Earlier.{Earlier, before04, before07, before08}
 use Rattle.before.specs.Reading.{hadSet, hadReadOutcome, hadRead}
-use Rattle.before.specs.Answers.{hadPlan, hadPlanned, hadFiled, hadAnswered, hadSwitched, hadListed, hadWhoIn, hadPassIn}
+use Rattle.before.specs.Planning.{hadPlan}
+use Rattle.before.specs.Answers.{hadPlanned, hadFiled, hadAnswered, hadSwitched, hadListed, hadWhoIn, hadPassIn}
 use Rattle.before.specs.Claims as claims
-use Rattle.before.proofs.ReadingLaws.{figures-none, read-now, read-same}
-use Rattle.before.proofs.PlanningLaws.{count-none, set-none, ask-none, fit-alone, plan-now, who-now, pass-now}
-use Rattle.before.proofs.MaskedLaws.{plan-same, who-same, pass-same}
+use Rattle.before.proofs.ReadingLaws.{read-uncached, had-uncached, read-now, read-same}
+use Rattle.before.proofs.PlanningLaws.{set-as-before}
+use Rattle.before.proofs.StateLaws.{as-now07, as-now08, as-now04}
 
 -- ---- sets
-
-uninterrupted-set : (set : TaskSet) → set .interrupts .count ≡ 0 → claims.SetAsBefore before08 set
-uninterrupted-set set none =
-    let empty = count-none set none in
-    let bounds = set-none set empty in
-    let figures = figures-none set empty in
-    let ask = ask-none set none in
-    let alone = fit-alone set none in
-    record {
-      plan = plan-now set bounds figures ask alone;
-      who = who-now set bounds figures ask alone;
-      pass = pass-now set bounds figures ask alone;
-    }
 
 pub sets-as-before : claims.SetsAsBefore
 sets-as-before =
     record {
-      interrupts = uninterrupted-set;
-      masked = λ set none unmasked.
-          let now = uninterrupted-set set none in
-          record {
-            plan = now .plan ∙ plan-same set unmasked;
-            who = λ plan p x. now .who plan p x ∙ who-same set unmasked plan p x;
-            pass = λ plan q R. now .pass plan q R ∙ pass-same set unmasked plan q R;
-          };
+      cached = λ set uncached. set-as-before before07 set (as-now07 set uncached);
+      interrupts = λ set uncached none. set-as-before before08 set (as-now08 set uncached none);
+      masked = λ set uncached none unmasked. set-as-before before04 set (as-now04 set uncached none unmasked);
     }
 
 -- ---- files
@@ -123,38 +106,45 @@ module _ (e : Earlier) (text : List ℕ) (read : readOf text ≡ hadRead e text)
         pass = λ q R. ap (passOfFile q R) filed-same ∙ ap (unless refusedPass (hadFiled e text .outcome)) (asked .pass (hadFiled e text .plan) q R);
       }
 
--- what a set had: no interrupts, and before Req 04 no 05 line
+-- what a set had: no cache costs of tasks, before Req 08 no interrupts, and before Req 04 no 05 line
 abbrev Uninterrupted : TaskSet → Type 0
-Uninterrupted set = set .interrupts .count ≡ 0
+Uninterrupted set = claims.Uncached set × (set .interrupts .count ≡ 0)
 
 abbrev Plain : TaskSet → Type 0
-Plain set = (set .interrupts .count ≡ 0) × (set .header .masked ≡ Absent)
+Plain set = claims.Uncached set × (set .interrupts .count ≡ 0) × (set .header .masked ≡ Absent)
 
-had-uninterrupted : (e : Earlier) (text : List ℕ) → Uninterrupted (hadSet e text)
-unfolding hadSet setOf interruptsWith
-had-uninterrupted e text = refl
+module _ (text : List ℕ) (uncached : claims.NoCachedLine text) where
+  had-uninterrupted : Uninterrupted (hadSet before08 text)
+  unfolding hadSet setOf interruptsWith
+  had-uninterrupted = (had-uncached text uncached before08, refl)
 
-had-plain : (text : List ℕ) → Plain (hadSet before04 text)
-unfolding hadSet setOf interruptsWith headerAt
-had-plain text = (refl, refl)
+  had-plain : Plain (hadSet before04 text)
+  unfolding hadSet setOf interruptsWith headerAt
+  had-plain = (had-uncached text uncached before04, refl, refl)
 
 pub files-as-before : claims.FilesAsBefore
 files-as-before =
     record {
-      interrupts = λ text without.
-          file-as-before before08 text (read-now text without)
-          (sets-as-before .interrupts (hadRead before08 text .set) (read-has Uninterrupted refl before08 text (had-uninterrupted before08 text)))
-          (sets-as-before .interrupts (hadFiled before08 text .set) (filed-has Uninterrupted refl before08 text (had-uninterrupted before08 text)));
-      masked = λ text without uninterrupted.
-          let read = read-has Plain (refl, refl) before04 text (had-plain text) in
-          let filed = filed-has Plain (refl, refl) before04 text (had-plain text) in
-          file-as-before before04 text (read-now text uninterrupted ∙ read-same text without uninterrupted)
-          (sets-as-before .masked (hadRead before04 text .set) (read .0) (read .1))
-          (sets-as-before .masked (hadFiled before04 text .set) (filed .0) (filed .1));
+      cached = λ text uncached.
+          file-as-before before07 text (read-uncached text uncached)
+          (sets-as-before .cached (hadRead before07 text .set) (read-has claims.Uncached tt before07 text (had-uncached text uncached before07)))
+          (sets-as-before .cached (hadFiled before07 text .set) (filed-has claims.Uncached tt before07 text (had-uncached text uncached before07)));
+      interrupts = λ text uncached without.
+          let read = read-has Uninterrupted (tt, refl) before08 text (had-uninterrupted text uncached) in
+          let filed = filed-has Uninterrupted (tt, refl) before08 text (had-uninterrupted text uncached) in
+          file-as-before before08 text (read-now text uncached without)
+          (sets-as-before .interrupts (hadRead before08 text .set) (read .0) (read .1))
+          (sets-as-before .interrupts (hadFiled before08 text .set) (filed .0) (filed .1));
+      masked = λ text uncached without uninterrupted.
+          let read = read-has Plain (tt, refl, refl) before04 text (had-plain text uncached) in
+          let filed = filed-has Plain (tt, refl, refl) before04 text (had-plain text uncached) in
+          file-as-before before04 text (read-same text uncached without uninterrupted)
+          (sets-as-before .masked (hadRead before04 text .set) (read .0) (read .1) (read .2))
+          (sets-as-before .masked (hadFiled before04 text .set) (filed .0) (filed .1) (filed .2));
     }
 
 -- ---- a 05 line of 0 ticks: nothing that plans looks at more of it than its ticks
 
 pub zero-as-none : claims.ZeroAsNone
-unfolding planOf planOutcome askRow countRow headerOverflows maskedOverflows lineOverflows someTooLarge widthsOf chargedOutcome figuresOutcome boardRow slotRow tightRow horizonRow horizonOf setInterrupts chargedIn serverLoads serverLoss cacheOf setFigures aloneRow fits passesWith reserveFor fullRow needed setReserves setPlacement placementOf reservesWith reservesOf planMade planWith fit takes
+unfolding planOf planOutcome askRow countRow headerOverflows maskedOverflows lineOverflows someTooLarge widthsOf chargedOutcome figuresOutcome boardRow slotRow tightRow horizonRow horizonOf setInterrupts chargedIn serverLoads serverLoss cacheOf setFigures aloneRow fits passesWith reserveFor fullRow needed setReserves setPlacement placementOf reservesWith reservesOf cachesWith planMade planWith fit takes
 zero-as-none set = refl

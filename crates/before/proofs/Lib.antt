@@ -1,4 +1,6 @@
 pub mod ReadingLaws
+pub mod AlikeLaws
+pub mod CacheLaws
 pub mod PlanningLaws
-pub mod MaskedLaws
+pub mod StateLaws
 pub mod Claims

@@ -1,108 +1,95 @@
--- A set without interrupts is planned, and asked of, as before Req 08: a server's demand and horizon are those that it had, so all that
--- goes by them is as it was, and no task fails alone.
+-- A set is planned, and asked of, as in an earlier state, where its tasks have no cache costs of their own, it has no interrupts unless
+-- there were any, and what loads ask and row 11 are what they were.
 -- Assumes nothing.
-use Prim.Native.Nat.{ℕ, zero, suc, _+_, max}
+use Prim.Native.Nat.{ℕ, _+_, _≤_}
 use native.Mathlib.Omega.{arith}
-use mathlib.Core.List.{List, [], _∷_, _++_, map, append-nil}
-use mathlib.Core.Bool.{Bool, true, false, _||_, or-false, cond, _&&_}
+use mathlib.Core.List.{List, [], _∷_, _++_, map}
+use mathlib.Core.Bool.{Bool, true, false, not, cond, _&&_, _||_}
 use mathlib.Core.Path.{_≡_, refl, sym, _∙_, ap, ap₂}
-use lib.Dec.{eqb, ltb}
-use lib.ListN.{take}
-use Rattle.refusals.specs.declared.Refusal.{Refusal}
+use lib.Dec.{leb, ltb}
+use lib.ListN.{length, take, length-append}
+use borrow.Author.Tests.{leb-true}
+use Rattle.laws.proofs.Tests.{and-left, and-right}
 use Rattle.refusals.specs.declared.Refusal.the-variants.{Slot, Tight, Horizon, Full, Ask, Alone}
 use Rattle.refusals.specs.declared.Outcome.{Outcome}
 use Rattle.refusals.specs.declared.Outcome.the-variants.{Done, Refused}
 use Rattle.refusals.specs.First.{firstOf, when}
 use Rattle.wholes.specs.Multiple.{leastMultipleOf}
-use Rattle.demand.specs.Load.{Load}
-use Rattle.demand.specs.Demand.{demand}
-use Rattle.interrupting.specs.Interrupts.{Bound, boundTo, interruptDemand, greatest}
+use Rattle.demand.specs.Load.{Load, Every}
+use Rattle.demand.proofs.Demand.{every-snoc}
+use Rattle.interrupting.specs.Interrupts.{Bound, greatest}
 use Rattle.masking.specs.Masking.{maskedDemand}
 use Rattle.verdict.specs.Verdict.{ownHorizon, passing, verdictOf}
 use Rattle.verdict.specs.Reserve.{smallestReserve}
-use Rattle.tasks.specs.declared.set.Interrupt.{Interrupt}
+use Rattle.verdict.specs.declared.answer.Verdict.{Verdict}
+use Rattle.tasks.specs.declared.set.Optional.the-variants.{Absent}
 use Rattle.tasks.specs.declared.set.Task.{Task}
 use Rattle.tasks.specs.declared.set.TaskSet.{TaskSet}
-use Rattle.tasks.specs.Set.{mostTasks, members, interruptsIn, maskedTicks, mostInterrupts, longestHorizon}
-use Rattle.tasks.specs.Search.{some, firstTask, atTask}
-use Rattle.taskrows.specs.Rows.{figuresOutcome}
-use Rattle.taskask.specs.Ask.{countRow, twiceRow, headerOverflows, taskOverflows, maskedOverflows, interruptOverflows, askRow}
+use Rattle.tasks.specs.Set.{members, interruptsIn, zeroTask, maskedTicks, longestHorizon}
+use Rattle.tasks.specs.Search.{firstTask, atTask}
+use Rattle.tasks.proofs.FirstLaws.{none-first}
+use Rattle.taskask.specs.Ask.{askRow}
+use Rattle.taskask.proofs.Carried.{count-within, interrupts-within, ask-count}
 use Rattle.reserves.specs.Reserves.{processorsOf}
 use Rattle.ring.specs.declared.clock.Tick.{Tick}
 use Rattle.ring.specs.Who.{whoOf}
 use Rattle.places.specs.Padded.{upTo}
 use Rattle.places.specs.Places.{chosen}
-use Rattle.loads.specs.Charge.{serverLoads, serverLoss}
-use Rattle.members.specs.Server.{Board, serverDemand, serverHorizon, passesWith, fits, reserveFor, verdictFor}
+use Rattle.places.proofs.PaddedLaws.{up-length}
+use Rattle.places.proofs.PlacesLaws.{in-some}
+use Rattle.loads.specs.Charge.{cacheOf, chargedIn}
+use Rattle.loads.specs.Figures.{Figures, figuresOf}
+use Rattle.members.specs.Server.{serverDemand, serverHorizon, passesWith, fits, reserveFor, verdictFor}
+use Rattle.members.proofs.FiledLaws.{every-chosen}
 use Rattle.taking.specs.Takes.{takes}
 use Rattle.joining.specs.Join.{firstFit, join}
-use Rattle.servers.specs.Placement.{serversIn, Step, placeBy, fit, placementOf}
+use Rattle.servers.specs.Placement.{serversIn, fit, placementOf, cachesOf}
+use Rattle.servers.specs.Fitting.{Parted}
+use Rattle.servers.proofs.FittingLaws.{in-range, parted-more, fitting-none}
+use Rattle.servers.proofs.PlacementLaws.{placed-keeps}
+use Rattle.servers.proofs.Claims.{fit-takes-or-opens}
 use Rattle.sizing.specs.Reserve.{reservesOf}
-use Rattle.byprocessor.specs.Interrupts.{boundOf, onProcessor, byProcessor}
+use Rattle.byprocessor.specs.Interrupts.{byProcessor}
 use Rattle.setfigures.specs.Figures.{setFigures}
 use Rattle.setfigures.specs.Board.{setInterrupts, setBoard}
 use Rattle.tightrows.specs.Rows.{slotRow, tightRow}
 use Rattle.rows.specs.Rows.{horizonOf, horizonRow, chargedOutcome}
-use Rattle.taskask.proofs.Carried.{count-within, interrupts-within, ask-count}
 use Rattle.rows.proofs.Clears.{charged-clear}
 use Rattle.alonerow.specs.Alone.{aloneRow}
-use Rattle.alonerow.proofs.AloneLaws.{none-alone as never-alone}
+use Rattle.alonerow.proofs.AloneLaws.{none-alone}
 use Rattle.plan.specs.declared.plan.Plan.{Plan}
 use Rattle.layout.specs.Layout.{laidOut}
-use Rattle.layout.specs.Made.{reservesWith, planWith, setPlacement, setReserves, planMade}
+use Rattle.layout.specs.Made.{reservesWith, cachesWith, planWith, setPlacement, setReserves, planMade}
 use Rattle.planner.specs.Planner.{needed, fullRow, planOutcome, planOf, answer}
 use Rattle.planagree.specs.Agrees.{agrees}
+use Rattle.planagree.proofs.AgreeLaws.{agree-same}
 use Rattle.plancheck.specs.Makes.{isDone, makes}
+use Rattle.plancheck.proofs.Checked.{makes-agrees}
 use Rattle.planprocessor.specs.Standing.{isProcessor}
 use Rattle.whoruns.specs.WhoRuns.{whoAnswer, refusedWho, whoRuns}
 use Rattle.named.specs.Named.{allowed, isServer}
+use Rattle.planserver.specs.Members.{serverMembers, allowedTo}
+use Rattle.doespass.specs.declared.PassAnswer.{PassAnswer}
 use Rattle.doespass.specs.DoesPass.{passAnswer, refusedPass, doesPass}
-use Rattle.before.specs.Earlier.{Earlier, before08, tasksMiscount}
-use Rattle.before.specs.Planning.{Asking, serverHad, passesBy, reserveBy, verdictBy, fitBy, placementBy, reservesBy, madeBy, horizonHad, hadCharged, neededBy, outcomeBy, planBy, makesBy, whoBy, passBy}
-use Rattle.before.specs.Reading.{hadFigures}
-use Rattle.before.proofs.ReadingLaws.{figures-none}
+use Rattle.before.specs.Earlier.{Earlier, known}
+use Rattle.before.specs.Planning.{hadLoads, hadLoss, hadBounds, hadDemand, ownHad, hadPasses, hadReserve, hadVerdict, hadFit, hadPlacement, hadMembers, hadReserves, hadCaches, hadMade, hadTight, horizonHad, hadCharged, hadAlone, hadNeeded, hadOutcome, hadPlan, hadMakes, hadWho, hadPass}
+use Rattle.before.specs.Claims.{Uncached, SetAsBefore}
+use Rattle.before.proofs.ReadingLaws.{figures-same}
+use Rattle.before.proofs.AlikeLaws.{first-same, ups-same, placed-same}
+use Rattle.before.proofs.CacheLaws.{Costs, header-cost, set-costs, cache-same, loads-same, loss-same}
 
--- ---- no interrupts
-
-pub count-none : (set : TaskSet) → set .interrupts .count ≡ 0 → interruptsIn set ≡ []
-count-none set none = ap (λ (n : ℕ). take n (set .interrupts .each)) none
-
-bounds-none : (m : ℕ) → byProcessor m [] ≡ []
-unfolding byProcessor onProcessor
-bounds-none zero = refl
-bounds-none (suc m) = rw (bounds-none m) refl
-
-greatest-none : (m t : ℕ) → greatest m [] t ≡ 0
-unfolding greatest interruptDemand boundTo demand
-greatest-none zero t = refl
-greatest-none (suc m) t = rw (greatest-none m t) refl
-
-pub set-none : (set : TaskSet) → interruptsIn set ≡ [] → setInterrupts set ≡ []
-unfolding setInterrupts
-set-none set none = ap (byProcessor (set .header .processors)) none ∙ bounds-none (set .header .processors)
-
--- row 11 of a set without interrupts
-pub ask-none : (set : TaskSet) → set .interrupts .count ≡ 0 → askRow set ≡ before08 .asks set
-unfolding askRow countRow tasksMiscount some
-ask-none set none =
-    ap
-    (λ (n : ℕ).
-    (eqb (set .count) 0 || (ltb mostTasks (set .count) || ltb mostInterrupts n)) ||
-    (twiceRow (members set) ||
-    (headerOverflows (set .header) ||
-    (some taskOverflows (members set) || (maskedOverflows (set .header .masked) || some interruptOverflows (take n (set .interrupts .each)))))))
-    none
-    ∙ ap₂
-    (λ (many wide : Bool).
-    (eqb (set .count) 0 || many) || (twiceRow (members set) || (headerOverflows (set .header) || (some taskOverflows (members set) || wide))))
-    (or-false (ltb mostTasks (set .count)))
-    (or-false (maskedOverflows (set .header .masked)))
+-- what planning goes by is what it was, for a set
+pub record AsNow (e : Earlier) (set : TaskSet) : Type 0 where
+  pub uncached : Uncached set
+  pub interrupts : e .interrupts ≡ false → set .interrupts .count ≡ 0
+  pub demand : (ls : List Load) (t : ℕ) → maskedDemand (maskedTicks (set .header)) ls t ≡ e .demand (set .header) ls t
+  pub ask : askRow set ≡ e .asks set
 
 -- without interrupts no task of a set whose rows are clear fails alone
-pub fit-alone : (set : TaskSet) → set .interrupts .count ≡ 0 → askRow set ≡ false → chargedOutcome set ≡ Done → firstTask (aloneRow set) (members set) ≡ 0
+fit-alone : (set : TaskSet) → set .interrupts .count ≡ 0 → askRow set ≡ false → chargedOutcome set ≡ Done → firstTask (aloneRow set) (members set) ≡ 0
 fit-alone set none carried charged =
     let clear = charged-clear set charged in
-    never-alone set
+    none-alone set
     (record {
       few = count-within set (ask-count set carried) .1;
       few-interrupts = interrupts-within set (ask-count set carried);
@@ -113,130 +100,237 @@ fit-alone set none carried charged =
     })
     none
 
-module _ (set : TaskSet) (none : setInterrupts set ≡ []) where
+module _ (e : Earlier) (set : TaskSet) (same : AsNow e set) where
+  abbrev S : ℕ
+  S = set .header .slot
+
+  abbrev AllCost : List Figures → Type 0
+  AllCost ms = Every (Costs (set .header)) ms
+
+  -- ---- the interrupts
+
+  known-same : interruptsIn set ≡ known e (interruptsIn set)
+  known-same = go (e .interrupts) refl
+    where
+      go : (b : Bool) → e .interrupts ≡ b → interruptsIn set ≡ cond b (interruptsIn set) []
+      go true there = refl
+      go false none = ap (λ (n : ℕ). take n (set .interrupts .each)) (same .interrupts none)
+
+  bounds-same : setInterrupts set ≡ hadBounds e set
+  unfolding setInterrupts hadBounds
+  bounds-same = ap (byProcessor (set .header .processors)) known-same
+
   -- ---- a server
 
-  abbrev had : Asking
-  had = before08 .demand (set .header)
+  module _ (ms : List Figures) (all : AllCost ms) where
+    demand-same : serverDemand (setBoard set) ms ≡ hadDemand e set ms
+    demand-same = λ i t. at t i
+      where
+        at : (t : ℕ) → serverDemand (setBoard set) ms t ≡ hadDemand e set ms t
+        at t =
+            ap₂ (λ (ls : List Load) (bs : List Bound). maskedDemand (maskedTicks (set .header)) ls t + greatest (set .header .processors) bs t)
+            (loads-same (set .header) ms all) bounds-same
+            ∙ ap (λ (n : ℕ). n + greatest (set .header .processors) (hadBounds e set) t) (same .demand (hadLoads (set .header) ms) t)
 
-  greatest-had : (t : ℕ) → greatest (set .header .processors) (setInterrupts set) t ≡ 0
-  greatest-had t = ap (λ (bs : List Bound). greatest (set .header .processors) bs t) none ∙ greatest-none (set .header .processors) t
+    horizon-same : serverHorizon (setBoard set) ms ≡ ownHad e set ms
+    horizon-same = ap₂ (ownHorizon S) (loads-same (set .header) ms all) bounds-same
 
-  demand-same : (ms : List Load) → serverDemand (setBoard set) ms ≡ had ms
-  demand-same ms = λ i t. at t i
-    where
-      at : (t : ℕ) → serverDemand (setBoard set) ms t ≡ had ms t
-      at t = omega (arith, greatest-had t)
+    module _ (some : 1 ≤ length ms) where
+      passes-same : (R : ℕ) → passesWith (setBoard set) ms R ≡ hadPasses e set ms R
+      unfolding passesWith hadPasses
+      passes-same R = λ i. passing (demand-same i) (horizon-same i) S (loss-same (set .header) ms all some i) R
 
-  horizon-same : (ms : List Load) → serverHorizon (setBoard set) ms ≡ serverHad (set .header) ms
-  unfolding ownHorizon serverHad
-  horizon-same ms =
-      ap (λ (bs : List Bound). leastMultipleOf (set .header .slot) (map (λ (l : Load). l .period) (serverLoads (set .header) ms) ++ map (λ (b : Bound). b .load .period) bs)) none
-      ∙ ap (leastMultipleOf (set .header .slot)) (append-nil (map (λ (l : Load). l .period) (serverLoads (set .header) ms)))
+      reserve-same : reserveFor (setBoard set) ms ≡ hadReserve e set ms
+      unfolding reserveFor hadReserve
+      reserve-same = λ i. smallestReserve (demand-same i) (horizon-same i) S (loss-same (set .header) ms all some i)
 
-  passes-same : (ms : List Load) (R : ℕ) → passesWith (setBoard set) ms R ≡ passesBy had (set .header) ms R
-  unfolding passesWith passesBy
-  passes-same ms R = ap₂ (λ (g : ℕ → ℕ) (H : ℕ). passing g H (set .header .slot) (serverLoss (set .header) ms) R) (demand-same ms) (horizon-same ms)
+      verdict-same : (R : ℕ) → verdictFor (setBoard set) ms R ≡ hadVerdict e set ms R
+      unfolding verdictFor hadVerdict
+      verdict-same R = λ i. verdictOf (demand-same i) (horizon-same i) S (loss-same (set .header) ms all some i) R
 
-  reserve-same : (ms : List Load) → reserveFor (setBoard set) ms ≡ reserveBy had (set .header) ms
-  unfolding reserveFor reserveBy
-  reserve-same ms = ap₂ (λ (g : ℕ → ℕ) (H : ℕ). smallestReserve g H (set .header .slot) (serverLoss (set .header) ms)) (demand-same ms) (horizon-same ms)
+  -- ---- placing: whoever comes is a member
 
-  verdict-same : (ms : List Load) (R : ℕ) → verdictFor (setBoard set) ms R ≡ verdictBy had (set .header) ms R
-  unfolding verdictFor verdictBy
-  verdict-same ms R = ap₂ (λ (g : ℕ → ℕ) (H : ℕ). verdictOf g H (set .header .slot) (serverLoss (set .header) ms) R) (demand-same ms) (horizon-same ms)
+  fit-same : (done : List Figures) (placement : List ℕ) (l : Figures) → AllCost done → Costs (set .header) l →
+      fit (setBoard set) done placement l ≡ hadFit e set done placement l
+  unfolding fit hadFit takes fits
+  fit-same done placement l before costs =
+      λ i. join firstFit
+      (λ (q : ℕ).
+      passes-same (chosen done placement q ++ (l ∷ []))
+      (every-snoc (Costs (set .header)) (chosen done placement q) l (every-chosen (Costs (set .header)) done placement q before) costs)
+      (omega (arith, length-append (chosen done placement q) (l ∷ []))) S i)
+      0 (serversIn placement)
 
-  fit-same : fit (setBoard set) ≡ fitBy had (set .header)
-  unfolding fit fitBy takes fits
-  fit-same =
-      λ i done placement l.
-      join firstFit (λ (q : ℕ). passes-same (chosen done placement q ++ (l ∷ [])) (set .header .slot) i) 0 (serversIn placement)
+  all-cost : AllCost (setFigures set)
+  all-cost = set-costs set (same .uncached)
 
-  -- ---- the set
+  placement-same : setPlacement set ≡ hadPlacement e set
+  unfolding setPlacement placementOf hadPlacement
+  placement-same = placed-same (Costs (set .header)) (fit (setBoard set)) (hadFit e set) fit-same [] [] (setFigures set) tt all-cost
 
-  placement-same : setPlacement set ≡ placementBy had set
-  unfolding setPlacement placementOf placementBy
-  placement-same = ap (λ (step : Step). placeBy step [] [] (setFigures set)) fit-same
+  -- ---- no server is empty
 
-  reserves-same : setReserves set ≡ reservesBy had set
-  unfolding setReserves reservesWith reservesOf reservesBy
+  parted : Parted (setFigures set) (setPlacement set)
+  unfolding setPlacement placementOf
+  parted =
+      placed-keeps (fit (setBoard set)) Parted (fitting-none (setBoard set) .parted)
+      (λ done placement l held.
+      let q = fit (setBoard set) done placement l in
+      parted-more placement q done l held (in-range (setBoard set) done placement l q (fit-takes-or-opens (setBoard set) done placement l)))
+      (setFigures set)
+
+  server-cost : (q : ℕ) → AllCost (serverMembers set q)
+  server-cost q = every-chosen (Costs (set .header)) (setFigures set) (setPlacement set) q all-cost
+
+  server-some : (q : ℕ) → 1 ≤ q → q ≤ serversIn (setPlacement set) → 1 ≤ length (serverMembers set q)
+  server-some q first there =
+      let task = parted .none-empty q first there in
+      in-some (setFigures set) (setPlacement set) (task .0) q (parted .one-each) (task .1) (task .2)
+
+  -- ---- the plan
+
+  reserves-same : setReserves set ≡ hadReserves e set
+  unfolding setReserves reservesWith reservesOf hadReserves
   reserves-same =
-      ap (λ (placement : List ℕ). reservesOf (setBoard set) (setFigures set) placement) placement-same
-      ∙ (λ i. upTo (λ (q : ℕ). reserve-same (chosen (setFigures set) (placementBy had set) q) i) (serversIn (placementBy had set)))
+      ups-same (λ (q : ℕ). reserveFor (setBoard set) (serverMembers set q)) (λ (q : ℕ). hadReserve e set (serverMembers set q)) (serversIn (setPlacement set))
+      (λ q first there. reserve-same (serverMembers set q) (server-cost q) (server-some q first there))
+      ∙ ap (λ (placement : List ℕ). upTo (λ (q : ℕ). hadReserve e set (chosen (setFigures set) placement q)) (serversIn placement)) placement-same
 
-  made-same : planMade set ≡ madeBy had set
-  unfolding planMade planWith setReserves madeBy
-  made-same = ap₂ (λ (placement reserves : List ℕ). laidOut (set .header .slot) (set .header .cpmdo) placement reserves) placement-same reserves-same
+  caches-same : cachesWith set (setPlacement set) ≡ hadCaches e set
+  unfolding cachesWith cachesOf hadCaches
+  caches-same =
+      ups-same (λ (q : ℕ). cacheOf (serverMembers set q)) (λ (q : ℕ). set .header .cpmdo) (serversIn (setPlacement set))
+      (λ q first there. cache-same (set .header) (serverMembers set q) (server-cost q) (server-some q first there))
+      ∙ ap (λ (placement : List ℕ). upTo (λ (q : ℕ). set .header .cpmdo) (serversIn placement)) placement-same
 
-  needed-same : needed set ≡ neededBy had set
-  unfolding needed neededBy
-  needed-same = ap (processorsOf (set .header .slot)) reserves-same
+  made-same : planMade set ≡ hadMade e set
+  unfolding planMade planWith setReserves hadMade
+  made-same = λ i. laidOut S (caches-same i) (placement-same i) (reserves-same i)
 
-  horizon-had : horizonOf set ≡ horizonHad set
+  needed-same : needed set ≡ hadNeeded e set
+  unfolding needed hadNeeded
+  needed-same = ap (processorsOf S) reserves-same
+
+  -- ---- the rows
+
+  abbrev Own : Task → Type 0
+  Own t = t .cache ≡ Absent
+
+  tight-at : (t : Task) → Own t → tightRow (set .header) t ≡ hadTight (set .header) t
+  unfolding tightRow hadTight
+  tight-at t none =
+      ap
+      (λ (cost : ℕ).
+      let l = chargedIn (set .header) cost (figuresOf (set .header) t) in
+      leb (t .deadline) (set .header .relj) || ltb (l .deadline) (l .cost))
+      (header-cost (set .header) t none)
+
+  tight-same : firstTask (tightRow (set .header)) (members set) ≡ firstTask (hadTight (set .header)) (members set)
+  tight-same = first-same Own (tightRow (set .header)) (hadTight (set .header)) tight-at 1 (members set) (same .uncached)
+
+  horizon-had : horizonOf set ≡ horizonHad e set
   unfolding horizonOf horizonHad
   horizon-had =
-      ap (λ (bs : List Bound). leastMultipleOf (set .header .slot) (map (λ (t : Task). t .period) (members set) ++ map (λ (b : Bound). b .load .period) bs)) none
-      ∙ ap (leastMultipleOf (set .header .slot)) (append-nil (map (λ (t : Task). t .period) (members set)))
+      ap (λ (bs : List Bound). leastMultipleOf S (map (λ (t : Task). t .period) (members set) ++ map (λ (b : Bound). b .load .period) bs)) bounds-same
 
-  -- rows 5 and 6 are told beside
-  module _ (figures : figuresOutcome set ≡ hadFigures set) where
-    charged-same : chargedOutcome set ≡ hadCharged set
-    unfolding chargedOutcome horizonRow hadCharged
-    charged-same =
-        ap₂
-        (λ (o : Outcome) (H : ℕ).
-        firstOf o
-        (firstOf (atTask Slot (firstTask (slotRow (set .header)) (members set)))
-        (firstOf (atTask Tight (firstTask (tightRow (set .header)) (members set))) (when (ltb longestHorizon H) Horizon))))
-        figures horizon-had
+  charged-same : chargedOutcome set ≡ hadCharged e set
+  unfolding chargedOutcome horizonRow hadCharged
+  charged-same =
+      λ i. firstOf (figures-same e set known-same i)
+      (firstOf (atTask Slot (firstTask (slotRow (set .header)) (members set)))
+      (firstOf (atTask Tight (tight-same i)) (when (ltb longestHorizon (horizon-had i)) Horizon)))
 
-    -- so are row 11 and row 13
-    module _ (ask : askRow set ≡ before08 .asks set)
-        (fit-alone : askRow set ≡ false → chargedOutcome set ≡ Done → firstTask (aloneRow set) (members set) ≡ 0) where
-      abbrev full : Outcome
-      full = when (fullRow set) (Full (needed set))
+  -- row 13 where there were interrupts, and where there were none
+  alone-at : e .interrupts ≡ true → (t : Task) → Own t → aloneRow set t ≡ hadAlone e set t
+  unfolding aloneRow hadAlone fits
+  alone-at there t none =
+      ap not (passes-same (figuresOf (set .header) t ∷ []) (header-cost (set .header) t none, tt) (omega arith) S)
+      ∙ ap (λ (b : Bool). b && not (hadPasses e set (figuresOf (set .header) t ∷ []) S)) (sym there)
 
-      none-alone : (a : Bool) (o : Outcome) → askRow set ≡ a → chargedOutcome set ≡ o →
-          firstOf (when a Ask) (firstOf o (firstOf (atTask Alone (firstTask (aloneRow set) (members set))) full)) ≡ firstOf (when a Ask) (firstOf o full)
-      none-alone true o e c = refl
-      none-alone false (Refused r) e c = refl
-      none-alone false Done e c = ap (λ (k : ℕ). firstOf (atTask Alone k) full) (fit-alone e c)
+  never-alone : e .interrupts ≡ false → firstTask (hadAlone e set) (members set) ≡ 0
+  unfolding hadAlone
+  never-alone none = none-first (hadAlone e set) zeroTask 1 (members set) (λ j lt. rw none refl)
 
-      outcome-same : planOutcome set ≡ outcomeBy had (before08 .asks set) set
-      unfolding planOutcome fullRow outcomeBy
-      outcome-same =
-          none-alone (askRow set) (chargedOutcome set) refl refl
-          ∙ ap₂ (λ (a : Bool) (o : Outcome). firstOf (when a Ask) (firstOf o full)) ask charged-same
-          ∙ ap (λ (n : ℕ). firstOf (when (before08 .asks set) Ask) (firstOf (hadCharged set) (when (ltb (set .header .processors) n) (Full n)))) needed-same
+  alone-same : askRow set ≡ false → chargedOutcome set ≡ Done → firstTask (aloneRow set) (members set) ≡ firstTask (hadAlone e set) (members set)
+  alone-same carried charged = go (e .interrupts) refl
+    where
+      go : (b : Bool) → e .interrupts ≡ b → firstTask (aloneRow set) (members set) ≡ firstTask (hadAlone e set) (members set)
+      go true there = first-same Own (aloneRow set) (hadAlone e set) (alone-at there) 1 (members set) (same .uncached)
+      go false none = fit-alone set (same .interrupts none) carried charged ∙ sym (never-alone none)
 
-      pub plan-now : planOf set ≡ planBy had (before08 .asks set) set
-      unfolding planOf planBy
-      plan-now = ap₂ answer outcome-same made-same
+  abbrev full : Outcome
+  full = when (fullRow set) (Full (needed set))
 
-      makes-same : (plan : Plan) → makes set plan ≡ makesBy had (before08 .asks set) set plan
-      unfolding makes makesBy
-      makes-same plan = ap₂ (λ (o : Outcome) (made : Plan). isDone o && agrees (set .count) plan made) outcome-same made-same
+  rest-same : (a : Bool) (o : Outcome) → askRow set ≡ a → chargedOutcome set ≡ o →
+      firstOf (when a Ask) (firstOf o (firstOf (atTask Alone (firstTask (aloneRow set) (members set))) full)) ≡
+      firstOf (when a Ask) (firstOf o (firstOf (atTask Alone (firstTask (hadAlone e set) (members set))) full))
+  rest-same true o carried charged = refl
+  rest-same false (Refused r) carried charged = refl
+  rest-same false Done carried charged = ap (λ (k : ℕ). firstOf (atTask Alone k) full) (alone-same carried charged)
 
-      pub who-now : (plan : Plan) (p : ℕ) (x : Tick) → whoRuns set plan p x ≡ whoBy had (before08 .asks set) set plan p x
-      unfolding whoRuns whoBy
-      who-now plan p x =
-          ap₂ (λ (m : Bool) (reserves : List ℕ). cond (m && isProcessor plan p) (whoAnswer (whoOf (set .header .slot) reserves p x)) (refusedWho Ask))
-          (makes-same plan) reserves-same
+  outcome-same : planOutcome set ≡ hadOutcome e set
+  unfolding planOutcome fullRow hadOutcome
+  outcome-same =
+      rest-same (askRow set) (chargedOutcome set) refl refl
+      ∙ (λ i. firstOf (when (same .ask i) Ask)
+      (firstOf (charged-same i)
+      (firstOf (atTask Alone (firstTask (hadAlone e set) (members set)))
+      (when (ltb (set .header .processors) (needed-same i)) (Full (needed-same i))))))
 
-      pub pass-now : (plan : Plan) (q R : ℕ) → doesPass set plan q R ≡ passBy had (before08 .asks set) set plan q R
-      unfolding doesPass passBy
-      pass-now plan q R =
-          ap₂
-          (λ (m : Bool) (placement : List ℕ).
-          let members = chosen (setFigures set) placement q in
-          cond
-          (m && (isServer plan q && allowed (set .header .slot) (serverLoss (set .header) members) R))
-          (passAnswer (verdictFor (setBoard set) members R))
-          (refusedPass Ask))
-          (makes-same plan) placement-same
-          ∙ ap
-          (λ v. cond
-          (makesBy had (before08 .asks set) set plan && (isServer plan q && allowed (set .header .slot) (serverLoss (set .header) (chosen (setFigures set) (placementBy had set) q)) R))
-          (passAnswer v)
-          (refusedPass Ask))
-          (verdict-same (chosen (setFigures set) (placementBy had set) q) R)
+  plan-same : planOf set ≡ hadPlan e set
+  unfolding planOf hadPlan
+  plan-same = ap₂ answer outcome-same made-same
+
+  -- ---- the questions
+
+  makes-same : (plan : Plan) → makes set plan ≡ hadMakes e set plan
+  unfolding makes hadMakes
+  makes-same plan = ap₂ (λ (o : Outcome) (made : Plan). isDone o && agrees (set .count) plan made) outcome-same made-same
+
+  who-same : (plan : Plan) (p : ℕ) (x : Tick) → whoRuns set plan p x ≡ hadWho e set plan p x
+  unfolding whoRuns hadWho
+  who-same plan p x =
+      ap₂ (λ (m : Bool) (reserves : List ℕ). cond (m && isProcessor plan p) (whoAnswer (whoOf S reserves p x)) (refusedWho Ask))
+      (makes-same plan) reserves-same
+
+  -- a plan that is made has the servers of the placement
+  made-servers : (plan : Plan) → makes set plan ≡ true → plan .servers ≡ serversIn (setPlacement set)
+  unfolding planMade planWith laidOut reservesWith reservesOf
+  made-servers plan made =
+      agree-same plan (planMade set) (set .count) (makes-agrees set plan made) .servers
+      ∙ up-length (λ (q : ℕ). reserveFor (setBoard set) (serverMembers set q)) (serversIn (setPlacement set))
+
+  -- so a server that is asked of has a member
+  asked-some : (plan : Plan) (q : ℕ) → makes set plan ≡ true → isServer plan q ≡ true → 1 ≤ length (serverMembers set q)
+  unfolding isServer
+  asked-some plan q made is =
+      let first = leb-true 1 q (and-left (leb 1 q) (leb q (plan .servers)) is) in
+      let last = leb-true q (plan .servers) (and-right (leb 1 q) (leb q (plan .servers)) is) in
+      server-some q first (omega (arith, last, made-servers plan made))
+
+  module _ (plan : Plan) (q R : ℕ) where
+    abbrev answered : (m s : Bool) → (L : ℕ) → Verdict → PassAnswer
+    answered m s L verdict = cond (m && (s && allowed S L R)) (passAnswer verdict) (refusedPass Ask)
+
+    abbrev had : Verdict
+    had = hadVerdict e set (hadMembers e set q) R
+
+    asked-same : (m s : Bool) → makes set plan ≡ m → isServer plan q ≡ s →
+        cond (m && (s && allowedTo set q R)) (passAnswer (verdictFor (setBoard set) (serverMembers set q) R)) (refusedPass Ask) ≡
+        answered m s (hadLoss (set .header)) had
+    asked-same false s made is = refl
+    asked-same true false made is = refl
+    asked-same true true made is =
+        let some = asked-some plan q made is in
+        ap₂ (answered true true) (loss-same (set .header) (serverMembers set q) (server-cost q) some)
+        (verdict-same (serverMembers set q) (server-cost q) some R
+        ∙ ap (λ (placement : List ℕ). hadVerdict e set (chosen (setFigures set) placement q) R) placement-same)
+
+    pass-same : doesPass set plan q R ≡ hadPass e set plan q R
+    unfolding doesPass hadPass
+    pass-same =
+        asked-same (makes set plan) (isServer plan q) refl refl
+        ∙ ap (λ (m : Bool). answered m (isServer plan q) (hadLoss (set .header)) had) (makes-same plan)
+
+  pub set-as-before : SetAsBefore e set
+  set-as-before = record { plan = plan-same; who = who-same; pass = pass-same }

@@ -1,35 +1,40 @@
--- A text without a 07 line is read as before Req 08, and that, without a 05 line, as before Req 04: at each line that decides, the same
--- rows hold.
+-- A text without an 03 line is read as before Req 07, without a 07 line either as before Req 08, and that, without a 05 line, as before
+-- Req 04: at each line that decides, the same rows hold. Its tasks have no cache costs of their own.
 -- Assumes nothing.
-use Prim.Native.Nat.{ℕ, zero, suc, _+_, _≤_, _<_}
+use Prim.Native.Nat.{ℕ, zero, suc, _+_, _-_, _≤_, _<_}
 use native.Mathlib.Omega.{arith}
-use mathlib.Core.List.{List, [], _∷_}
-use mathlib.Core.Bool.{Bool, true, false, not, _&&_, _||_, or-false, and-false}
-use mathlib.Core.Path.{_≡_, refl, sym, _∙_, ap, ap₂}
-use lib.ListN.{length, take}
+use mathlib.Core.List.{List, [], _∷_, _++_, append-nil}
+use mathlib.Core.Bool.{Bool, true, false, not, cond, _&&_, or-false, and-false}
+use mathlib.Core.Path.{_≡_, refl, sym, _∙_, ap, ap₂, subst}
+use lib.ListN.{length, replicate}
+use lib.Seq.{take-at}
 use lib.Dec.{eqb}
 use borrow.Author.Tests.{eqb-true}
 use Rattle.frames.specs.declared.table.Frame.{Frame}
 use Rattle.frameread.specs.Line.{formed, closed}
 use Rattle.refusals.specs.declared.Refusal.{Refusal}
-use Rattle.refusals.specs.declared.Refusal.the-variants.{Line, Order, Count, Twice, Board, Range}
+use Rattle.refusals.specs.declared.Refusal.the-variants.{Line, Order, Count, Board, Range}
 use Rattle.refusals.specs.declared.Outcome.{Outcome}
 use Rattle.refusals.specs.declared.Outcome.the-variants.{Done, Refused}
 use Rattle.refusals.specs.First.{firstOf, when, till}
-use Rattle.laws.proofs.Tests.{true-false}
+use Rattle.laws.proofs.Tests.{true-false, or-left}
 use Rattle.refusals.proofs.FirstLaws.{stays}
+use Rattle.demand.specs.Load.{Every}
+use Rattle.demand.proofs.Demand.{every-snoc}
 use Rattle.tasks.specs.declared.set.Interrupt.{Interrupt}
+use Rattle.tasks.specs.declared.set.Optional.the-variants.{Absent}
+use Rattle.tasks.specs.declared.set.Task.{Task}
 use Rattle.tasks.specs.declared.set.TaskSet.{TaskSet}
-use Rattle.tasks.specs.Set.{mostTasks, members, interruptsIn, interruptsWith, setOf, withMasked}
-use Rattle.tasks.specs.Search.{some, firstFrom, firstTask, atTask}
+use Rattle.tasks.specs.Set.{mostTasks, members, interruptsIn, interruptsWith, setOf, zeroTask}
+use Rattle.tasks.specs.Search.{some, firstTask, atTask}
 use Rattle.taskrows.specs.Rows.{boardRow, rangeRow, interruptRow, rangeAt, figuresOutcome}
-use Rattle.taskfile.specs.File.{past, present, empty, isHeader, isTask, isMasked, firstLine, afterLast, lateTask, lineRow, orderRow, countLineRow, twiceLineRow, lineOutcome, headerAt, maskedAt, fileHeader, among, tasksAmong, interruptsAmong, fileTasks, fileInterrupts}
+use Rattle.taskfile.specs.File.{past, present, empty, isHeader, isTask, isMasked, isInterrupt, taskFormed, taskAt, cacheAt, lateTask, lineRow, orderRow, countLineRow, lineOutcome, headerAt, maskedAt, fileHeader, among, tasksAmong, interruptsAmong, fileTasks}
 use Rattle.taskfile.proofs.AmongLaws.{task-counts}
 use Rattle.taskfile.proofs.Lines.{clear-header}
 use Rattle.taskread.specs.Read.{answer, fileSet, readOutcome, readOf}
-use Rattle.before.specs.Earlier.{Earlier, before04, before08, oneTooMany}
+use Rattle.before.specs.Earlier.{Earlier, before04, before07, before08, known, oneTooMany, isPlain}
 use Rattle.before.specs.Reading.{hadLine, hadSet, hadFigures, hadReadOutcome, hadRead}
-use Rattle.before.specs.Claims.{NoMaskedLine, NoInterruptLine}
+use Rattle.before.specs.Claims.{NoCachedLine, NoMaskedLine, NoInterruptLine, Uncached}
 
 -- outcomes that are alike up to n are alike there
 till-same : (f g : ℕ → Outcome) (n : ℕ) → ((j : ℕ) → j < n → f (suc j) ≡ g (suc j)) → till f n ≡ till g n
@@ -53,30 +58,64 @@ till-one : (f : ℕ → Outcome) → f 1 ≡ Done → till f 1 ≡ Done
 unfolding till
 till-one f e = e
 
--- nothing behind a last row
-first-done : (o : Outcome) → firstOf o Done ≡ o
-first-done Done = refl
-first-done (Refused r) = refl
-
--- rows 5 and 6 of a set without interrupts
-pub figures-none : (set : TaskSet) → interruptsIn set ≡ [] → figuresOutcome set ≡ hadFigures set
-unfolding figuresOutcome hadFigures firstFrom
-figures-none set none =
+-- rows 5 and 6 of a set whose interrupts were known
+pub figures-same : (e : Earlier) (set : TaskSet) → interruptsIn set ≡ known e (interruptsIn set) → figuresOutcome set ≡ hadFigures e set
+unfolding figuresOutcome hadFigures
+figures-same e set all =
     ap
     (λ (is : List Interrupt).
     firstOf (when (boardRow (set .header)) Board)
     (firstOf (atTask Range (firstTask rangeRow (members set))) (atTask rangeAt (firstTask (interruptRow (set .header .processors)) is))))
-    none
-    ∙ ap (firstOf (when (boardRow (set .header)) Board)) (first-done (atTask Range (firstTask rangeRow (members set))))
+    all
 
--- a set that was read had no interrupts
-pub had-none : (e : Earlier) (text : List ℕ) → interruptsIn (hadSet e text) ≡ []
-unfolding hadSet setOf interruptsWith
-had-none e text = refl
+-- a text whose lines refuse it as they did, and hold the set that they held
+read-by : (e : Earlier) (text : List ℕ) → till (lineOutcome text) (length text + 2) ≡ till (hadLine e text) (length text + 2) → fileSet text ≡ hadSet e text →
+    interruptsIn (hadSet e text) ≡ known e (interruptsIn (hadSet e text)) → readOf text ≡ hadRead e text
+unfolding readOf readOutcome hadRead hadReadOutcome
+read-by e text lines set all =
+    ap₂ (λ (o : Outcome) (set : TaskSet). answer (firstOf o (figuresOutcome set)) set) lines set
+    ∙ ap (λ (o : Outcome). answer (firstOf (till (hadLine e text) (length text + 2)) o) (hadSet e text)) (figures-same e (hadSet e text) all)
+
+-- ---- without an 03 line, as before Req 07
+
+module _ (text : List ℕ) (uncached : NoCachedLine text) where
+  line-uncached : (n : ℕ) → lineRow text (suc n) ≡ before07 .line text (suc n)
+  unfolding lineRow some
+  line-uncached n = rw (uncached (suc n) (omega arith), or-false (isInterrupt text (suc n))) refl
+
+  rows-uncached : (n : ℕ) → lineOutcome text (suc n) ≡ hadLine before07 text (suc n)
+  unfolding lineOutcome hadLine
+  rows-uncached n = rw (line-uncached n) refl
+
+  pub read-uncached : readOf text ≡ hadRead before07 text
+  unfolding fileSet hadSet
+  read-uncached =
+      read-by before07 text (till-same (lineOutcome text) (hadLine before07 text) (length text + 2) (λ j lt. rows-uncached j)) refl refl
+
+  abbrev Own : Task → Type 0
+  Own t = t .cache ≡ Absent
+
+  -- its tasks stand in 02 lines
+  plain-at : (n : ℕ) → Own (taskAt (past n text))
+  unfolding taskAt cacheAt
+  plain-at n = rw (uncached (suc n) (omega arith)) refl
+
+  plain-more : (n : ℕ) (b : Bool) → Every Own (tasksAmong text n) → Every Own (tasksAmong text n ++ cond b (taskAt (past n text) ∷ []) [])
+  plain-more n true all = every-snoc Own (tasksAmong text n) (taskAt (past n text)) all (plain-at n)
+  plain-more n false all = subst (Every Own) (sym (append-nil (tasksAmong text n))) all
+
+  plain-among : (n : ℕ) → Every Own (tasksAmong text n)
+  unfolding among
+  plain-among zero = tt
+  plain-among (suc n) = plain-more n (taskFormed (past n text)) (plain-among n)
+
+  pub had-uncached : (e : Earlier) → Uncached (hadSet e text)
+  unfolding hadSet setOf
+  had-uncached e = subst (Every Own) (sym (take-at (fileTasks text) (replicate (mostTasks - length (fileTasks text)) zeroTask) (length (fileTasks text)) refl)) (plain-among (length text))
 
 -- ---- without a 07 line, as before Req 08
 
-module _ (text : List ℕ) (without : NoInterruptLine text) where
+module _ (text : List ℕ) (uncached : NoCachedLine text) (without : NoInterruptLine text) where
   none-among : (n : ℕ) → interruptsAmong text n ≡ []
   unfolding among
   none-among zero = refl
@@ -84,7 +123,7 @@ module _ (text : List ℕ) (without : NoInterruptLine text) where
 
   line-now : (n : ℕ) → lineRow text (suc n) ≡ before08 .line text (suc n)
   unfolding lineRow some
-  line-now n = rw (without (suc n) (omega arith), or-false (isMasked text (suc n))) refl
+  line-now n = rw (uncached (suc n) (omega arith), without (suc n) (omega arith), or-false (isMasked text (suc n))) refl
 
   never-late : (n : ℕ) → lateTask text (suc n) ≡ false
   never-late n = rw (none-among n) (and-false (isTask text (suc n)))
@@ -105,13 +144,12 @@ module _ (text : List ℕ) (without : NoInterruptLine text) where
   unfolding fileSet hadSet
   set-now = ap (setOf (fileHeader text) (fileTasks text)) (none-among (length text))
 
+  lines-now : (n : ℕ) → till (lineOutcome text) n ≡ till (hadLine before08 text) n
+  lines-now n = till-same (lineOutcome text) (hadLine before08 text) n (λ j lt. rows-now j)
+
   pub read-now : readOf text ≡ hadRead before08 text
-  unfolding readOf readOutcome hadRead hadReadOutcome
-  read-now =
-      ap₂ (λ (o : Outcome) (set : TaskSet). answer (firstOf o (figuresOutcome set)) set)
-      (till-same (lineOutcome text) (hadLine before08 text) (length text + 2) (λ j lt. rows-now j)) set-now
-      ∙ ap (λ (o : Outcome). answer (firstOf (till (hadLine before08 text) (length text + 2)) o) (hadSet before08 text))
-      (figures-none (hadSet before08 text) (had-none before08 text))
+  unfolding hadSet setOf interruptsWith
+  read-now = read-by before08 text (lines-now (length text + 2)) set-now refl
 
 -- ---- without a 05 line, as before Req 04
 
@@ -121,13 +159,13 @@ unfolding formed closed
 header-there [] f = true-false (sym f)
 header-there (b ∷ bs) f = refl
 
-module _ (text : List ℕ) (without : NoMaskedLine text) (uninterrupted : NoInterruptLine text) where
+module _ (text : List ℕ) (uncached : NoCachedLine text) (without : NoMaskedLine text) (uninterrupted : NoInterruptLine text) where
   -- a line is refused, and as before
   abbrev Alike : ℕ → Type 0
   Alike k = (r : Refusal) × (hadLine before08 text k ≡ Refused r) × (hadLine before04 text k ≡ Refused r)
 
   line-same : (n : ℕ) → before08 .line text (suc n) ≡ before04 .line text (suc n)
-  line-same n = rw (without (suc n) (omega arith), or-false (isTask text (suc n))) refl
+  line-same n = rw (without (suc n) (omega arith), or-false (isPlain text (suc n))) refl
 
   order-same : (n : ℕ) → before08 .order text (suc n) ≡ before04 .order text (suc n)
   order-same n = rw (without (suc n) (omega arith), or-false (isHeader text (suc n))) refl
@@ -161,11 +199,15 @@ module _ (text : List ℕ) (without : NoMaskedLine text) (uninterrupted : NoInte
         go false e = refl
         go true e = absurd (omega (arith, task-counts text 1 e, eqb-true (length (fileTasks text)) 0 none))
 
+    no-plain : isPlain text 2 ≡ false
+    unfolding taskFormed
+    no-plain = or-left (isPlain text 2) (formed Frame.Cached (past 1 text)) no-task
+
     -- it is there: no kind that was admitted but 01, so it is LINE or ORDER, whatever COUNT says
     second-there : (b : Bool) → isHeader text 2 ≡ b → present text 2 ≡ true → Alike 2
     unfolding hadLine
     second-there true e there = (Order 2, rw (there, e) refl, rw (there, e) refl)
-    second-there false e there = (Line 2, rw (there, e, no-task, without 2 (omega arith)) refl, rw (there, e, no-task) refl)
+    second-there false e there = (Line 2, rw (there, e, no-plain, without 2 (omega arith)) refl, rw (there, e, no-plain) refl)
 
     -- it is not: COUNT at line 2, the line after the last
     second-absent : past 1 text ≡ [] → Alike 2
@@ -188,7 +230,7 @@ module _ (text : List ℕ) (without : NoMaskedLine text) (uninterrupted : NoInte
       by-first none (Refused r) e =
           till-first (hadLine before08 text) (hadLine before04 text) 0 n r (till-none (hadLine before08 text)) (till-none (hadLine before04 text)) e (sym first-same ∙ e) (omega arith)
       by-first none Done e =
-          let second = second-same none (clear-header text (rows-now text uninterrupted 0 ∙ e)) in
+          let second = second-same none (clear-header text (rows-now text uncached uninterrupted 0 ∙ e)) in
           till-first (hadLine before08 text) (hadLine before04 text) 1 n (second .0)
           (till-one (hadLine before08 text) e)
           (till-one (hadLine before04 text) (sym first-same ∙ e))
@@ -204,7 +246,8 @@ module _ (text : List ℕ) (without : NoMaskedLine text) (uninterrupted : NoInte
   unfolding hadSet fileHeader maskedAt headerAt
   set-same = rw (without 2 (omega arith)) refl
 
-  pub read-same : hadRead before08 text ≡ hadRead before04 text
-  unfolding hadRead hadReadOutcome
+  pub read-same : readOf text ≡ hadRead before04 text
+  unfolding hadSet setOf interruptsWith
   read-same =
-      ap₂ (λ (o : Outcome) (set : TaskSet). answer (firstOf o (hadFigures set)) set) (lines-same (length text + 2) (omega arith)) set-same
+      read-by before04 text (lines-now text uncached uninterrupted (length text + 2) ∙ lines-same (length text + 2) (omega arith))
+      (set-now text uncached uninterrupted ∙ set-same) refl

@@ -1,4 +1,4 @@
--- What the tool, the questions and the switch list answered of a set and of a task file before a request.
+-- What the tool, the questions and the switch list answered of a task file before a request.
 use Prim.Native.Nat.{ℕ}
 use mathlib.Core.List.{List}
 use Rattle.refusals.specs.declared.Outcome.the-variants.{Done}
@@ -6,8 +6,6 @@ use Rattle.refusals.specs.declared.Written.{Written}
 use Rattle.refusals.specs.declared.Written.the-variants.{Refused}
 use Rattle.tasks.specs.declared.set.TaskSet.{TaskSet}
 use Rattle.ring.specs.declared.clock.Tick.{Tick}
-use Rattle.plan.specs.declared.plan.Plan.{Plan}
-use Rattle.planner.specs.declared.PlanAnswer.{PlanAnswer}
 use Rattle.planlines.specs.Line.{refusalText}
 use Rattle.planfit.specs.Fit.{fitted}
 use Rattle.taskplan.specs.declared.FileAnswer.{FileAnswer}
@@ -20,17 +18,7 @@ use Rattle.doespass.specs.DoesPass.{refusedPass}
 use Rattle.switchlist.specs.Write.{planSwitches}
 use Rattle.before.specs.Earlier.{Earlier}
 use Rattle.before.specs.Reading.{hadRead}
-use Rattle.before.specs.Planning.{planBy, whoBy, passBy}
-
--- a set's plan, and the two questions of a set and a plan
-abbrev pub hadPlan : Earlier → TaskSet → PlanAnswer
-hadPlan e set = planBy (e .demand (set .header)) (e .asks set) set
-
-abbrev pub hadWho : Earlier → TaskSet → Plan → (p : ℕ) → Tick → WhoAnswer
-hadWho e set = whoBy (e .demand (set .header)) (e .asks set) set
-
-abbrev pub hadPass : Earlier → TaskSet → Plan → (q R : ℕ) → PassAnswer
-hadPass e set = passBy (e .demand (set .header)) (e .asks set) set
+use Rattle.before.specs.Planning.{hadPlan, hadWho, hadPass}
 
 -- a file's set and plan, or its refusal
 unfoldable pub hadPlanned : Earlier → TaskSet → FileAnswer

@@ -1,14 +1,18 @@
 -- Old files keep their answers, and so do old sets. Each claim is a type; the proofs stand under the same names in proofs/Claims.antt.
--- Document 02, Req 04: "without it B is 0"; Req 08 adds lines after the tasks.
+-- Document 02, Req 04: "without it B is 0"; Req 07: a task of an 02 line takes the header's cache cost; Req 08 adds lines after the tasks.
 use Prim.Native.Nat.{ℕ, _≤_}
 use mathlib.Core.Path.{_≡_}
 use mathlib.Core.List.{List}
 use mathlib.Core.Bool.{false}
+use Rattle.demand.specs.Load.{Every}
 use Rattle.tasks.specs.declared.set.Optional.the-variants.{Absent, Given}
 use Rattle.tasks.specs.declared.set.Optional.{Optional}
+use Rattle.tasks.specs.declared.set.Task.{Task}
 use Rattle.tasks.specs.declared.set.TaskSet.{TaskSet}
-use Rattle.tasks.specs.Set.{withMasked}
-use Rattle.taskfile.specs.File.{isMasked, isInterrupt}
+use Rattle.tasks.specs.Set.{members, withMasked}
+use Rattle.frames.specs.declared.table.Frame.{Frame}
+use Rattle.frameread.specs.Line.{formed}
+use Rattle.taskfile.specs.File.{from, isMasked, isInterrupt}
 use Rattle.taskread.specs.Read.{readOf}
 use Rattle.ring.specs.declared.clock.Tick.{Tick}
 use Rattle.plan.specs.declared.plan.Plan.{Plan}
@@ -19,16 +23,20 @@ use Rattle.taskplan.specs.File.{filedOf}
 use Rattle.planfile.specs.Tool.{answered}
 use Rattle.askfile.specs.OfFile.{whoIn, passIn}
 use Rattle.switchfile.specs.OfFile.{switched, listed}
-use Rattle.before.specs.Earlier.{Earlier, before04, before08}
+use Rattle.before.specs.Earlier.{Earlier, before04, before07, before08}
 use Rattle.before.specs.Reading.{hadRead}
-use Rattle.before.specs.Answers.{hadPlan, hadWho, hadPass, hadFiled, hadAnswered, hadSwitched, hadListed, hadWhoIn, hadPassIn}
+use Rattle.before.specs.Planning.{hadPlan, hadWho, hadPass}
+use Rattle.before.specs.Answers.{hadFiled, hadAnswered, hadSwitched, hadListed, hadWhoIn, hadPassIn}
 
--- no line of the file is a 05 line, or a 07 line
+-- no line of the file is a 05 line, or a 07 line, or an 03 line
 abbrev pub NoMaskedLine : List ℕ → Type 0
 NoMaskedLine text = (k : ℕ) → 1 ≤ k → isMasked text k ≡ false
 
 abbrev pub NoInterruptLine : List ℕ → Type 0
 NoInterruptLine text = (k : ℕ) → 1 ≤ k → isInterrupt text k ≡ false
+
+abbrev pub NoCachedLine : List ℕ → Type 0
+NoCachedLine text = (k : ℕ) → 1 ≤ k → formed Frame.Cached (from text k) ≡ false
 
 -- the file is read, planned, printed, listed and asked of as it was then, refused or not
 pub record FileAsBefore (e : Earlier) (text : List ℕ) : Type 0 where
@@ -40,10 +48,12 @@ pub record FileAsBefore (e : Earlier) (text : List ℕ) : Type 0 where
   pub who : (p : ℕ) (x : Tick) → whoIn text p x ≡ hadWhoIn e text p x
   pub pass : (q R : ℕ) → passIn text q R ≡ hadPassIn e text q R
 
--- Every file without a 07 line gets the answer that it had before Req 08, byte for byte; without a 05 line either, before Req 04.
+-- Every file without an 03 line gets the answer that it had before Req 07, byte for byte; without a 07 line either, before Req 08; without
+-- a 05 line either, before Req 04.
 pub record FilesAsBefore : Type 0 where
-  pub interrupts : (text : List ℕ) → NoInterruptLine text → FileAsBefore before08 text
-  pub masked : (text : List ℕ) → NoMaskedLine text → NoInterruptLine text → FileAsBefore before04 text
+  pub cached : (text : List ℕ) → NoCachedLine text → FileAsBefore before07 text
+  pub interrupts : (text : List ℕ) → NoCachedLine text → NoInterruptLine text → FileAsBefore before08 text
+  pub masked : (text : List ℕ) → NoCachedLine text → NoMaskedLine text → NoInterruptLine text → FileAsBefore before04 text
 
 -- a set is planned, and its plan asked of, as it was then
 pub record SetAsBefore (e : Earlier) (set : TaskSet) : Type 0 where
@@ -51,10 +61,15 @@ pub record SetAsBefore (e : Earlier) (set : TaskSet) : Type 0 where
   pub who : (plan : Plan) (p : ℕ) (x : Tick) → whoRuns set plan p x ≡ hadWho e set plan p x
   pub pass : (plan : Plan) (q R : ℕ) → doesPass set plan q R ≡ hadPass e set plan q R
 
--- So is every set without interrupts that a caller hands in; without a 05 line either, as before Req 04.
+-- no task of the set has a cache cost of its own
+abbrev pub Uncached : TaskSet → Type 0
+Uncached set = Every (λ (t : Task). t .cache ≡ Absent) (members set)
+
+-- So is every such set that a caller hands in; without interrupts either, as before Req 08; without a 05 line either, as before Req 04.
 pub record SetsAsBefore : Type 0 where
-  pub interrupts : (set : TaskSet) → set .interrupts .count ≡ 0 → SetAsBefore before08 set
-  pub masked : (set : TaskSet) → set .interrupts .count ≡ 0 → set .header .masked ≡ Absent → SetAsBefore before04 set
+  pub cached : (set : TaskSet) → Uncached set → SetAsBefore before07 set
+  pub interrupts : (set : TaskSet) → Uncached set → set .interrupts .count ≡ 0 → SetAsBefore before08 set
+  pub masked : (set : TaskSet) → Uncached set → set .interrupts .count ≡ 0 → set .header .masked ≡ Absent → SetAsBefore before04 set
 
 -- the set with another 05 line, or none
 abbrev pub lined : TaskSet → Optional → TaskSet

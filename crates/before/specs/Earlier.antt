@@ -1,21 +1,26 @@
--- What a state of the tool before a request had of its own: which lines a task file admits, what a server of some members asks, and
--- row 11. All that follows from these stands once, over such a state (Reading, Planning, Answers). What no request has touched is cited
--- from where it stands. A set then had no interrupts.
+-- What a state of the tool before a request had of its own: which lines a task file admits, whether there were interrupts, what a server's
+-- loads ask, and row 11. All that follows from these stands once, over such a state (Reading, Planning, Answers). What no request has
+-- touched is cited from where it stands. An 03 line was LINE, so that what other rows say of one is never asked, and a task had no cache
+-- cost of its own.
 use Prim.Native.Nat.{ℕ, pred}
-use mathlib.Core.List.{List}
-use mathlib.Core.Bool.{Bool, not, _&&_, _||_}
+use mathlib.Core.List.{List, [], _∷_}
+use mathlib.Core.Bool.{Bool, true, false, not, cond, _&&_, _||_}
 use lib.ListN.{length}
 use lib.Dec.{eqb, ltb}
 use Rattle.demand.specs.Load.{Load}
 use Rattle.demand.specs.Demand.{demand}
 use Rattle.masking.specs.Masking.{maskedDemand}
 use Rattle.tasks.specs.declared.set.Header.{Header}
+use Rattle.tasks.specs.declared.set.Interrupt.{Interrupt}
+use Rattle.tasks.specs.declared.set.Task.{Task}
 use Rattle.tasks.specs.declared.set.TaskSet.{TaskSet}
-use Rattle.tasks.specs.Set.{mostTasks, members, maskedTicks}
+use Rattle.tasks.specs.Set.{mostTasks, members, interruptsIn, maskedTicks}
 use Rattle.tasks.specs.Search.{some}
-use Rattle.taskask.specs.Ask.{twiceRow, headerOverflows, taskOverflows, maskedOverflows}
-use Rattle.taskfile.specs.File.{present, isHeader, isTask, isMasked, firstLine, afterLast, headerAt, fileHeader, tasksAmong, fileTasks}
-use Rattle.loads.specs.Charge.{serverLoads}
+use Rattle.frames.specs.declared.table.Frame.{Frame}
+use Rattle.framesizes.specs.Overflow.{lineOverflows}
+use Rattle.taskask.specs.Ask.{countRow, twiceRow, headerOverflows, maskedOverflows, interruptOverflows}
+use Rattle.frameread.specs.Line.{formed}
+use Rattle.taskfile.specs.File.{from, present, isHeader, isTask, isMasked, isInterrupt, firstLine, afterLast, orderRow, countLineRow, headerAt, fileHeader, tasksAmong, fileTasks}
 
 pub record Earlier : Type 0 where
   -- rows 1 to 3 of reading: line k of a text is refused by LINE, by ORDER, by COUNT
@@ -24,10 +29,16 @@ pub record Earlier : Type 0 where
   pub count : List ℕ → ℕ → Bool
   -- the board's figures in a text
   pub header : List ℕ → Header
-  -- the demand of a server of these members
-  pub demand : Header → (members : List Load) → ℕ → ℕ
+  -- whether there were interrupts: 07 lines, what they ask beside every server's loads, and row 13
+  pub interrupts : Bool
+  -- what a server's loads ask
+  pub demand : Header → (loads : List Load) → ℕ → ℕ
   -- 11 ASK of a set
   pub asks : TaskSet → Bool
+
+-- of interrupts those that there were: all or none
+abbrev pub known : Earlier → List Interrupt → List Interrupt
+known e is = cond (e .interrupts) is []
 
 -- 3 COUNT of a set: no task, or a 65th
 unfoldable pub tasksMiscount : TaskSet → Bool
@@ -37,28 +48,59 @@ tasksMiscount set = eqb (set .count) 0 || ltb mostTasks (set .count)
 unfoldable pub oneTooMany : List ℕ → ℕ → Bool
 oneTooMany text k = isTask text k && eqb (length (tasksAmong text (pred k))) mostTasks
 
+-- line k is an 02 line
+abbrev pub isPlain : List ℕ → ℕ → Bool
+isPlain text k = formed Frame.Task (from text k)
+
+-- a figure of a task is too large for its field of an 02 line
+unfoldable pub plainOverflows : Task → Bool
+plainOverflows t = lineOverflows Frame.Task (t .id ∷ t .cost ∷ t .deadline ∷ t .period ∷ [])
+
+-- what loads ask where interrupts can be held off for B ticks
+abbrev pub heldOff : Header → (loads : List Load) → ℕ → ℕ
+heldOff h = maskedDemand (maskedTicks h)
+
 -- Before document 02, Req 04: lines are of kinds 01 and 02, COUNT for no task has the place 2, and a server asks what its loads ask.
 abbrev pub before04 : Earlier
 before04 =
     record {
-      line = λ text k. present text k && not (isHeader text k || isTask text k);
+      line = λ text k. present text k && not (isHeader text k || isPlain text k);
       order = λ text k. firstLine (eqb k 1) (not (isHeader text k)) (isHeader text k);
       count = λ text k. (eqb k 2 && eqb (length (fileTasks text)) 0) || oneTooMany text k;
       header = headerAt;
-      demand = λ h ms. demand (serverLoads h ms);
-      asks = λ set. tasksMiscount set || (twiceRow (members set) || (headerOverflows (set .header) || some taskOverflows (members set)));
+      interrupts = false;
+      demand = λ h. demand;
+      asks = λ set. tasksMiscount set || (twiceRow (members set) || (headerOverflows (set .header) || some plainOverflows (members set)));
     }
 
 -- Before document 02, Req 08: a 05 line may stand at line 2, and a server also asks for what it holds interrupts off.
 abbrev pub before08 : Earlier
 before08 =
     record {
-      line = λ text k. present text k && not (isHeader text k || (isTask text k || isMasked text k));
+      line = λ text k. present text k && not (isHeader text k || (isPlain text k || isMasked text k));
       order = λ text k. firstLine (eqb k 1) (not (isHeader text k)) (isHeader text k || (isMasked text k && not (eqb k 2)));
       count = λ text k. (afterLast text k && eqb (length (fileTasks text)) 0) || oneTooMany text k;
       header = fileHeader;
-      demand = λ h ms. maskedDemand (maskedTicks h) (serverLoads h ms);
+      interrupts = false;
+      demand = heldOff;
       asks = λ set.
           tasksMiscount set ||
-          (twiceRow (members set) || (headerOverflows (set .header) || (some taskOverflows (members set) || maskedOverflows (set .header .masked))));
+          (twiceRow (members set) || (headerOverflows (set .header) || (some plainOverflows (members set) || maskedOverflows (set .header .masked))));
+    }
+
+-- Before document 02, Req 07: 07 lines may stand behind the tasks, and there are interrupts.
+abbrev pub before07 : Earlier
+before07 =
+    record {
+      line = λ text k. present text k && not (isHeader text k || (isPlain text k || (isMasked text k || isInterrupt text k)));
+      order = orderRow;
+      count = countLineRow;
+      header = fileHeader;
+      interrupts = true;
+      demand = heldOff;
+      asks = λ set.
+          countRow set ||
+          (twiceRow (members set) ||
+          (headerOverflows (set .header) ||
+          (some plainOverflows (members set) || (maskedOverflows (set .header .masked) || some interruptOverflows (interruptsIn set)))));
     }

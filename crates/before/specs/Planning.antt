@@ -1,32 +1,36 @@
--- Planning a set, and the two questions, as they were before a request: over what a server asks, and whether row 11 holds. A server's
--- horizon has its members' periods, row 9 the tasks', and no task is refused for being alone.
-use Prim.Native.Nat.{ℕ}
+-- Planning a set, and the two questions, as they were before a request. Every member was charged with the header's cache cost, and so was
+-- every server's entry loss.
+use Prim.Native.Nat.{ℕ, _+_}
 use mathlib.Core.List.{List, [], _∷_, _++_, map}
-use mathlib.Core.Bool.{Bool, cond, _&&_}
-use lib.Dec.{ltb}
-use Rattle.refusals.specs.declared.Refusal.the-variants.{Slot, Tight, Horizon, Full, Ask}
+use mathlib.Core.Bool.{Bool, not, cond, _&&_, _||_}
+use lib.Dec.{leb, ltb}
+use Rattle.refusals.specs.declared.Refusal.the-variants.{Slot, Tight, Horizon, Full, Ask, Alone}
 use Rattle.refusals.specs.declared.Outcome.{Outcome}
 use Rattle.refusals.specs.First.{firstOf, when}
 use Rattle.wholes.specs.Multiple.{leastMultipleOf}
+use Rattle.charging.specs.Charging.{entryLoss}
 use Rattle.demand.specs.Load.{Load}
-use Rattle.verdict.specs.Verdict.{passing, verdictOf}
+use Rattle.interrupting.specs.Interrupts.{Bound, greatest}
+use Rattle.verdict.specs.Verdict.{ownHorizon, passing, verdictOf}
 use Rattle.verdict.specs.Reserve.{smallestReserve}
 use Rattle.verdict.specs.declared.answer.Verdict.{Verdict}
 use Rattle.tasks.specs.declared.set.Header.{Header}
 use Rattle.tasks.specs.declared.set.Task.{Task}
 use Rattle.tasks.specs.declared.set.TaskSet.{TaskSet}
-use Rattle.tasks.specs.Set.{members, longestHorizon}
+use Rattle.tasks.specs.Set.{members, interruptsIn, longestHorizon}
 use Rattle.tasks.specs.Search.{firstTask, atTask}
 use Rattle.reserves.specs.Reserves.{processorsOf}
 use Rattle.ring.specs.declared.clock.Tick.{Tick}
 use Rattle.ring.specs.Who.{whoOf}
 use Rattle.places.specs.Padded.{upTo}
 use Rattle.places.specs.Places.{chosen}
-use Rattle.loads.specs.Charge.{serverLoads, serverLoss}
+use Rattle.loads.specs.Charge.{chargedIn}
+use Rattle.loads.specs.Figures.{Figures, figuresOf}
 use Rattle.joining.specs.Join.{firstFit, join}
 use Rattle.servers.specs.Placement.{serversIn, Step, placeBy}
+use Rattle.byprocessor.specs.Interrupts.{byProcessor}
 use Rattle.setfigures.specs.Figures.{setFigures}
-use Rattle.tightrows.specs.Rows.{slotRow, tightRow}
+use Rattle.tightrows.specs.Rows.{slotRow}
 use Rattle.plan.specs.declared.plan.Plan.{Plan}
 use Rattle.layout.specs.Layout.{laidOut}
 use Rattle.planner.specs.declared.PlanAnswer.{PlanAnswer}
@@ -39,83 +43,115 @@ use Rattle.whoruns.specs.WhoRuns.{whoAnswer, refusedWho}
 use Rattle.named.specs.Named.{allowed, isServer}
 use Rattle.doespass.specs.declared.PassAnswer.{PassAnswer}
 use Rattle.doespass.specs.DoesPass.{passAnswer, refusedPass}
+use Rattle.before.specs.Earlier.{Earlier, known}
 use Rattle.before.specs.Reading.{hadFigures}
-
--- the demand of a server of these members
-abbrev pub Asking : Type 0
-Asking = (members : List Load) → ℕ → ℕ
 
 -- ---- a server
 
--- the least common multiple of S and the members' periods
-unfoldable pub serverHad : Header → (members : List Load) → ℕ
-serverHad h members = leastMultipleOf (h .slot) (map (λ (l : Load). l .period) (serverLoads h members))
+-- its loads and its entry loss: CpmdO is the header's
+unfoldable pub hadLoads : Header → (members : List Figures) → List Load
+hadLoads h members = map (chargedIn h (h .cpmdo)) members
+
+unfoldable pub hadLoss : Header → ℕ
+hadLoss h = entryLoss (h .resd) (h .cpmdo)
+
+-- the interrupts by processor, where there were any
+unfoldable pub hadBounds : Earlier → TaskSet → List Bound
+hadBounds e set = byProcessor (set .header .processors) (known e (interruptsIn set))
+
+-- the demand of a server of these members
+abbrev pub hadDemand : Earlier → TaskSet → (members : List Figures) → ℕ → ℕ
+hadDemand e set members t = e .demand (set .header) (hadLoads (set .header) members) t + greatest (set .header .processors) (hadBounds e set) t
+
+-- the least common multiple of S and the periods of the members and the interrupts
+abbrev pub ownHad : Earlier → TaskSet → (members : List Figures) → ℕ
+ownHad e set members = ownHorizon (set .header .slot) (hadLoads (set .header) members) (hadBounds e set)
 
 -- it passes with R, its smallest reserve, and the whole answer
-unfoldable pub passesBy : Asking → Header → (members : List Load) → (R : ℕ) → Bool
-passesBy g h members R = passing (g members) (serverHad h members) (h .slot) (serverLoss h members) R
+unfoldable pub hadPasses : Earlier → TaskSet → (members : List Figures) → (R : ℕ) → Bool
+hadPasses e set members R = passing (hadDemand e set members) (ownHad e set members) (set .header .slot) (hadLoss (set .header)) R
 
-unfoldable pub reserveBy : Asking → Header → (members : List Load) → ℕ
-reserveBy g h members = smallestReserve (g members) (serverHad h members) (h .slot) (serverLoss h members)
+unfoldable pub hadReserve : Earlier → TaskSet → (members : List Figures) → ℕ
+hadReserve e set members = smallestReserve (hadDemand e set members) (ownHad e set members) (set .header .slot) (hadLoss (set .header))
 
-unfoldable pub verdictBy : Asking → Header → (members : List Load) → (R : ℕ) → Verdict
-verdictBy g h members R = verdictOf (g members) (serverHad h members) (h .slot) (serverLoss h members) R
+unfoldable pub hadVerdict : Earlier → TaskSet → (members : List Figures) → (R : ℕ) → Verdict
+hadVerdict e set members R = verdictOf (hadDemand e set members) (ownHad e set members) (set .header .slot) (hadLoss (set .header)) R
 
 -- ---- a set
 
 -- each task in file order goes to the lowest-numbered server that passes with it and R = S, otherwise to a new one
-unfoldable pub fitBy : Asking → Header → Step
-fitBy g h done placement l =
-    join firstFit (λ (q : ℕ). passesBy g h (chosen done placement q ++ (l ∷ [])) (h .slot)) 0 (serversIn placement)
+unfoldable pub hadFit : Earlier → TaskSet → Step
+hadFit e set done placement l =
+    join firstFit (λ (q : ℕ). hadPasses e set (chosen done placement q ++ (l ∷ [])) (set .header .slot)) 0 (serversIn placement)
 
-unfoldable pub placementBy : Asking → TaskSet → List ℕ
-placementBy g set = placeBy (fitBy g (set .header)) [] [] (setFigures set)
+unfoldable pub hadPlacement : Earlier → TaskSet → List ℕ
+hadPlacement e set = placeBy (hadFit e set) [] [] (setFigures set)
 
-unfoldable pub reservesBy : Asking → TaskSet → List ℕ
-reservesBy g set =
-    upTo (λ (q : ℕ). reserveBy g (set .header) (chosen (setFigures set) (placementBy g set) q)) (serversIn (placementBy g set))
+-- the members of server q
+abbrev pub hadMembers : Earlier → TaskSet → (q : ℕ) → List Figures
+hadMembers e set q = chosen (setFigures set) (hadPlacement e set) q
 
-unfoldable pub madeBy : Asking → TaskSet → Plan
-madeBy g set = laidOut (set .header .slot) (set .header .cpmdo) (placementBy g set) (reservesBy g set)
+unfoldable pub hadReserves : Earlier → TaskSet → List ℕ
+hadReserves e set = upTo (λ (q : ℕ). hadReserve e set (hadMembers e set q)) (serversIn (hadPlacement e set))
 
--- the horizon H: the least common multiple of S and every T of the tasks
-unfoldable pub horizonHad : TaskSet → ℕ
-horizonHad set = leastMultipleOf (set .header .slot) (map (λ (t : Task). t .period) (members set))
+-- each server's cache cost is the header's
+unfoldable pub hadCaches : Earlier → TaskSet → List ℕ
+hadCaches e set = upTo (λ (q : ℕ). set .header .cpmdo) (serversIn (hadPlacement e set))
+
+unfoldable pub hadMade : Earlier → TaskSet → Plan
+hadMade e set = laidOut (set .header .slot) (hadCaches e set) (hadPlacement e set) (hadReserves e set)
+
+-- 8 TIGHT: a task has RelJ ≥ D or c > d
+unfoldable pub hadTight : Header → Task → Bool
+hadTight h t =
+    let l = chargedIn h (h .cpmdo) (figuresOf h t) in
+    leb (t .deadline) (h .relj) || ltb (l .deadline) (l .cost)
+
+-- the horizon H: the least common multiple of S and every T of the tasks and the interrupts
+unfoldable pub horizonHad : Earlier → TaskSet → ℕ
+horizonHad e set =
+    leastMultipleOf (set .header .slot) (map (λ (t : Task). t .period) (members set) ++ map (λ (b : Bound). b .load .period) (hadBounds e set))
 
 -- rows 5 to 9
-unfoldable pub hadCharged : TaskSet → Outcome
-hadCharged set =
-    firstOf (hadFigures set)
+unfoldable pub hadCharged : Earlier → TaskSet → Outcome
+hadCharged e set =
+    firstOf (hadFigures e set)
     (firstOf (atTask Slot (firstTask (slotRow (set .header)) (members set)))
-    (firstOf (atTask Tight (firstTask (tightRow (set .header)) (members set))) (when (ltb longestHorizon (horizonHad set)) Horizon)))
+    (firstOf (atTask Tight (firstTask (hadTight (set .header)) (members set))) (when (ltb longestHorizon (horizonHad e set)) Horizon)))
 
-unfoldable pub neededBy : Asking → TaskSet → ℕ
-neededBy g set = processorsOf (set .header .slot) (reservesBy g set)
+-- 13 ALONE, where there were interrupts: a server of this task alone fails with a whole processor
+unfoldable pub hadAlone : Earlier → TaskSet → Task → Bool
+hadAlone e set t = e .interrupts && not (hadPasses e set (figuresOf (set .header) t ∷ []) (set .header .slot))
 
--- 11 first, where it holds; then rows 5 to 10
-unfoldable pub outcomeBy : Asking → (ask : Bool) → TaskSet → Outcome
-outcomeBy g ask set =
-    firstOf (when ask Ask) (firstOf (hadCharged set) (when (ltb (set .header .processors) (neededBy g set)) (Full (neededBy g set))))
+unfoldable pub hadNeeded : Earlier → TaskSet → ℕ
+hadNeeded e set = processorsOf (set .header .slot) (hadReserves e set)
 
-unfoldable pub planBy : Asking → (ask : Bool) → TaskSet → PlanAnswer
-planBy g ask set = answer (outcomeBy g ask set) (madeBy g set)
+-- 11 first; then rows 5 to 9, 13, and 10
+unfoldable pub hadOutcome : Earlier → TaskSet → Outcome
+hadOutcome e set =
+    firstOf (when (e .asks set) Ask)
+    (firstOf (hadCharged e set)
+    (firstOf (atTask Alone (firstTask (hadAlone e set) (members set)))
+    (when (ltb (set .header .processors) (hadNeeded e set)) (Full (hadNeeded e set)))))
+
+unfoldable pub hadPlan : Earlier → TaskSet → PlanAnswer
+hadPlan e set = answer (hadOutcome e set) (hadMade e set)
 
 -- ---- the questions
 
 -- the planner makes this plan of this set
-unfoldable pub makesBy : Asking → (ask : Bool) → TaskSet → Plan → Bool
-makesBy g ask set plan = isDone (outcomeBy g ask set) && agrees (set .count) plan (madeBy g set)
+unfoldable pub hadMakes : Earlier → TaskSet → Plan → Bool
+hadMakes e set plan = isDone (hadOutcome e set) && agrees (set .count) plan (hadMade e set)
 
 -- who runs on processor p at tick x
-unfoldable pub whoBy : Asking → (ask : Bool) → TaskSet → Plan → (p : ℕ) → Tick → WhoAnswer
-whoBy g ask set plan p x =
-    cond (makesBy g ask set plan && isProcessor plan p) (whoAnswer (whoOf (set .header .slot) (reservesBy g set) p x)) (refusedWho Ask)
+unfoldable pub hadWho : Earlier → TaskSet → Plan → (p : ℕ) → Tick → WhoAnswer
+hadWho e set plan p x =
+    cond (hadMakes e set plan && isProcessor plan p) (whoAnswer (whoOf (set .header .slot) (hadReserves e set) p x)) (refusedWho Ask)
 
 -- does server q pass with R
-unfoldable pub passBy : Asking → (ask : Bool) → TaskSet → Plan → (q R : ℕ) → PassAnswer
-passBy g ask set plan q R =
-    let members = chosen (setFigures set) (placementBy g set) q in
+unfoldable pub hadPass : Earlier → TaskSet → Plan → (q R : ℕ) → PassAnswer
+hadPass e set plan q R =
     cond
-    (makesBy g ask set plan && (isServer plan q && allowed (set .header .slot) (serverLoss (set .header) members) R))
-    (passAnswer (verdictBy g (set .header) members R))
+    (hadMakes e set plan && (isServer plan q && allowed (set .header .slot) (hadLoss (set .header)) R))
+    (passAnswer (hadVerdict e set (hadMembers e set q) R))
     (refusedPass Ask)

@@ -1,18 +1,18 @@
 -- Reading a task file as it was before a request.
 use Prim.Native.Nat.{ℕ, _+_}
-use mathlib.Core.List.{List, []}
+use mathlib.Core.List.{List}
 use lib.ListN.{length}
 use Rattle.refusals.specs.declared.Refusal.the-variants.{Line, Order, Count, Twice, Board, Range}
 use Rattle.refusals.specs.declared.Outcome.{Outcome}
 use Rattle.refusals.specs.First.{firstOf, when, till}
 use Rattle.tasks.specs.declared.set.TaskSet.{TaskSet}
-use Rattle.tasks.specs.Set.{members, setOf}
+use Rattle.tasks.specs.Set.{members, interruptsIn, setOf}
 use Rattle.tasks.specs.Search.{firstTask, atTask}
-use Rattle.taskrows.specs.Rows.{boardRow, rangeRow}
-use Rattle.taskfile.specs.File.{twiceLineRow, fileTasks}
+use Rattle.taskrows.specs.Rows.{boardRow, rangeRow, interruptRow, rangeAt}
+use Rattle.taskfile.specs.File.{twiceLineRow, fileTasks, fileInterrupts}
 use Rattle.taskread.specs.declared.read.ReadAnswer.{ReadAnswer}
 use Rattle.taskread.specs.Read.{answer}
-use Rattle.before.specs.Earlier.{Earlier}
+use Rattle.before.specs.Earlier.{Earlier, known}
 
 -- at one line the lowest number wins
 unfoldable pub hadLine : Earlier → List ℕ → ℕ → Outcome
@@ -22,15 +22,18 @@ hadLine e text k =
     (firstOf (when (e .count text k) (Count k)) (when (twiceLineRow text k) (Twice k))))
 
 unfoldable pub hadSet : Earlier → List ℕ → TaskSet
-hadSet e text = setOf (e .header text) (fileTasks text) []
+hadSet e text = setOf (e .header text) (fileTasks text) (known e (fileInterrupts text))
 
 -- rows 5 and 6
-unfoldable pub hadFigures : TaskSet → Outcome
-hadFigures set = firstOf (when (boardRow (set .header)) Board) (atTask Range (firstTask rangeRow (members set)))
+unfoldable pub hadFigures : Earlier → TaskSet → Outcome
+hadFigures e set =
+    firstOf (when (boardRow (set .header)) Board)
+    (firstOf (atTask Range (firstTask rangeRow (members set)))
+    (atTask rangeAt (firstTask (interruptRow (set .header .processors)) (known e (interruptsIn set)))))
 
 -- the lines in order, then rows 5 and 6
 unfoldable pub hadReadOutcome : Earlier → List ℕ → Outcome
-hadReadOutcome e text = firstOf (till (hadLine e text) (length text + 2)) (hadFigures (hadSet e text))
+hadReadOutcome e text = firstOf (till (hadLine e text) (length text + 2)) (hadFigures e (hadSet e text))
 
 unfoldable pub hadRead : Earlier → List ℕ → ReadAnswer
 hadRead e text = answer (hadReadOutcome e text) (hadSet e text)

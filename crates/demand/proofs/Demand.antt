@@ -11,7 +11,7 @@ use lib.Arith.{le-zero}
 use lib.ListN.{length, length-append}
 use Rattle.laws.proofs.Orders.{le-or-lt}
 use Rattle.laws.proofs.Choices.{cond-leb, cond-leb-not}
-use Rattle.demand.specs.Load.{Load, Sound, Meets, Small, Every, Loaded, loadAt, loadsOf}
+use Rattle.demand.specs.Load.{Load, Sound, Meets, Small, Every, Loaded, each, loadAt, loadsOf}
 use Rattle.demand.specs.Demand.{jobs, demand}
 use Rattle.demand.specs.Steps.{Step}
 
@@ -107,7 +107,7 @@ term-room l t s m h =
 
 -- ---- lists of loads
 
-pub every-snoc : (P : Load → Type 0) (ls : List Load) (l : Load) → Every P ls → P l → Every P (ls ++ (l ∷ []))
+pub every-snoc : {A : Type 0} (P : A → Type 0) (ls : List A) (l : A) → Every P ls → P l → Every P (ls ++ (l ∷ []))
 every-snoc P [] l e p = (p, tt)
 every-snoc P (x ∷ ls) l e p = (e .0, every-snoc P ls l (e .1) p)
 
@@ -115,11 +115,11 @@ pub every-append : (P : Load → Type 0) (ls ks : List Load) → Every P ls → 
 every-append P [] ks e f = f
 every-append P (x ∷ ls) ks e f = (e .0, every-append P ls ks (e .1) f)
 
-pub every-front : (P : Load → Type 0) (ls : List Load) (l : Load) → Every P (ls ++ (l ∷ [])) → Every P ls
+pub every-front : {A : Type 0} (P : A → Type 0) (ls : List A) (l : A) → Every P (ls ++ (l ∷ [])) → Every P ls
 every-front P [] l e = tt
 every-front P (x ∷ ls) l e = (e .0, every-front P ls l (e .1))
 
-pub every-last : (P : Load → Type 0) (ls : List Load) (l : Load) → Every P (ls ++ (l ∷ [])) → P l
+pub every-last : {A : Type 0} (P : A → Type 0) (ls : List A) (l : A) → Every P (ls ++ (l ∷ [])) → P l
 every-last P [] l e = e .0
 every-last P (x ∷ ls) l e = every-last P ls l (e .1)
 
@@ -206,43 +206,45 @@ demand-first l ls s =
     let e : jobs (l .deadline) (l .period) (l .deadline) ≡ q + 1 = jobs-due (l .period) (le-refl (l .deadline)) in
     rw e (omega arith)
 
+-- ---- what a function gives for the first numbers
+
+module _ {A : Type 0} (f : ℕ → A) where
+  pub each-next : (i : ℕ) → each f (i + 1) ≡ each f i ++ (f i ∷ [])
+  unfolding each
+  each-next i = rw (add-one i)
+
+  pub each-length : (n : ℕ) → length (each f n) ≡ n
+  unfolding each
+  each-length zero = refl
+  each-length (suc n) = length-append (each f n) (f n ∷ []) ∙ omega (arith, each-length n)
+
+  -- what holds of the first n holds of the first i, and of each
+  pub every-first : (P : A → Type 0) (n : ℕ) {i : ℕ} → i ≤ n → Every P (each f n) → Every P (each f i)
+  unfolding each
+  every-first P zero h e = subst (λ (k : ℕ). Every P (each f k)) (sym (le-zero h)) e
+  every-first P (suc n) h e =
+      ⊎-elim
+      (λ p. every-first P n p (every-front P (each f n) (f n) e))
+      (λ q. subst (λ (k : ℕ). Every P (each f k)) (sym q) e)
+      (le-suc-iff .0 h)
+
+  pub every-at : (P : A → Type 0) (n : ℕ) {i : ℕ} → i < n → Every P (each f n) → P (f i)
+  every-at P n {i} h e =
+      every-last P (each f i) (f i) (rw (each-next i) at (every-first P n {i = i + 1} (omega arith) e))
+
 -- ---- the loads that stand in a slice
 
 module _ (numbers : List ℕ) where
-  pub loads-next : (i : ℕ) → loadsOf numbers (i + 1) ≡ loadsOf numbers i ++ (loadAt numbers i ∷ [])
-  unfolding loadsOf
-  loads-next i = rw (add-one i)
-
-  pub loads-length : (n : ℕ) → length (loadsOf numbers n) ≡ n
-  unfolding loadsOf
-  loads-length zero = refl
-  loads-length (suc n) =
-      length-append (loadsOf numbers n) (loadAt numbers n ∷ []) ∙ omega (arith, loads-length n)
-
-  -- what holds of the first n loads holds of the first i, and of each
-  pub every-first : (P : Load → Type 0) (n : ℕ) {i : ℕ} → i ≤ n → Every P (loadsOf numbers n) → Every P (loadsOf numbers i)
-  unfolding loadsOf
-  every-first P zero h e = subst (λ (k : ℕ). Every P (loadsOf numbers k)) (sym (le-zero h)) e
-  every-first P (suc n) h e =
-      ⊎-elim
-      (λ p. every-first P n p (every-front P (loadsOf numbers n) (loadAt numbers n) e))
-      (λ q. subst (λ (k : ℕ). Every P (loadsOf numbers k)) (sym q) e)
-      (le-suc-iff .0 h)
-
-  pub every-at : (P : Load → Type 0) (n : ℕ) {i : ℕ} → i < n → Every P (loadsOf numbers n) → P (loadAt numbers i)
-  every-at P n {i} h e =
-      every-last P (loadsOf numbers i) (loadAt numbers i) (rw (loads-next i) at (every-first P n {i = i + 1} (omega arith) e))
-
   -- the demand of one load more
   pub demand-next : (i t : ℕ) →
       demand (loadsOf numbers (i + 1)) t ≡ demand (loadsOf numbers i) t + loadAt numbers i .cost * jobs (loadAt numbers i .deadline) (loadAt numbers i .period) t
   demand-next i t =
-      rw (loads-next i) (demand-snoc (loadsOf numbers i) (loadAt numbers i) t)
+      rw (each-next (loadAt numbers) i) (demand-snoc (loadsOf numbers i) (loadAt numbers i) t)
 
   -- the demand of the first i of few loads leaves room in 64 bits
   pub demand-room : (n i t : ℕ) → Loaded numbers n → i ≤ n → t < 2 ^ 36 → demand (loadsOf numbers i) t < 2 ^ 63
   demand-room n i t h g p =
       let all : demand (loadsOf numbers i) t ≤ i * mostTerm =
-      le-trans (demand-small (loadsOf numbers i) t (every-first Sound n g (h .sound)) (every-first Small n g (h .small)) p)
-      (rw (loads-length i) (le-refl (i * mostTerm))) in
+      le-trans (demand-small (loadsOf numbers i) t (every-first (loadAt numbers) Sound n g (h .sound)) (every-first (loadAt numbers) Small n g (h .small)) p)
+      (rw (each-length (loadAt numbers) i) (le-refl (i * mostTerm))) in
       omega (arith, h .few)

@@ -6,8 +6,8 @@ use mathlib.Core.List.{List, [], _∷_, _++_}
 use native.Mathlib.Omega.{arith}
 use lib.ListN.{length, set, getD, length-set}
 use lib.Seq.{getD-set-same, getD-set-other}
-use Rattle.demand.specs.Load.{Load, loadAt, loadsOf}
-use Rattle.demand.proofs.Demand.{loads-next}
+use Rattle.demand.specs.Load.{each, Load, loadAt, loadsOf}
+use Rattle.demand.proofs.Demand.{each-next}
 
 -- slices that agree at a load's three places have the same load there
 pub load-same : (xs ys : List ℕ) (i : ℕ) → ((j : ℕ) → j < 3 * i + 3 → getD xs j 0 ≡ getD ys j 0) → loadAt xs i ≡ loadAt ys i
@@ -16,7 +16,7 @@ load-same xs ys i same =
 
 -- slices that agree at the first 3·n places have the same first n loads
 pub loads-same : (xs ys : List ℕ) (n : ℕ) → ((j : ℕ) → j < 3 * n → getD xs j 0 ≡ getD ys j 0) → loadsOf xs n ≡ loadsOf ys n
-unfolding loadsOf
+unfolding each
 loads-same xs ys zero same = refl
 loads-same xs ys (suc n) same =
     ap₂ (λ (ls : List Load) (l : Load). ls ++ (l ∷ []))
@@ -56,5 +56,5 @@ module _ (numbers : List ℕ) (i : ℕ) (l : Load) where
   -- so there is one load more
   pub put-next : 3 * i + 3 ≤ length numbers → loadsOf (putLoad numbers i l) (i + 1) ≡ loadsOf numbers i ++ (l ∷ [])
   put-next h =
-      loads-next (putLoad numbers i l) i ∙
+      each-next (loadAt (putLoad numbers i l)) i ∙
       ap₂ (λ (ls : List Load) (k : Load). ls ++ (k ∷ [])) (put-keeps (omega arith)) (put-there h)

@@ -24,18 +24,22 @@ pub record Small (l : Load) : Type 0 where
   pub cost-small : l .cost ≤ l .period + 2 ^ 18
   pub period-small : l .period < 2 ^ 36
 
-abbrev pub Every : (Load → Type 0) → List Load → Type 0
+abbrev pub Every : {A : Type 0} → (A → Type 0) → List A → Type 0
 Every P [] = Unit {0}
-Every P (l ∷ ls) = P l × Every P ls
+Every P (x ∷ xs) = P x × Every P xs
+
+-- f 0, f 1, .. f (n − 1)
+unfoldable pub each : {A : Type 0} → (ℕ → A) → ℕ → List A
+each f zero = []
+each f (suc n) = each f n ++ (f n ∷ [])
 
 -- the i-th load of a slice, from 0
 abbrev pub loadAt : (numbers : List ℕ) → ℕ → Load
 loadAt numbers i = record { cost = getD numbers (3 * i) 0; deadline = getD numbers (3 * i + 1) 0; period = getD numbers (3 * i + 2) 0 }
 
 -- the first n loads of a slice, in order
-unfoldable pub loadsOf : (numbers : List ℕ) → ℕ → List Load
-loadsOf numbers zero = []
-loadsOf numbers (suc n) = loadsOf numbers n ++ (loadAt numbers n ∷ [])
+abbrev pub loadsOf : (numbers : List ℕ) → ℕ → List Load
+loadsOf numbers n = each (loadAt numbers) n
 
 -- what a function over a slice of loads asks of it
 pub record Loaded (numbers : List ℕ) (n : ℕ) : Type 0 where

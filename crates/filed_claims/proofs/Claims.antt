@@ -20,7 +20,8 @@ use Rattle.tasks.specs.declared.set.Interrupt.{Interrupt}
 use Rattle.tasks.specs.declared.set.Task.{Task}
 use Rattle.tasks.specs.declared.set.TaskSet.{TaskSet}
 use Rattle.tasks.specs.Set.{mostTasks, maskedTicks, members as set-members, interruptsIn, zeroTask}
-use Rattle.loads.specs.Charge.{figuresOf, Member}
+use Rattle.loads.specs.Charge.{Member}
+use Rattle.loads.specs.Figures.{Figures, figuresOf}
 use Rattle.loads.proofs.ChargeLaws.{loads-many, loads-sound, loads-period}
 use Rattle.servers.specs.Placement.{placementOf}
 use Rattle.members.proofs.FiledLaws.{every-chosen}
@@ -29,8 +30,8 @@ use Rattle.setfigures.specs.Figures.{setFigures}
 use Rattle.setfigures.specs.Board.{setInterrupts, setBoard}
 use Rattle.rows.specs.Rows.{horizonOf, Chargeable}
 use Rattle.setfigures.proofs.FigureLaws.{figures-length}
-use Rattle.rows.proofs.InterruptLaws.{each-on, set-sound, loads-divide}
-use Rattle.rows.proofs.Clears.{horizon-least, horizon-short, interrupts-of-horizon, set-filed}
+use Rattle.rows.proofs.InterruptLaws.{each-on, set-sound, figures-divide}
+use Rattle.rows.proofs.Clears.{horizon-least, horizon-short, interrupts-of-horizon, set-costs, set-filed}
 use Rattle.plan.specs.declared.plan.Plan.{Plan}
 use Rattle.plan.specs.Plan.{serverAt}
 use Rattle.layout.specs.Made.{setPlacement}
@@ -67,7 +68,7 @@ module _ (set : TaskSet) (plan : Plan) (full : length (set .tasks) ≡ mostTasks
   -- its tasks are placed by first fit
   placed-first : (k : ℕ) → 1 ≤ k → k ≤ set .count → PlacedFirst set plan k
   placed-first k some there =
-      row-goes (setBoard set) (setFigures set) (board set full (known .clear)) (members set full (known .clear)) (k - 1) (figuresOf zeroTask)
+      row-goes (setBoard set) (setFigures set) (board set full (known .clear)) (members set full (known .clear)) (k - 1) (figuresOf (set .header) zeroTask)
       (omega (arith, figures-length set (fits set full (known .clear)))) (plan .placement) (set .count) (omega arith) placed-same
 
   -- what holds of every figure holds of those of a server
@@ -100,15 +101,15 @@ module _ (set : TaskSet) (plan : Plan) (full : length (set .tasks) ≡ mostTasks
 
   -- the set's horizon is a multiple of the periods of a server
   horizon-some : 1 ≤ horizonOf set
-  horizon-some = set-filed set (fits set full (known .clear)) chargeable (rows-clear set full (known .clear) .horizon) refl refl .some
+  horizon-some = set-filed set (fits set full (known .clear)) chargeable (set-costs set (known .clear .carried)) (rows-clear set full (known .clear) .horizon) refl refl .some
 
-  periods : Every (λ (l : Load). l .period ∣ horizonOf set) (setFigures set)
-  periods = loads-divide (setFigures set) (setInterrupts set) (horizonOf set) (horizon-least set .of-others)
+  periods : Every (λ (f : Figures). f .period ∣ horizonOf set) (setFigures set)
+  periods = figures-divide (setFigures set) (setInterrupts set) (horizonOf set) (horizon-least set .of-others)
 
   divides : (q : ℕ) → Every (λ (l : Load). l .period ∣ horizonOf set) (loadsIn set plan q)
   divides q =
       loads-period (set .header) (membersIn set plan q) (λ (p : ℕ). p ∣ horizonOf set)
-      (every-chosen (λ (l : Load). l .period ∣ horizonOf set) (setFigures set) (take (set .count) (plan .placement)) q periods)
+      (every-chosen (λ (f : Figures). f .period ∣ horizonOf set) (setFigures set) (take (set .count) (plan .placement)) q periods)
 
   in-file-order : LeastMultipleOf (set .header .slot) (map (λ (t : Task). t .period) (set-members set) ++ map (λ (i : Interrupt). i .period) (interruptsIn set)) (horizonOf set)
   unfolding horizonOf setInterrupts

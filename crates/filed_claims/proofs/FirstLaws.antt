@@ -1,24 +1,25 @@
 -- First fit at each place of the planner's placement, and of any row of servers that begins with it.
 -- Assumes nothing.
-use Prim.Native.Nat.{ℕ, suc, _≤_, _<_}
+use Prim.Native.Nat.{ℕ, suc, _<_}
 use mathlib.Core.Path.{_≡_, sym, ap, subst, subst₂, _∙_}
 use mathlib.Core.Logic.{_⊎_}
 use mathlib.Core.List.{List, _∷_, _++_}
 use native.Mathlib.Omega.{arith}
 use lib.ListN.{length, getD, take, drop}
 use lib.Seq.{split-at, length-take-le, take-take, getD-take}
-use Rattle.demand.specs.Load.{Load, Every}
+use Rattle.demand.specs.Load.{Every}
 use Rattle.loads.specs.Charge.{Member}
+use Rattle.loads.specs.Figures.{Figures}
 use Rattle.members.specs.Server.{Board, SoundBoard}
 use Rattle.servers.specs.Placement.{placementOf}
 use Rattle.servers.specs.Claims.{Lowest, Opened}
 use Rattle.servers.proofs.Claims.{first-fit}
 
 -- the task goes to the lowest-numbered server that passes with it, or to a new one
-abbrev pub Goes : Board → (done : List Load) → (placement : List ℕ) → Load → (q : ℕ) → Type 0
-Goes b done placement l q = Lowest b done placement l q ⊎ Opened b done placement l q
+abbrev pub Goes : Board → (done : List Figures) → (placement : List ℕ) → Figures → (q : ℕ) → Type 0
+Goes b done placement f q = Lowest b done placement f q ⊎ Opened b done placement f q
 
-module _ (b : Board) (figures : List Load) (sound : SoundBoard b) (members : Every (Member (b .header)) figures) (n : ℕ) (d : Load) (there : n < length figures) where
+module _ (b : Board) (figures : List Figures) (sound : SoundBoard b) (members : Every (Member (b .header)) figures) (n : ℕ) (d : Figures) (there : n < length figures) where
   -- the placement, its figures parted at place n
   abbrev all : List ℕ
   all = placementOf b (take n figures ++ (getD figures n d ∷ drop (suc n) figures))

@@ -28,7 +28,8 @@ use Rattle.taskfile.specs.File.{fileInterrupts}
 use Rattle.tasktext.specs.Text.{textOf}
 use Rattle.taskwrite.specs.Write.{writeOf}
 use Rattle.ring.specs.declared.clock.Tick.{Tick}
-use Rattle.loads.specs.Charge.{figuresOf, serverLoads, serverLoss}
+use Rattle.loads.specs.Charge.{serverLoads, serverLoss}
+use Rattle.loads.specs.Figures.{Figures, figuresOf}
 use Rattle.members.specs.Server.{serverDemand}
 use Rattle.servers.specs.Claims.{Lowest, Opened}
 use Rattle.setfigures.specs.Figures.{setFigures}
@@ -73,8 +74,8 @@ FileFull = (text : List ℕ) → length (setIn text .tasks) ≡ mostTasks
 -- ---- first fit in file order
 
 -- the own figures of task k; tasks count from 1
-abbrev pub figuresAt : TaskSet → (k : ℕ) → Load
-figuresAt set k = getD (setFigures set) (k - 1) (figuresOf zeroTask)
+abbrev pub figuresAt : TaskSet → (k : ℕ) → Figures
+figuresAt set k = getD (setFigures set) (k - 1) (figuresOf (set .header) zeroTask)
 
 -- Task k is in the lowest-numbered server that passes with it, beside those of the n tasks before it that the plan has there; or it
 -- opened the next server, since none passes with it.

@@ -6,11 +6,12 @@ use mathlib.Core.List.{List}
 use native.Mathlib.Numerals.{sub-one}
 use native.Mathlib.Omega.{arith}
 use lib.ListN.{getD}
-use Rattle.demand.specs.Load.{Load, Every}
+use Rattle.demand.specs.Load.{Every}
 use Rattle.verdict.specs.Reserve.{Smallest}
 use Rattle.tasks.specs.declared.set.TaskSet.{TaskSet}
 use Rattle.places.specs.Places.{chosen}
 use Rattle.loads.specs.Charge.{Member, serverLoss}
+use Rattle.loads.specs.Figures.{Figures}
 use Rattle.members.specs.Server.{SoundBoard, serverDemand, serverHorizon}
 use Rattle.members.proofs.FiledLaws.{every-chosen}
 use Rattle.members.proofs.ServerLaws.{server-lawful}
@@ -35,7 +36,7 @@ module _ (set : TaskSet) (placement : List ℕ) (clear : Chargeable set) (fittin
   ok = figures-members set clear
 
   -- the members of server q
-  abbrev ms : ℕ → List Load
+  abbrev ms : ℕ → List Figures
   ms q = chosen (setFigures set) placement q
 
   members-ok : (q : ℕ) → Every (Member (set .header)) (ms q)

@@ -1,3 +1,4 @@
 pub mod FillLaws
 pub mod LinesLaws
 pub mod EachLaws
+pub mod EachPutLaws

@@ -11,7 +11,7 @@ use lib.ListN.{length, getD, take, replicate}
 use lib.Seq.{getD-take, take-all}
 use borrow.Author.Tests.{leb-true, eqb-true}
 use Rattle.frames.specs.declared.table.Frame.{Frame}
-use Rattle.frames.specs.declared.table.Frame.the-variants.{Header, Task, Masked, Interrupt, Plan, Server, Placed, Processor, Refused, Switch, Accepted, Met}
+use Rattle.frames.specs.declared.table.Frame.the-variants.{Header, Task, Cached, Masked, Interrupt, Plan, Server, Placed, Processor, Refused, Switch, Accepted, Met}
 use Rattle.digits.specs.Digit.{legal, allLegal}
 use Rattle.frames.specs.Table.{allFrames, kindOf, widthsOf, fieldsIn, mostFields, mostWidth, mostDigits, sum, widthOf, fieldStart, lengthOf, front, rowOf, indexOf}
 use Rattle.laws.specs.Same.{same}
@@ -21,6 +21,7 @@ use Rattle.laws.proofs.Tests.{and-left, and-right}
 pub at-index : {B : Type 0} (g : Frame → B) (other : B) (frame : Frame) → getD (map g allFrames) (indexOf frame) other ≡ g frame
 at-index g other Header = refl
 at-index g other Task = refl
+at-index g other Cached = refl
 at-index g other Masked = refl
 at-index g other Interrupt = refl
 at-index g other Plan = refl

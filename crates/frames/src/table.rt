@@ -7,6 +7,7 @@ ghost use Rattle.frames.specs.Table.{rowOf};
 pub enum Frame {
     Header,
     Task,
+    Cached,
     Masked,
     Interrupt,
     Plan,
@@ -20,7 +21,7 @@ pub enum Frame {
 }
 
 // The number of kinds, and the most fields that one of them has.
-pub const KINDS: usize = 12;
+pub const KINDS: usize = 13;
 
 pub const MOST_FIELDS: usize = 7;
 
@@ -35,6 +36,7 @@ pub struct Row {
 pub const FRAMES: [Frame; KINDS] = [
     Frame::Header,
     Frame::Task,
+    Frame::Cached,
     Frame::Masked,
     Frame::Interrupt,
     Frame::Plan,
@@ -59,6 +61,13 @@ const TASK: Row = Row {
     fields: 4,
     widths: [2, 6, 6, 6, 0, 0, 0],
     starts: [2, 4, 10, 16, 22, 22, 22, 22],
+};
+
+const CACHED: Row = Row {
+    kind: *b"03",
+    fields: 5,
+    widths: [2, 6, 6, 6, 4, 0, 0],
+    starts: [2, 4, 10, 16, 22, 26, 26, 26],
 };
 
 const MASKED: Row = Row {
@@ -134,6 +143,7 @@ const MET: Row = Row {
 pub const TABLE: [Row; KINDS] = [
     HEADER,
     TASK,
+    CACHED,
     MASKED,
     INTERRUPT,
     PLAN,
@@ -153,6 +163,7 @@ pub fn row_of(frame: Frame) -> Row
     match frame {
         Frame::Header => HEADER,
         Frame::Task => TASK,
+        Frame::Cached => CACHED,
         Frame::Masked => MASKED,
         Frame::Interrupt => INTERRUPT,
         Frame::Plan => PLAN,

@@ -1,8 +1,10 @@
 // A set and a plan that are handed in as numbers, in the order of their fields, unused room too: the numbers, and where the parts stand.
 // What they are stands in specs/Handed.antt.
+use tasks::set::Optional;
 use tasks::set::TaskSet;
 ghost use mathlib.Core.Path.{_≡_};
-ghost use Rattle.handed.specs.Handed.{numberAt};
+ghost use Prim.Native.Nat.{_≤_};
+ghost use Rattle.handed.specs.Handed.{numberAt, optionalFrom, mostNumbers};
 
 pub const BYTE: u64 = 256;
 
@@ -12,7 +14,7 @@ pub const WORD: u64 = 4_294_967_296;
 
 pub const TASKS: usize = 10;
 
-pub const INTERRUPTS: usize = TASKS + 4 * TaskSet::MOST_TASKS;
+pub const INTERRUPTS: usize = TASKS + 6 * TaskSet::MOST_TASKS;
 
 pub const SERVERS: usize = 5;
 
@@ -27,4 +29,15 @@ pub fn number_at(numbers: &[u64], i: usize) -> u64
     ensures { λ r. ⌜ r ≡ numberAt (now (numbers .entry)) i ⌝ }
 {
     if i < numbers.len() { numbers[i] } else { 0 }
+}
+
+// The figure of an optional line or field, where there is one: two numbers from `at` on.
+pub fn optional_from(numbers: &[u64], at: usize) -> Optional
+    requires { ⌜ at ≤ mostNumbers ⌝ }
+    ensures { λ r. ⌜ r ≡ optionalFrom (now (numbers .entry)) at ⌝ }
+{
+    if number_at(numbers, at) == 0 {
+        return Optional::Absent;
+    }
+    Optional::Given((number_at(numbers, at + 1) % HALF) as u16)
 }

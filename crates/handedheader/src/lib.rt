@@ -3,20 +3,10 @@ use handed::BYTE;
 use handed::HALF;
 use handed::WORD;
 use handed::number_at;
+use handed::optional_from;
 use tasks::set::Header;
-use tasks::set::Optional;
 ghost use mathlib.Core.Path.{_≡_};
-ghost use Rattle.handedheader.specs.Header.{maskedFrom, headerFrom};
-
-// The figure of the 05 line, where there is one.
-fn masked_from(numbers: &[u64]) -> Optional
-    ensures { λ r. ⌜ r ≡ maskedFrom (now (numbers .entry)) ⌝ }
-{
-    if number_at(numbers, 8) == 0 {
-        return Optional::Absent;
-    }
-    Optional::Given((number_at(numbers, 9) % HALF) as u16)
-}
+ghost use Rattle.handedheader.specs.Header.{headerFrom};
 
 pub fn header_from(numbers: &[u64]) -> Header
     ensures { λ r. ⌜ r ≡ headerFrom (now (numbers .entry)) ⌝ }
@@ -29,6 +19,6 @@ pub fn header_from(numbers: &[u64]) -> Header
         ctswo: (number_at(numbers, 5) % HALF) as u16,
         resd: (number_at(numbers, 6) % HALF) as u16,
         cpmdo: (number_at(numbers, 7) % HALF) as u16,
-        masked: masked_from(numbers),
+        masked: optional_from(numbers, 8),
     }
 }

@@ -57,7 +57,9 @@ pub fn header_line(text: &[u8]) -> HeaderLine
     };
     match frame {
         Frame::Header => HeaderLine::Header(header_at(text)),
-        Frame::Task | Frame::Masked | Frame::Interrupt => HeaderLine::Refused(Refusal::Order(1)),
+        Frame::Task | Frame::Cached | Frame::Masked | Frame::Interrupt => {
+            HeaderLine::Refused(Refusal::Order(1))
+        }
         _ => HeaderLine::Refused(Refusal::Line(1)),
     }
 }

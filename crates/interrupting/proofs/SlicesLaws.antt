@@ -10,8 +10,8 @@ use native.Mathlib.Numerals.{add-one}
 use native.Mathlib.Omega.{arith}
 use lib.Arith.{le-zero}
 use lib.ListN.{length, length-append}
-use Rattle.demand.specs.Load.{loadsOf}
-use Rattle.demand.proofs.Demand.{demand-small, loads-length}
+use Rattle.demand.specs.Load.{each, loadAt, loadsOf}
+use Rattle.demand.proofs.Demand.{demand-small, each-length}
 use Rattle.interrupting.specs.Interrupts.{Bound, Numbered, EveryBound, Ordered, boundAt, boundsOf, behind, interruptsOf, interruptDemand, greatestOfAll, highest, asked}
 use Rattle.interrupting.specs.Interrupted.{Interrupted}
 use Rattle.interrupting.proofs.BoundLaws.{bounds-front, bounds-last, ordered-front, ordered-last}
@@ -93,7 +93,7 @@ module _ (numbers : List ℕ) (n : ℕ) (its : Interrupted numbers n) where
       omega (
         arith,
         demand-small (loadsOf numbers n) t (its .loads .sound) (its .loads .small) h,
-        loads-length numbers n,
+        each-length (loadAt numbers) n,
         greatest-small (highest bs) bs t (its .bound) h,
         bounds-length numbers (3 * n) (behind numbers n),
         its .few,

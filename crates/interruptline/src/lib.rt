@@ -43,7 +43,9 @@ pub fn interrupt_row(text: &[u8], at: usize, lines: usize, count: usize) -> Outc
         return Outcome::Refused(Refusal::Line(line));
     };
     match frame {
-        Frame::Header | Frame::Task | Frame::Masked => Outcome::Refused(Refusal::Order(line)),
+        Frame::Header | Frame::Task | Frame::Cached | Frame::Masked => {
+            Outcome::Refused(Refusal::Order(line))
+        }
         Frame::Interrupt => {
             if count == TaskSet::MOST_INTERRUPTS {
                 return Outcome::Refused(Refusal::Count(line));

@@ -9,7 +9,6 @@ use mathlib.Core.Logic.{⊎-elim}
 use mathlib.Core.Path.{_≡_, refl, sym, _∙_, ap}
 use lib.ListN.{length, drop, length-append, drop-of-length-le}
 use Rattle.frameread.specs.Line.{formed}
-use Rattle.frameread.proofs.KindLaws.{not-formed}
 use Rattle.frames.specs.Table.{lengthOf}
 use Rattle.frames.specs.declared.table.Frame.{Frame}
 use Rattle.refusals.specs.declared.Outcome.{Outcome}
@@ -19,11 +18,11 @@ use Rattle.tasks.specs.declared.set.Interrupt.{Interrupt}
 use Rattle.tasks.specs.declared.set.Interrupts.{Interrupts}
 use Rattle.tasks.specs.Set.{mostInterrupts, interruptsWith, withInterrupt, noInterrupts}
 use Rattle.tasks.proofs.SetLaws.{with-none, interrupts-more}
-use Rattle.taskfile.specs.File.{past, empty, lineOutcome, taskAt, interruptAt, tasksAmong, interruptsAmong}
+use Rattle.taskfile.specs.File.{past, empty, lineOutcome, taskFormed, taskAt, interruptAt, tasksAmong, interruptsAmong}
 use Rattle.taskfile.specs.Taken.{Taken, BehindTasks}
 use Rattle.taskfile.proofs.Past.{past-formed}
 use Rattle.taskfile.proofs.AmongLaws.{among-here, among-other}
-use Rattle.taskfile.proofs.Lines.{clear-kind, clear-fewer}
+use Rattle.taskfile.proofs.Lines.{interrupt-no-task, clear-kind, clear-fewer}
 use Rattle.taskfile.proofs.Standing.{byte-there, taken-some, said-late}
 use Rattle.interruptlines.specs.Ended.{Ended}
 
@@ -58,7 +57,7 @@ module _ {text : List ℕ} {before k at : ℕ} {is : Interrupts} (listed : Liste
     here : formed Frame.Interrupt (past k text) ≡ true
     here =
         ⊎-elim
-        (λ (task : formed Frame.Task (past k text) ≡ true). done-refused (sym clear ∙ said-late (listed .behind) (ap (formed Frame.Task) (sym (taken .rest)) ∙ task)))
+        (λ (task : taskFormed (past k text) ≡ true). done-refused (sym clear ∙ said-late (listed .behind) (ap taskFormed (sym (taken .rest)) ∙ task)))
         (λ (interrupt : formed Frame.Interrupt (past k text) ≡ true). interrupt)
         (clear-kind text k (taken .opened) (ap empty (taken .rest) ∙ byte-there at text within) line)
 
@@ -72,13 +71,13 @@ module _ {text : List ℕ} {before k at : ℕ} {is : Interrupts} (listed : Liste
         omega (arith, taken .fewer, listed-count, full)
 
     more : interruptsAmong text (suc k) ≡ interruptsAmong text k ++ (interruptAt (past k text) ∷ [])
-    more = among-here Frame.Interrupt interruptAt text k here
+    more = among-here (formed Frame.Interrupt) interruptAt text k here
 
     longer : length (interruptsAmong text (suc k)) ≡ length (interruptsAmong text k) + 1
     longer = ap length more ∙ length-append (interruptsAmong text k) (interruptAt (past k text) ∷ [])
 
     same-tasks : tasksAmong text (suc k) ≡ tasksAmong text k
-    same-tasks = among-other Frame.Task taskAt text k (not-formed Frame.Interrupt Frame.Task refl (past k text) here)
+    same-tasks = among-other taskFormed taskAt text k (interrupt-no-task (past k text) here)
 
     taken-more : Taken text (suc k) (at + (lengthOf Frame.Interrupt + 1))
     taken-more =

@@ -1,3 +1,4 @@
 pub mod JoinLaws
 pub mod TotalLaws
 pub mod SoonestLaws
+pub mod StepLaws

@@ -2,9 +2,9 @@
 -- Assumes nothing.
 use Prim.Native.Nat.{ℕ, _≤_, _<_, min, max}
 use native.Mathlib.Omega.{arith}
-use mathlib.Core.Path.{_≡_, refl, sym, ap, _∙_}
+use mathlib.Core.Path.{_≡_, refl, sym, ap, ap₂, _∙_}
 use mathlib.Core.Bool.{Bool, true, false, _&&_}
-use mathlib.Core.List.{List, [], _∷_, _++_, map-append}
+use mathlib.Core.List.{List, [], _∷_, _++_, map, map-append}
 use borrow.Author.Tests.{le-ltb, lt-ltb, leb-true, ltb-true}
 use lib.Dec.{leb, ltb}
 use Rattle.laws.proofs.Tests.{and-parts}
@@ -16,13 +16,14 @@ use Rattle.masking.proofs.EndsLaws.{soonest-some, soonest-latest, soonest-next,
 use Rattle.tasks.specs.declared.set.Header.{Header}
 use Rattle.tasks.specs.Set.{maskedTicks}
 use Rattle.places.specs.Places.{chosen}
+use Rattle.loads.specs.Figures.{Figures}
 use Rattle.loads.specs.Charge.{cacheOf, chargedIn, serverLoads, Member}
-use Rattle.loads.proofs.ChargeLaws.{loads-sound}
+use Rattle.loads.proofs.ChargeLaws.{charged-sound, every-map}
 use Rattle.members.specs.Server.{Board, SoundBoard}
 use Rattle.members.proofs.ServerLaws.{masked-fails}
-use Rattle.taking.specs.Soonest.{soonestIn}
+use Rattle.shares.specs.Soonest.{soonestIn}
 use Rattle.taking.specs.Takes.{takes}
-use Rattle.taking.proofs.ChargedLaws.{members-with}
+use Rattle.taking.proofs.ChargedLaws.{every-with}
 use Rattle.joining.specs.Soonest.{soonestWith, maskedOut}
 
 -- ---- one deadline more
@@ -44,20 +45,47 @@ soonest-joined (k ∷ ls) l e =
     soonest-next (k .deadline) ls l ∙
     sym (with-some (soonestOf (k .deadline) ls) (l .deadline) (λ (z : soonestOf (k .deadline) ls ≡ 0). absurd (omega (arith, soonest-some k ls e))))
 
-loads-joined : (h : Header) (members : List Load) (l : Load) → serverLoads h (members ++ (l ∷ [])) ≡ serverLoads h members ++ (chargedIn h (h .cpmdo) l ∷ [])
-unfolding serverLoads cacheOf
-loads-joined h members l = map-append (chargedIn h (h .cpmdo)) members (l ∷ [])
+-- ---- deadlines do not go by the cache cost
 
-due-alone : (h : Header) (l : Load) → chargedIn h (h .cpmdo) l .deadline ≡ soonestIn h (l ∷ [])
-unfolding soonest soonestOf serverLoads cacheOf
-due-alone h l = refl
+of-any : (h : Header) (c e d : ℕ) (ms : List Figures) → soonestOf d (map (chargedIn h c) ms) ≡ soonestOf d (map (chargedIn h e) ms)
+unfolding soonestOf chargedIn
+of-any h c e d [] = refl
+of-any h c e d (f ∷ ms) = ap (min d) (of-any h c e _ ms)
 
--- of a server
-pub soonest-more : (h : Header) (members : List Load) (l : Load) → Every (Member h) members →
-    soonestIn h (members ++ (l ∷ [])) ≡ soonestWith (soonestIn h members) (soonestIn h (l ∷ []))
-soonest-more h members l ok =
-    ap soonest (loads-joined h members l) ∙ soonest-joined (serverLoads h members) (chargedIn h (h .cpmdo) l) (loads-sound h members ok) ∙
-    ap (soonestWith (soonestIn h members)) (due-alone h l)
+soonest-any : (h : Header) (c e : ℕ) (ms : List Figures) → soonest (map (chargedIn h c) ms) ≡ soonest (map (chargedIn h e) ms)
+unfolding soonest chargedIn
+soonest-any h c e [] = refl
+soonest-any h c e (f ∷ ms) = of-any h c e _ ms
+
+due-any : (h : Header) (c : ℕ) (f : Figures) → chargedIn h c f .deadline ≡ soonestIn h (f ∷ [])
+unfolding soonest soonestOf serverLoads chargedIn
+due-any h c f = refl
+
+-- ---- a server with a task more
+
+module _ (h : Header) (ms : List Figures) (f : Figures) where
+  -- the loads of the others, and the task's
+  abbrev others : List Load
+  others = map (chargedIn h (cacheOf (ms ++ (f ∷ [])))) ms
+
+  abbrev own : Load
+  own = chargedIn h (cacheOf (ms ++ (f ∷ []))) f
+
+  loads-joined : serverLoads h (ms ++ (f ∷ [])) ≡ others ++ (own ∷ [])
+  unfolding serverLoads
+  loads-joined = map-append (chargedIn h (cacheOf (ms ++ (f ∷ [])))) ms (f ∷ [])
+
+  others-sound : Every (Member h) ms → Every Sound others
+  others-sound ok = every-map (Member h) Sound (chargedIn h (cacheOf (ms ++ (f ∷ [])))) ms (charged-sound h (cacheOf (ms ++ (f ∷ [])))) ok
+
+  others-soonest : soonest others ≡ soonestIn h ms
+  unfolding serverLoads
+  others-soonest = soonest-any h (cacheOf (ms ++ (f ∷ []))) (cacheOf ms) ms
+
+  pub soonest-more : Every (Member h) ms → soonestIn h (ms ++ (f ∷ [])) ≡ soonestWith (soonestIn h ms) (soonestIn h (f ∷ []))
+  soonest-more ok =
+      ap soonest loads-joined ∙ soonest-joined others own (others-sound ok) ∙
+      ap₂ soonestWith others-soonest (due-any h (cacheOf (ms ++ (f ∷ []))) f)
 
 -- ---- the test by B
 
@@ -91,28 +119,33 @@ module _ (B d s : ℕ) where
 
 -- ---- a server that B alone keeps the task out of does not take it
 
-module _ (b : Board) (done : List Load) (placement : List ℕ) (l : Load) (q : ℕ) (sound : SoundBoard b)
-    (members : Every (Member (b .header)) (done ++ (l ∷ []))) where
-  pub kept-out : maskedOut (maskedTicks (b .header)) (soonestIn (b .header) (l ∷ [])) (soonestIn (b .header) (chosen done placement q)) ≡ true → takes b done placement l q ≡ false
+module _ (b : Board) (done : List Figures) (placement : List ℕ) (f : Figures) (q : ℕ) (sound : SoundBoard b)
+    (members : Every (Member (b .header)) (done ++ (f ∷ []))) where
+  pub kept-out : maskedOut (maskedTicks (b .header)) (soonestIn (b .header) (f ∷ [])) (soonestIn (b .header) (chosen done placement q)) ≡ true → takes b done placement f q ≡ false
   unfolding takes
   kept-out out =
-      masked-fails b (chosen done placement q ++ (l ∷ [])) ok sound
-      (rw (loads-joined (b .header) (chosen done placement q) l) (omega (arith, from-is, latest-next ls k, soonest-latest ls, w .1)))
-      (rw (loads-joined (b .header) (chosen done placement q) l) (omega (arith, from-is, w .2)))
+      masked-fails b (ms ++ (f ∷ [])) ok sound
+      (rw (loads-joined (b .header) ms f) (omega (arith, from-is, latest-next ls k, soonest-latest ls, w .1)))
+      (rw (loads-joined (b .header) ms f) (omega (arith, from-is, w .2)))
     where
-      ok : Every (Member (b .header)) (chosen done placement q ++ (l ∷ []))
-      ok = members-with (b .header) done placement l members q
+      ms : List Figures
+      ms = chosen done placement q
+
+      ok : Every (Member (b .header)) (ms ++ (f ∷ []))
+      ok = every-with (Member (b .header)) done placement f members q
 
       ls : List Load
-      ls = serverLoads (b .header) (chosen done placement q)
+      ls = others (b .header) ms f
 
       k : Load
-      k = chargedIn (b .header) (b .header .cpmdo) l
+      k = own (b .header) ms f
 
       w : (1 ≤ soonest ls) × (min (k .deadline) (soonest ls) < max (k .deadline) (soonest ls)) × (min (k .deadline) (soonest ls) ≤ maskedTicks (b .header))
-      w = out-says (maskedTicks (b .header)) (k .deadline) (soonest ls) (rw (due-alone (b .header) l) out)
+      w =
+          out-says (maskedTicks (b .header)) (k .deadline) (soonest ls)
+          (rw (due-any (b .header) (cacheOf (ms ++ (f ∷ []))) f, others-soonest (b .header) ms f) out)
 
       from-is : soonest (ls ++ (k ∷ [])) ≡ min (soonest ls) (k .deadline)
       from-is =
-          soonest-joined ls k (loads-sound (b .header) (chosen done placement q) (every-front (Member (b .header)) (chosen done placement q) l ok)) ∙
+          soonest-joined ls k (others-sound (b .header) ms f (every-front (Member (b .header)) ms f ok)) ∙
           with-some (soonest ls) (k .deadline) (λ (z : soonest ls ≡ 0). absurd (omega (arith, w .0)))

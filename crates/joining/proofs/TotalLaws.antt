@@ -1,47 +1,53 @@
--- A server's total: one task more, and a server that cannot take a task.
+-- A server that would ask more than H ticks of H with a task in it does not take it; and what is kept of servers is small.
 -- Assumes nothing.
-use Prim.Native.Nat.{ℕ, _+_, _-_, _≤_, _<_, _∣_}
+use Prim.Native.Nat.{ℕ, _+_, _*_, _≤_, _<_, _∣_, max}
 use native.Mathlib.Omega.{arith}
-use mathlib.Core.Path.{_≡_, ap, _∙_}
+use mathlib.Core.Path.{_≡_, ap₂, _∙_}
 use mathlib.Core.Bool.{false}
-use mathlib.Core.List.{List, [], _∷_, _++_, map, map-append}
-use Rattle.demand.specs.Load.{Load, Every}
+use mathlib.Core.List.{List, [], _∷_, _++_}
+use Rattle.demand.specs.Load.{Every}
 use Rattle.demand.proofs.Demand.{every-snoc, every-front, every-last}
-use Rattle.tasks.specs.declared.set.Header.{Header}
 use Rattle.places.specs.Places.{chosen}
-use Rattle.loads.specs.Charge.{cacheOf, chargedIn, serverLoads, Member}
-use Rattle.members.specs.Server.{Board, SoundBoard, totalOf}
-use Rattle.taking.specs.Takes.{takes}
-use Rattle.taking.specs.Totals.{totalIn}
+use Rattle.loads.specs.Figures.{Figures}
+use Rattle.loads.specs.Charge.{cacheOf, Member}
+use Rattle.loads.proofs.ChargeLaws.{cache-more}
+use Rattle.members.specs.Server.{Board, SoundBoard}
 use Rattle.members.proofs.ServerLaws.{total-fails}
 use Rattle.members.proofs.FiledLaws.{every-chosen}
-use Rattle.taking.proofs.ChargedLaws.{members-with}
+use Rattle.shares.specs.Totals.{workIn, jobsIn}
+use Rattle.shares.proofs.TotalLaws.{total-split, work-more, jobs-more}
+use Rattle.taking.specs.Takes.{withTask, takes}
+use Rattle.taking.proofs.ChargedLaws.{every-with}
 
--- the totals of two parts add up
-total-append : (H : ℕ) (ls ks : List Load) → totalOf H (ls ++ ks) ≡ totalOf H ls + totalOf H ks
-unfolding totalOf
-total-append H [] ks = omega arith
-total-append H (l ∷ ls) ks = omega (arith, total-append H ls ks)
+module _ (b : Board) (H : ℕ) (done : List Figures) (placement : List ℕ) (f : Figures) (q : ℕ) (sound : SoundBoard b) (positive : 1 ≤ H)
+    (members : Every (Member (b .header)) (done ++ (f ∷ []))) (periods : Every (λ (g : Figures). g .period ∣ H) (done ++ (f ∷ []))) where
+  abbrev ms : List Figures
+  ms = chosen done placement q
 
--- a task more adds its share
-pub total-more : (h : Header) (H : ℕ) (members : List Load) (l : Load) → totalIn h H (members ++ (l ∷ [])) ≡ totalIn h H members + totalIn h H (l ∷ [])
-unfolding serverLoads cacheOf
-total-more h H members l =
-    ap (totalOf H) (map-append (chargedIn h (h .cpmdo)) members (l ∷ [])) ∙
-    total-append H (map (chargedIn h (h .cpmdo)) members) (chargedIn h (h .cpmdo) l ∷ [])
-
--- ---- a server whose total leaves no room for the task's share does not take it
-
-module _ (b : Board) (H : ℕ) (done : List Load) (placement : List ℕ) (l : Load) (q : ℕ) (sound : SoundBoard b) (positive : 1 ≤ H)
-    (members : Every (Member (b .header)) (done ++ (l ∷ []))) (periods : Every (λ (k : Load). k .period ∣ H) (done ++ (l ∷ []))) where
-  periods-with : Every (λ (k : Load). k .period ∣ H) (chosen done placement q ++ (l ∷ []))
+  periods-with : Every (λ (g : Figures). g .period ∣ H) (withTask done placement f q)
   periods-with =
-      every-snoc (λ (k : Load). k .period ∣ H) (chosen done placement q) l
-      (every-chosen (λ (k : Load). k .period ∣ H) done placement q (every-front (λ (k : Load). k .period ∣ H) done l periods))
-      (every-last (λ (k : Load). k .period ∣ H) done l periods)
+      every-snoc (λ (g : Figures). g .period ∣ H) ms f
+      (every-chosen (λ (g : Figures). g .period ∣ H) done placement q (every-front (λ (g : Figures). g .period ∣ H) done f periods))
+      (every-last (λ (g : Figures). g .period ∣ H) done f periods)
 
-  pub no-room : H < totalIn (b .header) H (chosen done placement q) + totalIn (b .header) H (l ∷ []) → takes b done placement l q ≡ false
+  -- what the server would ask, from what is kept of it and what the task brings
+  pub no-room : {work jobs cost : ℕ} → work ≡ workIn (b .header) H ms + workIn (b .header) H (f ∷ []) → jobs ≡ jobsIn H ms + jobsIn H (f ∷ []) →
+      cost ≡ max (cacheOf ms) (f .cache) → H < work + cost * jobs → takes b done placement f q ≡ false
   unfolding takes
-  no-room above =
-      total-fails b (chosen done placement q ++ (l ∷ [])) (members-with (b .header) done placement l members q) sound H positive periods-with
-      (omega (arith, total-more (b .header) H (chosen done placement q) l))
+  no-room {work} {jobs} {cost} e g c above =
+      total-fails b (withTask done placement f q) (every-with (Member (b .header)) done placement f members q) sound H positive periods-with
+      (omega (
+        arith,
+        total-split (b .header) H (withTask done placement f q),
+        e ∙ sym-more,
+        ap₂ (λ (x y : ℕ). x * y) (c ∙ sym-cache) (g ∙ sym-jobs),
+      ))
+    where
+      sym-more : workIn (b .header) H ms + workIn (b .header) H (f ∷ []) ≡ workIn (b .header) H (withTask done placement f q)
+      sym-more = omega (arith, work-more (b .header) H ms f)
+
+      sym-jobs : jobsIn H ms + jobsIn H (f ∷ []) ≡ jobsIn H (withTask done placement f q)
+      sym-jobs = omega (arith, jobs-more H ms f)
+
+      sym-cache : max (cacheOf ms) (f .cache) ≡ cacheOf (withTask done placement f q)
+      sym-cache = omega (arith, cache-more ms f)

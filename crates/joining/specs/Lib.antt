@@ -1,4 +1,3 @@
 pub mod Join
 pub mod Kept
-pub mod Totals
 pub mod Soonest

@@ -1,34 +1,38 @@
 // One step of placing by first fit: the server for a task.
-// What it means stands in specs/Join.antt, specs/Totals.antt and specs/Soonest.antt. The server of each task stands in a slice, of which
+// What it means stands in specs/Join.antt, specs/Kept.antt and specs/Soonest.antt. The server of each task stands in a slice, of which
 // the first i are placed.
 pub mod soonest; // soonest.rt: the smallest deadline of a server
 
+use shares::Share;
+use shares::larger;
+use shares::total;
 use soonest::masked_out;
-use taking::due;
-use taking::share;
 use taking::takes_task;
 use tasks::set::Header;
 ghost use mathlib.Core.Path.{_≡_};
 ghost use Prim.Native.Nat.{_+_, _≤_};
 ghost use lib.ListN.{length, take};
-ghost use Rattle.demand.specs.Load.{loadAt, loadsOf};
 ghost use Rattle.tasks.specs.Set.{mostTasks};
+ghost use Rattle.loads.specs.Figures.{figuresAt, figuresTo};
 ghost use Rattle.members.specs.Server.{boardOf, Filed, Bounded};
+ghost use Rattle.shares.specs.Share.{shareOf};
 ghost use Rattle.taking.specs.Takes.{takes};
 ghost use Rattle.joining.specs.Join.{firstFit, join};
-ghost use Rattle.joining.specs.Soonest.{Soonest};
-ghost use Rattle.joining.specs.Totals.{Totals};
+ghost use Rattle.joining.specs.Kept.{Kept};
 
-// One step of placing: the lowest-numbered server above lo that takes task i, otherwise a new one. A server whose total leaves no room
-// for the task's share, or that B alone keeps it out of, cannot take it, and its members are not looked at. B is asked first, so that
-// the compiler makes one branch of both.
+// One step of placing: the lowest-numbered server above lo that takes task i, otherwise a new one. A server that would ask more than the
+// horizon with the task in it, or that B alone keeps the task out of, cannot take it, and its members are not looked at. B is asked first,
+// so that the compiler makes one branch of both.
 pub fn server_for(
     header: Header,
     figures: &[u64],
     placement: &[u64],
-    totals: &[u64],
+    work: &[u64],
+    jobs: &[u64],
+    cache: &[u64],
     soonest: &[u64],
     i: usize,
+    share: Share,
     lo: u64,
     count: u64,
     interrupts: &[u64],
@@ -37,25 +41,21 @@ pub fn server_for(
     requires { ⌜ Filed header (now figures) (i + 1) horizon ⌝ }
     requires { ⌜ Bounded header (now interrupts) horizon ⌝ }
     requires { ⌜ (i ≤ length (now placement)) × (count ≤ mostTasks) ⌝ }
-    requires { ⌜ Totals header horizon (loadsOf (now figures) i) (take i (now placement)) (now totals) ⌝ }
-    requires { ⌜ Soonest header (loadsOf (now figures) i) (take i (now placement)) (now soonest) ⌝ }
-    ensures { λ r. ⌜ r ≡ join firstFit (takes (boardOf header (now (interrupts .entry))) (loadsOf (now (figures .entry)) i) (take i (now (placement .entry))) (loadAt (now (figures .entry)) i)) lo count ⌝ }
+    requires { ⌜ share ≡ shareOf header horizon (figuresAt (now figures) i) ⌝ }
+    requires { ⌜ Kept header horizon (figuresTo (now figures) i) (take i (now placement)) (now work) (now jobs) (now cache) (now soonest) ⌝ }
+    ensures { λ r. ⌜ r ≡ join firstFit (takes (boardOf header (now (interrupts .entry))) (figuresTo (now (figures .entry)) i) (take i (now (placement .entry))) (figuresAt (now (figures .entry)) i)) lo count ⌝ }
 {
-    let own = share(header, figures, i, horizon);
-    if horizon < own {
-        return count + 1;
-    }
-    let room = horizon - own;
-    let d = due(header, figures, i);
     let masked = header.masked_ticks() as u64;
     let mut q = lo;
     while q < count {
-        let before = q as usize;
+        let at = q as usize;
         q += 1;
-        let apart = masked_out(d, soonest[before], masked);
-        if totals[before] <= room {
+        let apart = masked_out(share.due, soonest[at], masked);
+        let cost = larger(cache[at], share.cache);
+        let asked = total(work[at] + share.work, jobs[at] + share.jobs, cost);
+        if asked <= horizon {
             if !apart {
-                if takes_task(header, figures, placement, i, q, interrupts, horizon) {
+                if takes_task(header, cost, figures, placement, i, q, interrupts, horizon) {
                     return q;
                 }
             }

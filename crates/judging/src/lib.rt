@@ -1,5 +1,5 @@
 // Does a server pass with a reserve: its members, charged, by its own entry loss and its own horizon.
-// What it means stands in members, specs/Server.antt. The figures stand in one slice, three for each task, the interrupts in
+// What it means stands in members, specs/Server.antt. The figures stand in one slice, four for each task, the interrupts in
 // another, four for each.
 use members::loss;
 use served::ROOM;
@@ -9,7 +9,8 @@ use verdict::answer::Verdict;
 ghost use mathlib.Core.Path.{_≡_};
 ghost use lib.ListN.{take};
 ghost use Rattle.demand.specs.Supply.{Allowed};
-ghost use Rattle.loads.specs.Charge.{serverLoss, membersAt};
+ghost use Rattle.loads.specs.Charge.{serverLoss};
+ghost use Rattle.loads.specs.Figures.{membersAt};
 ghost use Rattle.members.specs.Server.{boardOf, verdictFor, Bounded};
 ghost use Rattle.served.specs.Served.{Served};
 

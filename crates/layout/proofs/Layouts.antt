@@ -87,15 +87,15 @@ module _ {sv : Servers} {tasks S : ℕ} (ok : Layable sv tasks S) where
   counted = sym (taken-length (ok .laid))
 
   -- put together they are the layout of the definitions
-  pub laid-made : (cache : ℕ) {w r t : ℕ} {servers : List Server} {first : List Stand} →
+  pub laid-made : (caches : List ℕ) {w r t : ℕ} {servers : List Server} {first : List Stand} →
       w ≡ wholes S (take (sv .count) (sv .reserve)) →
       r ≡ ringProcessors S (take (sv .count) (sv .reserve)) →
       t ≡ ringTicks S (take (sv .count) (sv .reserve)) →
-      servers ≡ padWith zeroServer (upTo (serverOf S cache (take tasks (sv .placement)) (take (sv .count) (sv .reserve))) (sv .count)) →
+      servers ≡ padWith zeroServer (upTo (serverOf S caches (take tasks (sv .placement)) (take (sv .count) (sv .reserve))) (sv .count)) →
       first ≡ padWith zeroStand (upTo (firstReserve S (take (sv .count) (sv .reserve))) (r + w)) →
-      plan-of w r (sv .count) S (r * S - t) servers (sv .placement) first ≡ laidOut S cache (take tasks (sv .placement)) (take (sv .count) (sv .reserve))
+      plan-of w r (sv .count) S (r * S - t) servers (sv .placement) first ≡ laidOut S caches (take tasks (sv .placement)) (take (sv .count) (sv .reserve))
   unfolding laidOut
-  laid-made cache {w} {r} {t} p1 p2 p3 p4 p5 =
+  laid-made caches {w} {r} {t} p1 p2 p3 p4 p5 =
       let sum : r + w ≡ processorsOf S reserves = rw (p1, p2) in
-      same-plan S p1 p2 counted (rw (p2, p3)) (p4 ∙ ap (λ (n : ℕ). padWith zeroServer (upTo (serverOf S cache placement reserves) n)) counted)
+      same-plan S p1 p2 counted (rw (p2, p3)) (p4 ∙ ap (λ (n : ℕ). padWith zeroServer (upTo (serverOf S caches placement reserves) n)) counted)
       (sym (ok .placement-room)) (p5 ∙ ap (λ (n : ℕ). padWith zeroStand (upTo (firstReserve S reserves) n)) sum)

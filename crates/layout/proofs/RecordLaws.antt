@@ -10,7 +10,7 @@ use Rattle.tasks.specs.Set.{mostTasks}
 use Rattle.places.specs.Padded.{padded}
 use Rattle.places.specs.Places.{placesIn}
 use Rattle.reserves.specs.Reserves.{reserveOf}
-use Rattle.layout.specs.Layout.{ringStart, serverOf}
+use Rattle.layout.specs.Layout.{ringStart, costOf, serverOf}
 
 -- zeros without the first k
 drop-zeros : (k n : ℕ) → drop {A = ℕ} k (replicate n 0) ≡ replicate (n - k) 0
@@ -26,8 +26,8 @@ stored-padded ns =
     ap (λ (l : List ℕ). ns ++ l) (ap (λ (k : ℕ). drop {A = ℕ} k (replicate mostTasks 0)) e ∙ drop-zeros (length ns) mostTasks)
 
 -- the parts of a server's record
-pub server-made : (S cache : ℕ) (placement reserves : List ℕ) (q : ℕ) {count reserve start : ℕ} {places : List ℕ} →
+pub server-made : (S : ℕ) (caches placement reserves : List ℕ) (q : ℕ) {count reserve start cache : ℕ} {places : List ℕ} →
     count ≡ length (placesIn placement q) → places ≡ stored (replicate mostTasks 0) 0 (placesIn placement q) →
-    reserve ≡ reserveOf reserves q → start ≡ ringStart S reserves q →
-    record { count = count; places = places; reserve = reserve; start = record { 0 = start }; cache = cache } ≡ serverOf S cache placement reserves q
-server-made S cache placement reserves q e1 e2 e3 e4 = rw (e1, e2 ∙ stored-padded (placesIn placement q), e3, e4)
+    reserve ≡ reserveOf reserves q → start ≡ ringStart S reserves q → cache ≡ costOf caches q →
+    record { count = count; places = places; reserve = reserve; start = record { 0 = start }; cache = cache } ≡ serverOf S caches placement reserves q
+server-made S caches placement reserves q e1 e2 e3 e4 e5 = rw (e1, e2 ∙ stored-padded (placesIn placement q), e3, e4, e5)

@@ -12,7 +12,7 @@ use lib.Seq.{getD-take}
 use Rattle.reserves.specs.Reserves.{reserveOf, startOf}
 use Rattle.layout.specs.Layout.{ringStart}
 
--- the reserve of server q stands at place q − 1
+-- the reserve of server q stands at place q − 1, as does its cache cost
 pub reserve-place : (rs : List ℕ) (n q : ℕ) → 1 ≤ q → q ≤ n → reserveOf (take n rs) q ≡ getD rs (q - 1) 0
 reserve-place rs n zero h l = absurd (omega arith)
 reserve-place rs n (suc q) h l =

@@ -1,9 +1,10 @@
--- The plan of a slot, a placement and its reserves: each server's places, reserve and ring start, and the first reserves.
--- Document 01, "From tasks to servers to ring" (RULES 3) and "Lines of hexadecimal" (RULES 5).
-use Prim.Native.Nat.{ℕ}
+-- The plan of a slot, a placement, its reserves and its cache costs: each server's places, reserve, ring start and cache cost, and the
+-- first reserves.
+-- Document 01, "From tasks to servers to ring" (RULES 3) and "Lines of hexadecimal" (RULES 5); document 02, Req 07.
+use Prim.Native.Nat.{ℕ, pred}
 use mathlib.Core.List.{List}
 use mathlib.Core.Bool.{cond}
-use lib.ListN.{length}
+use lib.ListN.{length, getD}
 use lib.Dec.{ltb}
 use Rattle.places.specs.Padded.{padWith, padded, upTo}
 use Rattle.places.specs.Places.{placesIn}
@@ -17,27 +18,31 @@ use Rattle.plan.specs.Plan.{zeroServer, zeroStand}
 abbrev pub ringStart : (S : ℕ) (reserves : List ℕ) (q : ℕ) → ℕ
 ringStart S reserves q = cond (ltb (reserveOf reserves q) S) (startOf S reserves q) 0
 
--- server q of a slot, a placement and its reserves; every server is charged by the same cache cost
-abbrev pub serverOf : (S cache : ℕ) → (placement reserves : List ℕ) → (q : ℕ) → Server
-serverOf S cache placement reserves q =
+-- the cache cost of server q; servers count from 1
+abbrev pub costOf : (caches : List ℕ) → (q : ℕ) → ℕ
+costOf caches q = getD caches (pred q) 0
+
+-- server q of a slot, a placement, its reserves and its cache costs
+abbrev pub serverOf : (S : ℕ) → (caches placement reserves : List ℕ) → (q : ℕ) → Server
+serverOf S caches placement reserves q =
     record {
       count = length (placesIn placement q);
       places = padded (placesIn placement q);
       reserve = reserveOf reserves q;
       start = record { 0 = ringStart S reserves q };
-      cache = cache;
+      cache = costOf caches q;
     }
 
--- the plan of a slot, a placement and its reserves
-unfoldable pub laidOut : (S cache : ℕ) → (placement reserves : List ℕ) → Plan
-laidOut S cache placement reserves =
+-- the plan of a slot, a placement, its reserves and its cache costs
+unfoldable pub laidOut : (S : ℕ) → (caches placement reserves : List ℕ) → Plan
+laidOut S caches placement reserves =
     record {
       whole = wholes S reserves;
       ring = ringProcessors S reserves;
       servers = length reserves;
       slot = S;
       idle = idlePositions S reserves;
-      server = padWith zeroServer (upTo (serverOf S cache placement reserves) (length reserves));
+      server = padWith zeroServer (upTo (serverOf S caches placement reserves) (length reserves));
       placement = padded placement;
       first = padWith zeroStand (upTo (firstReserve S reserves) (processorsOf S reserves));
     }

@@ -1,5 +1,5 @@
 // From placed and sized servers to the plan: the record of each server, and the first reserve of each processor.
-// What they mean stands in specs/Layout.antt. The reserves stand in a slice, of which the first n count.
+// What they mean stands in specs/Layout.antt. The reserves stand in a slice, the cache costs in another, of both of which the first n count.
 use places::places_of;
 use plan::plan::Plan;
 use plan::server::Server;
@@ -41,19 +41,21 @@ pub fn server_of<'a>(
     placement: &'a [u64],
     tasks: usize,
     reserves: &'a [u64],
+    caches: &'a [u64],
     n: usize,
     slot: u64,
-    cache: u64,
     q: usize,
 ) -> Server
     requires { ⌜ (tasks ≤ length (now placement)) × (tasks ≤ mostTasks) ⌝ }
     requires { ⌜ SlottedFirst slot (now reserves) n × (1 ≤ q) × (q ≤ n) ⌝ }
-    ensures { λ r. ⌜ r ≡ serverOf slot cache (take tasks (now (placement .entry))) (take n (now (reserves .entry))) q ⌝ }
+    requires { ⌜ n ≤ length (now caches) ⌝ }
+    ensures { λ r. ⌜ r ≡ serverOf slot (take n (now (caches .entry))) (take tasks (now (placement .entry))) (take n (now (reserves .entry))) q ⌝ }
 {
     let mut places = [0u8; TaskSet::MOST_TASKS];
     let count = places_of(placement, tasks, q as u64, &mut places);
     let before = q - 1;
     let reserve = reserves[before];
+    let cache = caches[before];
     let start = Position(start_of(reserves, n, slot, q));
     Server {
         count,
@@ -85,13 +87,14 @@ fn first_reserves(
 }
 
 // The plan of so many tasks, placed and sized. The records of the servers are written in their place, so that the plan stands once.
-pub fn lay_out(served: Servers, tasks: usize, slot: u64, cache: u64) -> Plan
+pub fn lay_out(served: Servers, tasks: usize, slot: u64) -> Plan
     requires { ⌜ Layable served tasks slot ⌝ }
-    ensures { λ r. ⌜ r ≡ laidOut slot cache (take tasks (served .placement)) (take (served .count) (served .reserve)) ⌝ }
+    ensures { λ r. ⌜ r ≡ laidOut slot (take (served .count) (served .cache)) (take tasks (served .placement)) (take (served .count) (served .reserve)) ⌝ }
 {
     let n = served.count as usize;
     let reserve = served.reserve;
     let placement = served.placement;
+    let cache = served.cache;
     let whole = whole_count(&reserve, n, slot);
     let ring = ring_processors(&reserve, n, slot);
     let idle = ring * slot - ring_ticks(&reserve, n, slot);
@@ -117,7 +120,7 @@ pub fn lay_out(served: Servers, tasks: usize, slot: u64, cache: u64) -> Plan
     };
     let mut i: usize = 0;
     while i < n {
-        plan.server[i] = server_of(&placement, tasks, &reserve, n, slot, cache, i + 1);
+        plan.server[i] = server_of(&placement, tasks, &reserve, &cache, n, slot, i + 1);
         i += 1;
     }
     plan

@@ -9,7 +9,7 @@ use lib.ListN.{length, set, take, drop, getD, length-append, length-map}
 use lib.Seq.{take-suc, length-take-le}
 use Rattle.digits.specs.Stored.{stored}
 use Rattle.digits.proofs.Stored.{stored-byte}
-use Rattle.demand.specs.Load.{Load, loadAt, loadsOf}
+use Rattle.demand.specs.Load.{Load, each, loadAt, loadsOf}
 use Rattle.demand.proofs.Slices.{putLoad}
 use Rattle.loads.specs.Charge.{numbersIn, numbersOf}
 
@@ -26,7 +26,7 @@ numbers-more [] l = refl
 numbers-more (k ∷ ls) l = ap (λ (ns : List ℕ). k .cost ∷ k .deadline ∷ k .period ∷ ns) (numbers-more ls l)
 
 -- one number behind those that are stored
-next : (b x : List ℕ) (v : ℕ) {at : ℕ} → at ≡ length x → at < length b → set (stored b 0 x) at v ≡ stored b 0 (x ++ (v ∷ []))
+pub next : (b x : List ℕ) (v : ℕ) {at : ℕ} → at ≡ length x → at < length b → set (stored b 0 x) at v ≡ stored b 0 (x ++ (v ∷ []))
 next b x v {at} e h =
     let here : at ≡ 0 + length x = omega arith in
     ap (λ (k : ℕ). set (stored b 0 x) k v) here ∙ stored-byte b 0 x v (omega arith)
@@ -65,7 +65,7 @@ behind a b c ns {k} j e =
 
 -- three numbers in front are a load in front
 loads-first : (l : Load) (ns : List ℕ) (n : ℕ) → loadsOf (l .cost ∷ l .deadline ∷ l .period ∷ ns) (suc n) ≡ l ∷ loadsOf ns n
-unfolding loadsOf
+unfolding each
 loads-first l ns zero = refl
 loads-first l ns (suc n) = ap₂ (λ (ls : List Load) (k : Load). ls ++ (k ∷ [])) (loads-first l ns n) at
   where
@@ -77,7 +77,7 @@ loads-first l ns (suc n) = ap₂ (λ (ls : List Load) (k : Load). ls ++ (k ∷ [
 
 -- the numbers of loads, whatever follows them, are the loads again
 pub loads-back : (ls : List Load) (ns : List ℕ) → loadsOf (numbersOf ls ++ ns) (length ls) ≡ ls
-unfolding numbersOf loadsOf
+unfolding numbersOf each
 loads-back [] ns = refl
 loads-back (l ∷ ls) ns = loads-first l (numbersOf ls ++ ns) (length ls) ∙ ap (λ (ks : List Load). l ∷ ks) (loads-back ls ns)
 

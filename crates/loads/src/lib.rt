@@ -1,11 +1,12 @@
 // The loads of one server: the figures of its members, charged.
-// What they mean stands in specs/Charge.antt. Figures and loads stand in slices of numbers, three for each.
+// What they mean stands in specs/Charge.antt. Figures stand in a slice of numbers, four for each, loads in one, three for each.
 use tasks::set::Header;
 ghost use mathlib.Core.Path.{_≡_};
 ghost use mathlib.Core.List.{map};
 ghost use lib.ListN.{take};
 ghost use Rattle.digits.specs.Stored.{stored};
-ghost use Rattle.loads.specs.Charge.{numbersOf, chargedIn, membersAt, Charging};
+ghost use Rattle.loads.specs.Charge.{numbersOf, chargedIn, Charging};
+ghost use Rattle.loads.specs.Figures.{membersAt};
 
 // The figures at the first n places, charged with a cache cost, from the start of `loads` on; the rest of it as before.
 pub fn charge(
@@ -21,7 +22,7 @@ pub fn charge(
 {
     let mut i: usize = 0;
     while i < n {
-        let from = 3 * places[i] as usize;
+        let from = 4 * places[i] as usize;
         let to = 3 * i;
         loads[to] = charging::charged_cost(
             figures[from],

@@ -8,7 +8,7 @@ use mathlib.Core.Path.{_≡_, refl, sym, ap, ap₂, _∙_}
 use mathlib.Core.List.{List, [], _∷_, _++_, map, map-append}
 use lib.ListN.{length, getD, length-append, List·getD-append}
 use lib.Seq.{getD-append-seam}
-use Rattle.demand.specs.Load.{Load, loadAt, loadsOf}
+use Rattle.demand.specs.Load.{Load, each, loadAt, loadsOf}
 use Rattle.interrupting.specs.Interrupts.{Bound, boundAt, boundsOf}
 use Rattle.members.specs.Server.{spaced}
 
@@ -37,7 +37,7 @@ module _ (numbers : List ℕ) (from stride : ℕ) where
 
 -- the periods of loads are every third number, from the third on
 pub spaced-loads : (numbers : List ℕ) (n : ℕ) → spaced numbers 2 3 n ≡ map (λ (l : Load). l .period) (loadsOf numbers n)
-unfolding spaced loadsOf
+unfolding spaced each
 spaced-loads numbers zero = refl
 spaced-loads numbers (suc n) =
     let at : 2 + 3 * n ≡ 3 * n + 2 = omega arith in

@@ -16,9 +16,12 @@ unfoldable pub maskedLine : Optional → List ℕ
 maskedLine Absent = []
 maskedLine (Given masked) = lineOf Frame.Masked (masked ∷ [])
 
--- the 07 lines, one for each interrupt, in file order
+-- the 07 line of an interrupt, and those of all, in file order
+abbrev pub interruptLine : Interrupt → List ℕ
+interruptLine i = lineOf Frame.Interrupt (interruptValues i)
+
 abbrev pub interruptLines : List Interrupt → List ℕ
-interruptLines is = eachLine Frame.Interrupt interruptValues is
+interruptLines is = eachLine interruptLine is
 
 -- the figures of the 07 line of interrupt k, from 1
 abbrev pub interruptFigures : List Interrupt → ℕ → List ℕ

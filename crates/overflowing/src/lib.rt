@@ -1,6 +1,7 @@
 // Figures that are too large for the fields of their lines, of the header, of a task, of the 05 line and of an interrupt.
 use frames::table::Frame;
 use framesizes::overflows;
+use taskframe::task_frame;
 use tasks::set::Header;
 use tasks::set::Interrupt;
 use tasks::set::Optional;
@@ -24,7 +25,8 @@ pub fn task_overflows(task: Task) -> bool
     ensures { λ r. ⌜ r ≡ taskOverflows task ⌝ }
 {
     let values = task_values(task);
-    overflows(Frame::Task, &values)
+    let frame = task_frame(task);
+    overflows(frame, &values)
 }
 
 // The figure of the 05 line is too large for its field.

@@ -12,7 +12,7 @@ use Rattle.places.specs.Padded.{padded, upTo}
 use Rattle.places.proofs.PaddedLaws.{FilledWith, padded-length, pad-at, up-length, up-at, filled-all}
 use Rattle.plan.specs.declared.plan.Plan.{Plan}
 use Rattle.plan.specs.declared.server.Server.{Server}
-use Rattle.plan.specs.Plan.{noServer, reservesIn}
+use Rattle.plan.specs.Plan.{noServer}
 
 -- a number of the server at place k − 1
 abbrev pub before : (Server → ℕ) → List Server → ℕ → ℕ
@@ -47,5 +47,5 @@ take-map f (suc n) [] = refl
 take-map f (suc n) (x ∷ xs) = ap (λ (l : List _). f x ∷ l) (take-map f n xs)
 
 -- of the row of all places, those of the servers that there are
-pub row-front : (plan : Plan) {row : List ℕ} → row ≡ map (λ (s : Server). s .reserve) (plan .server) → take (plan .servers) row ≡ reservesIn plan
-row-front plan e = ap (take (plan .servers)) e ∙ take-map (λ (s : Server). s .reserve) (plan .servers) (plan .server)
+pub row-front : (number : Server → ℕ) (plan : Plan) {row : List ℕ} → row ≡ map number (plan .server) → take (plan .servers) row ≡ map number (take (plan .servers) (plan .server))
+row-front number plan e = ap (take (plan .servers)) e ∙ take-map number (plan .servers) (plan .server)

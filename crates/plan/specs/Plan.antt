@@ -1,4 +1,4 @@
--- The plan as a value: the all-zero plan, and the servers and reserves of a plan.
+-- The plan as a value: the all-zero plan, and the servers of a plan, their reserves and their cache costs.
 -- Document 01, "From tasks to servers to ring" (RULES 3) and "Lines of hexadecimal" (RULES 5).
 use Prim.Native.Nat.{ℕ, pred}
 use mathlib.Core.List.{List, [], map}
@@ -39,3 +39,7 @@ serverAt plan q = getD (plan .server) (pred q) noServer
 -- the reserves of a plan's servers
 abbrev pub reservesIn : Plan → List ℕ
 reservesIn plan = map (λ (s : Server). s .reserve) (take (plan .servers) (plan .server))
+
+-- and their cache costs
+abbrev pub cachesIn : Plan → List ℕ
+cachesIn plan = map (λ (s : Server). s .cache) (take (plan .servers) (plan .server))

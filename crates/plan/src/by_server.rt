@@ -1,4 +1,4 @@
-// Rows of numbers by server: where each stands on the ring, and how many tasks it has.
+// Rows of numbers by server: where each stands on the ring, how many tasks it has, and its cache cost.
 // Every place is read, so that what is compiled reads a plan where it stands and copies no more than the row.
 use crate::plan::Plan;
 use tasks::set::TaskSet;
@@ -25,6 +25,18 @@ pub fn counts(plan: Plan) -> [u64; TaskSet::MOST_TASKS]
     let mut i: usize = 0;
     while i < TaskSet::MOST_TASKS {
         row[i] = plan.server[i].count as u64;
+        i += 1;
+    }
+    row
+}
+
+pub fn caches(plan: Plan) -> [u64; TaskSet::MOST_TASKS]
+    ensures { λ r. ⌜ r ≡ map (λ (s : Server). s .cache) (plan .server) ⌝ }
+{
+    let mut row = [0u64; TaskSet::MOST_TASKS];
+    let mut i: usize = 0;
+    while i < TaskSet::MOST_TASKS {
+        row[i] = plan.server[i].cache;
         i += 1;
     }
     row

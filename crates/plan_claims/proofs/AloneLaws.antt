@@ -11,14 +11,14 @@ use Rattle.laws.proofs.Tests.{true-false, never-true}
 use Rattle.refusals.specs.declared.Outcome.the-variants.{Done}
 use Rattle.refusals.specs.First.{firstOf}
 use Rattle.refusals.proofs.FirstLaws.{first-done}
-use Rattle.demand.specs.Load.{Load, Every}
-use Rattle.demand.specs.Supply.{supply}
+use Rattle.demand.specs.Load.{Every}
 use Rattle.tasks.specs.declared.set.TaskSet.{TaskSet}
 use Rattle.tasks.specs.Set.{mostTasks, members, zeroTask}
 use Rattle.taskrows.specs.Rows.{figuresOutcome}
-use Rattle.verdict.specs.Verdict.{firstFailing, passing}
+use Rattle.verdict.specs.Verdict.{firstFailing}
 use Rattle.verdict.proofs.Verdict.{has-failed, fails-first, passing-yes}
-use Rattle.loads.specs.Charge.{figuresOf, serverLoss, Member}
+use Rattle.loads.specs.Charge.{serverLoss, Member}
+use Rattle.loads.specs.Figures.{Figures, figuresOf}
 use Rattle.members.specs.Server.{serverDemand, serverHorizon, passesWith, fits}
 use Rattle.members.proofs.ServerLaws.{fits-passes, passes-fits}
 use Rattle.servers.specs.Fitting.{PassesWhole, Fitting}
@@ -83,7 +83,7 @@ module _ (set : TaskSet) (full : length (set .tasks) ≡ mostTasks) (clear : Cle
 
   member : Every (Member (set .header)) (aloneIn set k)
   unfolding setFigures
-  member = (every-to (Member (set .header)) (members set) (figures-ok set full clear) (k - 1) (omega arith), tt)
+  member = (every-to (Member (set .header)) (figuresOf (set .header)) (members set) (figures-ok set full clear) (k - 1) (omega arith), tt)
 
   abbrev demand : ℕ → ℕ
   demand = serverDemand (setBoard set) (aloneIn set k)
@@ -142,7 +142,7 @@ module _ (set : TaskSet) (full : length (set .tasks) ≡ mostTasks) (clear : Cle
   unfolding aloneRow setFigures
   alone-unplaced f placement w =
       let all = alone-nowhere (setBoard set) (setFigures set) placement (sound set full clear) (figures-ok set full clear) w in
-      let here = every-to (λ (l : Load). fits (setBoard set) (l ∷ []) ≡ true) (members set) all (k - 1) (omega (arith, f .counted, f .within)) in
+      let here = every-to (λ (f : Figures). fits (setBoard set) (f ∷ []) ≡ true) (figuresOf (set .header)) (members set) all (k - 1) (omega (arith, f .counted, f .within)) in
       true-false (sym (fails-row set full clear k (f .counted) (f .within) (f .fails)) ∙ ap not here)
 
   -- without interrupts none fails

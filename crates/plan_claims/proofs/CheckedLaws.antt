@@ -10,10 +10,10 @@ use lib.Dec.{leb}
 use lib.ListN.{length}
 use Rattle.tasks.specs.Set.{mostTasks}
 use Rattle.laws.proofs.Tests.{and-left, and-right}
-use Rattle.demand.specs.Load.{Load}
 use Rattle.demand.specs.Lawful.{Lawful}
 use Rattle.verdict.proofs.Claims.{verdict-means}
 use Rattle.loads.specs.Charge.{serverLoss, Member}
+use Rattle.loads.specs.Figures.{Figures}
 use Rattle.members.specs.Server.{serverDemand, serverHorizon, verdictFor}
 use Rattle.members.proofs.ServerLaws.{server-lawful}
 use Rattle.servers.specs.Fitting.{Fitting}
@@ -107,14 +107,14 @@ module _ (set : TaskSet) (plan : Plan) (full : length (set .tasks) ≡ mostTasks
   -- ---- does it pass
 
   module _ (q R : ℕ) (s : isServer plan q ≡ true) (a : allowed (set .header .slot) (serverLoss (set .header) (membersIn set plan q)) R ≡ true) where
-    abbrev own : List Load
+    abbrev own : List Figures
     own = serverMembers set q
 
     named : membersIn set plan q ≡ own
     named = members-made set plan e q
 
     allowed-own : allowed (set .header .slot) (serverLoss (set .header) own) R ≡ true
-    allowed-own = subst (λ (ms : List Load). allowed (set .header .slot) (serverLoss (set .header) ms) R ≡ true) named a
+    allowed-own = subst (λ (ms : List Figures). allowed (set .header .slot) (serverLoss (set .header) ms) R ≡ true) named a
 
     pass-is : doesPass set plan q R ≡ passAnswer (verdictFor (setBoard set) own R)
     unfolding doesPass

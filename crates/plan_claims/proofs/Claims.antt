@@ -11,12 +11,11 @@ use Rattle.refusals.specs.declared.Refusal.the-variants.{Ask}
 use Rattle.refusals.specs.declared.Outcome.{Outcome}
 use Rattle.refusals.specs.declared.Outcome.the-variants.{Done, Refused}
 use Rattle.refusals.proofs.FirstLaws.{done-refused, till-done, done-till, stays, found}
-use Rattle.ring.specs.declared.clock.Tick.{Tick}
 use Rattle.ring.specs.declared.cover.Stand.{Stand}
 use Rattle.verdict.specs.declared.answer.Verdict.{Verdict}
 use Rattle.tasks.specs.declared.set.TaskSet.{TaskSet}
-use Rattle.demand.specs.Load.{Load}
 use Rattle.loads.specs.Charge.{serverLoss}
+use Rattle.loads.specs.Figures.{Figures}
 use Rattle.plan.specs.declared.plan.Plan.{Plan}
 use Rattle.layout.specs.Made.{planMade}
 use Rattle.plan.specs.Plan.{zeroPlan}
@@ -159,7 +158,7 @@ module _ (set : TaskSet) (plan : Plan) (q R : ℕ) where
   unfolding doesPass
   pass-else false m a = rw m
   pass-else true m a =
-      rw (subst (λ (own : List Load). allowed (set .header .slot) (serverLoss (set .header) own) R ≡ false) (members-made set plan m q) a, and-false (isServer plan q), and-false (makes set plan))
+      rw (subst (λ (own : List Figures). allowed (set .header .slot) (serverLoss (set .header) own) R ≡ false) (members-made set plan m q) a, and-false (isServer plan q), and-false (makes set plan))
 
 -- both questions refuse where something is not there
 pub asks-else : AsksElse
@@ -194,7 +193,7 @@ allowed-same : (set : TaskSet) (plan : Plan) (q R : ℕ) (b : Bool) → makes se
     (b && (isServer plan q && allowedTo set q R)) ≡ (b && (isServer plan q && allowedIn set plan q R))
 allowed-same set plan q R false m = refl
 allowed-same set plan q R true m =
-    ap (λ (own : List Load). (isServer plan q && allowed (set .header .slot) (serverLoss (set .header) own) R)) (sym (members-made set plan m q))
+    ap (λ (own : List Figures). (isServer plan q && allowed (set .header .slot) (serverLoss (set .header) own) R)) (sym (members-made set plan m q))
 
 -- does it pass
 pub pass-exactly : PassExactly

@@ -26,8 +26,8 @@ use Rattle.plan.specs.declared.plan.Plan.{Plan}
 use Rattle.plan.specs.declared.server.Server.{Server}
 use Rattle.plan.specs.Plan.{noServer, serverAt, reservesIn}
 use Rattle.layout.specs.Layout.{ringStart, serverOf, laidOut}
-use Rattle.layout.specs.Made.{reservesWith, planWith}
-use Rattle.layout.proofs.LaidLaws.{laid-reserves, laid-server}
+use Rattle.layout.specs.Made.{reservesWith, cachesWith, planWith}
+use Rattle.layout.proofs.LaidLaws.{cost-with, laid-reserves, laid-server}
 use Rattle.planner.specs.Planner.{Clear}
 use Rattle.planner.proofs.Made.{fits, members, sound}
 use Rattle.planagree.specs.Agrees.{used, SamePlan}
@@ -41,7 +41,7 @@ pub record Holds (set : TaskSet) (named : List ℕ) (plan : Plan) : Type 0 where
   pub reserves : reservesIn plan ≡ reservesWith set named
   pub ring : plan .ring ≡ ringProcessors (set .header .slot) (reservesWith set named)
   pub whole : plan .whole ≡ wholes (set .header .slot) (reservesWith set named)
-  pub server : (q : ℕ) → 1 ≤ q → q ≤ plan .servers → used (serverAt plan q) ≡ used (serverOf (set .header .slot) (set .header .cpmdo) named (reservesWith set named) q)
+  pub server : (q : ℕ) → 1 ≤ q → q ≤ plan .servers → used (serverAt plan q) ≡ used (serverOf (set .header .slot) (cachesWith set named) named (reservesWith set named) q)
 
 -- plans that are the same in what is used have the same servers there
 pub used-same : {n : ℕ} (a b : Plan) → SamePlan n a b → (i : ℕ) → i < a .servers → used (getD (a .server) i noServer) ≡ used (getD (b .server) i noServer)
@@ -107,7 +107,6 @@ module _ (set : TaskSet) (full : length (set .tasks) ≡ mostTasks) (clear : Cle
     }
 
     recorded : Recorded set plan
-    unfolding cacheOf
     recorded = record {
       places = λ q h l.
           ap (λ (s : Server). s .places) (own .server q h l)
@@ -115,7 +114,9 @@ module _ (set : TaskSet) (full : length (set .tasks) ≡ mostTasks) (clear : Cle
           ∙ ap (λ (p : List ℕ). placesIn p q) (sym (own .placement));
       start = λ q h l.
           ap (λ (s : Server). s .start .0) (own .server q h l) ∙ ap (λ (rs : List ℕ). ringStart (set .header .slot) rs q) (sym (own .reserves));
-      cache = λ q h l. ap (λ (s : Server). s .cache) (own .server q h l);
+      cache = λ q h l.
+          ap (λ (s : Server). s .cache) (own .server q h l) ∙ cost-with set named q h (omega (arith, own .servers))
+          ∙ ap (λ (p : List ℕ). cacheOf (chosen (setFigures set) p q)) (sym (own .placement));
     }
 
     needs : Needs set plan
@@ -129,13 +130,13 @@ module _ (set : TaskSet) (full : length (set .tasks) ≡ mostTasks) (clear : Cle
     fitting-plan = record { placed = placed; reserved = reserved; recorded = recorded; needs = needs }
 
   with-server : (q : ℕ) → 1 ≤ q → q ≤ planWith set named .servers →
-      used (serverAt (planWith set named) q) ≡ used (serverOf (set .header .slot) (set .header .cpmdo) named (reservesWith set named) q)
+      used (serverAt (planWith set named) q) ≡ used (serverOf (set .header .slot) (cachesWith set named) named (reservesWith set named) q)
   unfolding planWith laidOut
   with-server zero h l = absurd (omega arith)
   with-server (suc i) h l =
       ap used
-      (laid-server (set .header .slot) (set .header .cpmdo) named (reservesWith set named) noServer i l
-      ∙ ap (serverOf (set .header .slot) (set .header .cpmdo) named (reservesWith set named)) (add-one i))
+      (laid-server (set .header .slot) (cachesWith set named) named (reservesWith set named) noServer i l
+      ∙ ap (serverOf (set .header .slot) (cachesWith set named) named (reservesWith set named)) (add-one i))
 
   -- the plan of the placement holds it
   pub with-holds : Holds set named (planWith set named)
@@ -143,7 +144,7 @@ module _ (set : TaskSet) (full : length (set .tasks) ≡ mostTasks) (clear : Cle
   with-holds = record {
     servers = reserves-count (setBoard set) (setFigures set) named;
     placement = padded-take named (set .count) counted;
-    reserves = laid-reserves (set .header .slot) (set .header .cpmdo) named (reservesWith set named);
+    reserves = laid-reserves (set .header .slot) (cachesWith set named) named (reservesWith set named);
     ring = refl;
     whole = refl;
     server = with-server;

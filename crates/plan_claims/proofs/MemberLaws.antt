@@ -12,7 +12,7 @@ use Rattle.tasks.specs.declared.set.TaskSet.{TaskSet}
 use Rattle.tasks.specs.Set.{members}
 use Rattle.places.specs.Padded.{padded}
 use Rattle.places.specs.Places.{keep, chosen}
-use Rattle.loads.specs.Charge.{figuresOf}
+use Rattle.loads.specs.Figures.{figuresOf}
 use Rattle.servers.proofs.PlacementLaws.{placement-length}
 use Rattle.setfigures.specs.Figures.{setFigures}
 use Rattle.setfigures.specs.Board.{setBoard}
@@ -45,7 +45,7 @@ module _ (set : TaskSet) where
   figures-few : length (setFigures set) ≤ set .count
   unfolding setFigures
   figures-few =
-      omega (arith, length-map (members set) figuresOf, length-take (set .count) (set .tasks), min-le-left (set .count) (length (set .tasks)))
+      omega (arith, length-map (members set) (figuresOf (set .header)), length-take (set .count) (set .tasks), min-le-left (set .count) (length (set .tasks)))
 
   made-placement : planMade set .placement ≡ padded (setPlacement set)
   unfolding planMade planWith laidOut

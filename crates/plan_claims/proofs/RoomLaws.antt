@@ -4,16 +4,15 @@ use Prim.Native.Nat.{ℕ}
 use mathlib.Core.Path.{_≡_, ap, ap₂, _∙_}
 use mathlib.Core.Bool.{Bool, not, _&&_}
 use mathlib.Core.List.{List, [], _∷_}
-use Rattle.demand.specs.Load.{Load}
 use Rattle.interrupting.specs.Interrupts.{Bound}
 use Rattle.tasks.specs.declared.set.Header.{Header}
 use Rattle.tasks.specs.declared.set.Task.{Task}
 use Rattle.tasks.specs.declared.set.TaskSet.{TaskSet}
 use Rattle.tasks.specs.Set.{members}
 use Rattle.tasks.specs.Search.{firstTask}
-use Rattle.loads.specs.Charge.{figuresOf}
+use Rattle.loads.specs.Figures.{Figures, figuresOf}
 use Rattle.members.specs.Server.{Board, fits}
-use Rattle.servers.specs.Placement.{placementOf}
+use Rattle.servers.specs.Placement.{placementOf, cachesOf}
 use Rattle.sizing.specs.Reserve.{reservesOf}
 use Rattle.taskask.specs.Ask.{countRow, askRow}
 use Rattle.taskrows.specs.Rows.{figuresOutcome}
@@ -23,7 +22,7 @@ use Rattle.setfigures.specs.Board.{setInterrupts, setBoard}
 use Rattle.rows.specs.Rows.{horizonOf, horizonRow, chargedOutcome}
 use Rattle.alonerow.specs.Alone.{aloneRow}
 use Rattle.layout.specs.Layout.{laidOut}
-use Rattle.layout.specs.Made.{reservesWith, planWith, setPlacement, setReserves, planMade}
+use Rattle.layout.specs.Made.{reservesWith, cachesWith, planWith, setPlacement, setReserves, setCaches, planMade}
 use Rattle.planner.specs.Planner.{needed, fullRow, planOutcome, planOf}
 use Rattle.plancheck.specs.Makes.{isDone, makes}
 use Rattle.planagree.specs.Agrees.{SamePlan}
@@ -54,23 +53,27 @@ module _ (a b : TaskSet) (s : SameSet a b) where
 
   same-figures : setFigures a ≡ setFigures b
   unfolding setFigures
-  same-figures = rw (s .tasks)
+  same-figures = rw (s .tasks, s .header)
 
   same-placement : setPlacement a ≡ setPlacement b
   unfolding setPlacement
-  same-placement = ap₂ (λ (d : Board) (ls : List Load). placementOf d ls) same-board same-figures
+  same-placement = ap₂ (λ (d : Board) (fs : List Figures). placementOf d fs) same-board same-figures
 
   same-reserves : setReserves a ≡ setReserves b
   unfolding setReserves reservesWith
   same-reserves =
       ap (reservesOf (setBoard a) (setFigures a)) same-placement
-      ∙ ap₂ (λ (d : Board) (ls : List Load). reservesOf d ls (setPlacement b)) same-board same-figures
+      ∙ ap₂ (λ (d : Board) (fs : List Figures). reservesOf d fs (setPlacement b)) same-board same-figures
+
+  same-caches : setCaches a ≡ setCaches b
+  unfolding setCaches cachesWith
+  same-caches = ap₂ (λ (fs : List Figures) (p : List ℕ). cachesOf fs p) same-figures same-placement
 
   same-made : planMade a ≡ planMade b
-  unfolding planMade planWith setReserves
+  unfolding planMade planWith setReserves setCaches
   same-made =
-      ap₂ (λ (p rs : List ℕ). laidOut (a .header .slot) (a .header .cpmdo) p rs) same-placement same-reserves
-      ∙ ap (λ (h : Header). laidOut (h .slot) (h .cpmdo) (setPlacement b) (reservesWith b (setPlacement b))) (s .header)
+      ap₂ (λ (p rs : List ℕ). laidOut (a .header .slot) (setCaches a) p rs) same-placement same-reserves
+      ∙ ap₂ (λ (h : Header) (cs : List ℕ). laidOut (h .slot) cs (setPlacement b) (reservesWith b (setPlacement b))) (s .header) same-caches
 
   same-needed : needed a ≡ needed b
   unfolding needed
@@ -82,7 +85,7 @@ module _ (a b : TaskSet) (s : SameSet a b) where
 
   alike-alone : (t : Task) → aloneRow a t ≡ aloneRow b t
   unfolding aloneRow
-  alike-alone t = ap (λ (d : Board). not (fits d (figuresOf t ∷ []))) same-board
+  alike-alone t = ap₂ (λ (d : Board) (h : Header). not (fits d (figuresOf h t ∷ []))) same-board (s .header)
 
   same-alone : firstTask (aloneRow a) (members a) ≡ firstTask (aloneRow b) (members b)
   same-alone = ap₂ (λ (p : Task → Bool) (ts : List Task). firstTask p ts) (λ i t. alike-alone t i) (s .tasks)

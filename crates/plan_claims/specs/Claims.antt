@@ -15,10 +15,10 @@ use Rattle.refusals.specs.Refused.{numberOf, placeOf}
 use Rattle.verdict.specs.declared.answer.Verdict.the-variants.{Yes}
 use Rattle.verdict.specs.Reserve.{Smallest}
 use Rattle.verdict.specs.Claims.{VerdictTells}
-use Rattle.demand.specs.Load.{Load}
 use Rattle.demand.specs.Supply.{supply}
 use Rattle.places.specs.Places.{placesIn, chosen}
-use Rattle.loads.specs.Charge.{figuresOf, cacheOf, serverLoss}
+use Rattle.loads.specs.Charge.{cacheOf, serverLoss}
+use Rattle.loads.specs.Figures.{Figures, figuresOf}
 use Rattle.members.specs.Server.{serverDemand}
 use Rattle.servers.specs.Fitting.{PassesWhole, Fitting}
 use Rattle.ring.specs.declared.clock.Tick.{Tick}
@@ -154,8 +154,8 @@ pub record PlanGiven (set : TaskSet) : Type 0 where
 -- ---- a task that fails alone
 
 -- task k alone in a server, from 1
-abbrev pub aloneIn : TaskSet → (k : ℕ) → List Load
-aloneIn set k = figuresOf (getD (members set) (k - 1) zeroTask) ∷ []
+abbrev pub aloneIn : TaskSet → (k : ℕ) → List Figures
+aloneIn set k = figuresOf (set .header) (getD (members set) (k - 1) zeroTask) ∷ []
 
 -- with a whole processor its demand, the interrupts' among it, exceeds the supply at some length
 abbrev pub FailsAlone : TaskSet → (k : ℕ) → Type 0
@@ -228,7 +228,7 @@ abbrev pub serverOfTask : Plan → (k : ℕ) → ℕ
 serverOfTask plan k = getD (plan .placement) (k - 1) 0
 
 -- the members of server q: those that the plan's own figures name
-abbrev pub membersIn : TaskSet → Plan → (q : ℕ) → List Load
+abbrev pub membersIn : TaskSet → Plan → (q : ℕ) → List Figures
 membersIn set plan q = chosen (setFigures set) (take (set .count) (plan .placement)) q
 
 -- every task is in exactly one server, and no server is empty
@@ -243,12 +243,12 @@ pub record Reserved (set : TaskSet) (plan : Plan) : Type 0 where
       Smallest (serverDemand (setBoard set) (membersIn set plan q)) (set .header .slot) (serverLoss (set .header) (membersIn set plan q)) (serverAt plan q .reserve)
 
 -- each server's record says what the plan's figures do: the places of its tasks, where it stands on the ring, and the cache cost
--- that it is charged with
+-- that it is charged with, the largest among its tasks
 pub record Recorded (set : TaskSet) (plan : Plan) : Type 0 where
   pub places : (q : ℕ) → 1 ≤ q → q ≤ plan .servers →
       take (serverAt plan q .count) (serverAt plan q .places) ≡ placesIn (take (set .count) (plan .placement)) q
   pub start : (q : ℕ) → 1 ≤ q → q ≤ plan .servers → serverAt plan q .start .0 ≡ ringStart (set .header .slot) (reservesIn plan) q
-  pub cache : (q : ℕ) → 1 ≤ q → q ≤ plan .servers → serverAt plan q .cache ≡ cacheOf (set .header) (membersIn set plan q)
+  pub cache : (q : ℕ) → 1 ≤ q → q ≤ plan .servers → serverAt plan q .cache ≡ cacheOf (membersIn set plan q)
 
 -- the processors are those that the reserves need
 pub record Needs (set : TaskSet) (plan : Plan) : Type 0 where

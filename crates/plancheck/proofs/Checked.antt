@@ -1,7 +1,7 @@
 -- A plan that the planner makes of a set: what agrees in both.
 -- Assumes nothing.
 use Prim.Native.Nat.{ℕ, _+_}
-use mathlib.Core.Path.{_≡_, refl, sym, ap, _∙_}
+use mathlib.Core.Path.{_≡_, refl, sym, ap, ap₂, _∙_}
 use mathlib.Core.Bool.{Bool, true, false}
 use mathlib.Core.List.{List, [], _∷_, map}
 use native.Mathlib.Omega.{arith}
@@ -21,11 +21,11 @@ use Rattle.plan.specs.declared.plan.Plan.{Plan}
 use Rattle.setfigures.specs.Figures.{setFigures}
 use Rattle.setfigures.specs.Board.{setBoard}
 use Rattle.plan.specs.declared.server.Server.{Server}
-use Rattle.plan.specs.Plan.{noServer, reservesIn}
+use Rattle.plan.specs.Plan.{noServer, reservesIn, cachesIn}
 use Rattle.layout.specs.Layout.{laidOut}
-use Rattle.layout.specs.Made.{reservesWith, planWith, setPlacement, setReserves, planMade}
+use Rattle.layout.specs.Made.{reservesWith, cachesWith, planWith, setPlacement, setReserves, setCaches, planMade}
 use Rattle.plan.proofs.RecordLaws.{take-map}
-use Rattle.layout.proofs.LaidLaws.{laid-reserves, laid-count}
+use Rattle.layout.proofs.LaidLaws.{caches-count, laid-reserves, laid-caches, laid-count}
 use Rattle.planagree.specs.Agrees.{used, agrees, SamePlan, InRoom}
 use Rattle.plancheck.specs.Makes.{isDone, makes}
 use Rattle.planner.specs.Planner.{Clear, Placeable, needed, planOutcome, planOf}
@@ -59,15 +59,18 @@ module _ (set : TaskSet) (plan : Plan) where
   unfolding makes
   makes-agrees e = and-right (isDone (planOutcome set)) (agrees (set .count) plan (planMade set)) e
 
--- unused room has no reserve
-used-reserves : (servers : List Server) → map (λ (s : Server). s .reserve) (map used servers) ≡ map (λ (s : Server). s .reserve) servers
-used-reserves [] = refl
-used-reserves (s ∷ servers) = ap (λ (l : List ℕ). s .reserve ∷ l) (used-reserves servers)
+-- a number that unused room leaves as it is
+module _ (number : Server → ℕ) (kept : (s : Server) → number (used s) ≡ number s) where
+  used-row : (servers : List Server) → map number (map used servers) ≡ map number servers
+  used-row [] = refl
+  used-row (s ∷ servers) = ap₂ (λ (n : ℕ) (l : List ℕ). n ∷ l) (kept s) (used-row servers)
+
+  row-same : {n : ℕ} {a b : Plan} → SamePlan n a b → map number (take (a .servers) (a .server)) ≡ map number (take (b .servers) (b .server))
+  row-same {a = a} {b = b} s = sym (used-row (take (a .servers) (a .server))) ∙ ap (map number) (s .server) ∙ used-row (take (b .servers) (b .server))
 
 -- plans that are the same in what is used have the same reserves
 pub reserves-same : {n : ℕ} {a b : Plan} → SamePlan n a b → reservesIn a ≡ reservesIn b
-reserves-same {a = a} {b = b} s =
-    sym (used-reserves (take (a .servers) (a .server))) ∙ ap (map (λ (s : Server). s .reserve)) (s .server) ∙ used-reserves (take (b .servers) (b .server))
+reserves-same s = row-same (λ (s : Server). s .reserve) (λ s. refl) s
 
 -- what a plan that is checked has of its set
 pub record OfSet (set : TaskSet) (plan : Plan) : Type 0 where
@@ -76,6 +79,7 @@ pub record OfSet (set : TaskSet) (plan : Plan) : Type 0 where
   pub processors : plan .ring + plan .whole ≡ needed set
   pub servers : plan .servers ≡ serversIn (setPlacement set)
   pub reserves : reservesIn plan ≡ setReserves set
+  pub caches : cachesIn plan ≡ setCaches set
   pub placement : take (set .count) (plan .placement) ≡ setPlacement set
 
 module _ (set : TaskSet) (full : length (set .tasks) ≡ mostTasks) (plan : Plan) where
@@ -89,7 +93,13 @@ module _ (set : TaskSet) (full : length (set .tasks) ≡ mostTasks) (plan : Plan
 
   made-reserves : reservesIn (planMade set) ≡ setReserves set
   unfolding planMade planWith setReserves
-  made-reserves = laid-reserves (set .header .slot) (set .header .cpmdo) (setPlacement set) (reservesWith set (setPlacement set))
+  made-reserves = laid-reserves (set .header .slot) (cachesWith set (setPlacement set)) (setPlacement set) (reservesWith set (setPlacement set))
+
+  made-caches : Clear set → cachesIn (planMade set) ≡ setCaches set
+  unfolding planMade planWith setCaches setReserves
+  made-caches clear =
+      laid-caches (set .header .slot) (cachesWith set (setPlacement set)) (setPlacement set) (reservesWith set (setPlacement set))
+      (caches-count set (setPlacement set) ∙ sym (set-count set full clear))
 
   made-placement : planMade set .placement ≡ padded (setPlacement set)
   unfolding planMade planWith laidOut
@@ -107,7 +117,7 @@ module _ (set : TaskSet) (full : length (set .tasks) ≡ mostTasks) (plan : Plan
     servers = made-servers set full clear;
     processors = omega (arith, made-needs set, needed-few set full clear);
     tasks = λ i h.
-        laid-count (set .header .slot) (set .header .cpmdo) (setPlacement set) (reservesWith set (setPlacement set))
+        laid-count (set .header .slot) (cachesWith set (setPlacement set)) (setPlacement set) (reservesWith set (setPlacement set))
         (omega (arith, placement-count clear, count-most set full clear)) noServer i (omega (arith, h, made-count));
   }
 
@@ -130,6 +140,7 @@ module _ (set : TaskSet) (full : length (set .tasks) ≡ mostTasks) (plan : Plan
       processors = ap (λ (n : ℕ). n + plan .whole) (same-made .ring) ∙ ap (λ (n : ℕ). planMade set .ring + n) (same-made .whole) ∙ made-needs set;
       servers = same-made .servers ∙ made-count ∙ set-count set full clear-set;
       reserves = reserves-same same-made ∙ made-reserves;
+      caches = row-same (λ (s : Server). s .cache) (λ s. refl) same-made ∙ made-caches clear-set;
       placement = same-made .placement ∙ ap (take (set .count)) made-placement ∙ padded-take (setPlacement set) (set .count) (placement-count clear-set);
     }
 

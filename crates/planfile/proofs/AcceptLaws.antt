@@ -18,7 +18,7 @@ use Rattle.servers.specs.Placement.{placementOf}
 use Rattle.sizing.proofs.Claims.{reserves-count}
 use Rattle.servers.proofs.Claims.{servers-few}
 use Rattle.plan.specs.declared.plan.Plan.{Plan}
-use Rattle.loads.specs.Charge.{figuresOf}
+use Rattle.loads.specs.Figures.{figuresOf}
 use Rattle.setfigures.specs.Figures.{setFigures}
 use Rattle.setfigures.specs.Board.{setBoard}
 use Rattle.layout.specs.Made.{planMade, planWith, reservesWith, setPlacement}
@@ -50,7 +50,7 @@ module _ (set : TaskSet) (done : planOutcome set ≡ Done) where
 
   figures-few : length (setFigures set) ≤ mostTasks
   unfolding setFigures
-  figures-few = omega (arith, length-map (members set) figuresOf, length-take (set .count) (set .tasks), min-le-left (set .count) (length (set .tasks)), tasks-few)
+  figures-few = omega (arith, length-map (members set) (figuresOf (set .header)), length-take (set .count) (set .tasks), min-le-left (set .count) (length (set .tasks)), tasks-few)
 
   pub servers-few-made : planMade set .servers ≤ mostTasks
   unfolding planMade planWith laidOut reservesWith setPlacement

@@ -1,12 +1,12 @@
 -- The claims of specs/Claims.antt, proved.
 -- Assumes nothing.
-use Prim.Native.Nat.{ℕ, _+_, _≤_, _<_}
-use mathlib.Core.Path.{_≡_, refl, sym, _∙_, ap}
-use mathlib.Core.List.{List, _++_}
+use Prim.Native.Nat.{ℕ, _+_, _≤_, _<_, max}
+use mathlib.Core.Path.{_≡_, refl, sym, _∙_, ap, ap₂}
+use mathlib.Core.List.{List, [], _∷_, _++_, map}
 use mathlib.Core.Bool.{Bool, true, false, cond}
 use native.Mathlib.Nat.{zero-add}
 use native.Mathlib.Omega.{arith}
-use lib.Dec.{ltb}
+use lib.Dec.{ltb, eqb}
 use lib.ListN.{length, take, drop, getD}
 use lib.Seq.{ext-getD, getD-take}
 use borrow.Author.Tests.{ltb-true}
@@ -22,16 +22,17 @@ use Rattle.tasks.specs.declared.set.TaskSet.{TaskSet}
 use Rattle.taskread.specs.declared.read.ReadAnswer.{ReadAnswer}
 use Rattle.refusals.specs.Leaves.{leaves}
 use Rattle.refusals.specs.Refused.{placeOf}
-use Rattle.places.specs.Places.{placesIn}
+use Rattle.places.specs.Places.{keep, placesIn, chosen}
+use Rattle.loads.specs.Charge.{cacheOf}
+use Rattle.loads.specs.Figures.{Figures}
+use Rattle.setfigures.specs.Figures.{setFigures}
 use Rattle.tasks_claims.proofs.Prefix.{read-looks-at}
 use Rattle.plan.specs.declared.plan.Plan.{Plan}
 use Rattle.plancheck.specs.Makes.{makes}
 use Rattle.plantext.specs.Text.{planText, longestText}
 use Rattle.frames.specs.Table.{widthsOf, sum}
 use Rattle.readbytes.specs.Furthest.{furthest}
-use Rattle.taskread.specs.Read.{readOf}
 use Rattle.planfit.specs.Fit.{fitted}
-use Rattle.taskplan.specs.declared.FileAnswer.{FileAnswer}
 use Rattle.taskplan.specs.File.{unless, refusedFile, plannedSet, filedOf}
 use Rattle.planfile.specs.Tool.{printed, answered}
 use Rattle.askfile.specs.OfFile.{whoOfFile, passOfFile, whoIn, passIn}
@@ -117,19 +118,44 @@ fronts-same set₁ set₂ plan₁ plan₂ long₁ long₂ e f =
     let there : i < set₂ .count = omega (arith, here, e) in
     getD-take (set₁ .count) (plan₁ .placement) i 0 here ∙ f i there ∙ sym (getD-take (set₂ .count) (plan₂ .placement) i 0 there))
 
+-- the same cache costs placed alike give a server the same
+caches-same : (fs gs : List Figures) (placement : List ℕ) (q : ℕ) → map (λ (f : Figures). f .cache) fs ≡ map (λ (f : Figures). f .cache) gs →
+    cacheOf (chosen fs placement q) ≡ cacheOf (chosen gs placement q)
+unfolding chosen cacheOf
+caches-same [] [] placement q e = refl
+caches-same [] (g ∷ gs) placement q e = clash (cc)
+caches-same (f ∷ fs) [] placement q e = clash (cc)
+caches-same (f ∷ fs) (g ∷ gs) [] q e = refl
+caches-same (f ∷ fs) (g ∷ gs) (a ∷ placement) q e = kept (eqb a q) (caches-same fs gs placement q (cc))
+  where
+    first : f .cache ≡ g .cache
+    first = cc
+
+    kept : (b : Bool) → cacheOf (chosen fs placement q) ≡ cacheOf (chosen gs placement q) →
+        cacheOf (keep b f (chosen fs placement q)) ≡ cacheOf (keep b g (chosen gs placement q))
+    kept true rest = ap₂ max first rest
+    kept false rest = rest
+
 pub text-tells-plan : TextTellsPlan
 text-tells-plan set₁ set₂ plan₁ plan₂ full₁ full₂ m₁ m₂ e = record {
   count = same .0;
   printed = same .1;
   places = λ i h.
       places-at set₁ plan₁ full₁ m₁ i (there i h)
-      ∙ ap (λ (p : List ℕ). placesIn p (i + 1)) (fronts-same set₁ set₂ plan₁ plan₂ (front-long set₁ plan₁ full₁ m₁) (front-long set₂ plan₂ full₂ m₂) (same .0) (same .1 .server))
+      ∙ ap (λ (p : List ℕ). placesIn p (i + 1)) alike
       ∙ sym (places-at set₂ plan₂ full₂ m₂ i h);
-  cache = λ c i h. cache-at set₁ plan₁ full₁ m₁ i (there i h) ∙ c ∙ sym (cache-at set₂ plan₂ full₂ m₂ i h);
+  cache = λ c i h.
+      cache-at set₁ plan₁ full₁ m₁ i (there i h)
+      ∙ caches-same (setFigures set₁) (setFigures set₂) (take (set₁ .count) (plan₁ .placement)) (i + 1) c
+      ∙ ap (λ (p : List ℕ). cacheOf (chosen (setFigures set₂) p (i + 1))) alike
+      ∙ sym (cache-at set₂ plan₂ full₂ m₂ i h);
 }
   where
     same : (set₁ .count ≡ set₂ .count) × SamePrinted (set₂ .count) plan₁ plan₂
     same = text-tells set₁ set₂ plan₁ plan₂ (fit-fields set₁ plan₁ full₁ m₁) (fit-fields set₂ plan₂ full₂ m₂) e
+
+    alike : take (set₁ .count) (plan₁ .placement) ≡ take (set₂ .count) (plan₂ .placement)
+    alike = fronts-same set₁ set₂ plan₁ plan₂ (front-long set₁ plan₁ full₁ m₁) (front-long set₂ plan₂ full₂ m₂) (same .0) (same .1 .server)
 
     there : (i : ℕ) → i < plan₂ .servers → i < plan₁ .servers
     there i h = omega (arith, same .1 .servers)

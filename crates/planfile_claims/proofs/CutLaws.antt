@@ -9,6 +9,8 @@ use lib.Dec.{ltb, lit<}
 use lib.ListN.{length, getD}
 use Rattle.frames.specs.Table.{widthsOf, widthOf}
 use Rattle.frames.specs.declared.table.Frame.{Frame}
+use Rattle.tasks.specs.declared.set.Optional.{Optional}
+use Rattle.tasks.specs.declared.set.Optional.the-variants.{Absent, Given}
 use Rattle.tasks.specs.declared.set.Task.{Task}
 use Rattle.tasks.specs.declared.set.TaskSet.{TaskSet}
 use Rattle.tasks.specs.Set.{mostTasks, members, zeroTask}
@@ -17,7 +19,7 @@ use Rattle.tasks.proofs.SetLaws.{members-length, member-at}
 use Rattle.taskask.specs.Ask.{taskOverflows}
 use Rattle.taskask.proofs.Carried.{ask-tasks, task-fits}
 use Rattle.plan.specs.declared.plan.Plan.{Plan}
-use Rattle.planner.proofs.Made.{fits, count-most}
+use Rattle.planner.proofs.Made.{fits}
 use Rattle.plancheck.specs.Makes.{makes}
 use Rattle.plancheck.proofs.Checked.{OfSet, of-set}
 use Rattle.planfigures.specs.Figures.{serverFigures, placedFigures, processorFigures}
@@ -45,6 +47,13 @@ each-fit (more h rest) (suc k) = each-fit rest k
 in-fields : (frame : Frame) (figures : List ℕ) → Fit figures (widthsOf frame) → InFields frame figures
 in-fields frame figures f = record { many = many-fit f; each = each-fit f }
 
+-- a task's id has two digits, whichever line it stands in
+task-id-fits : (id cost deadline period : ℕ) (cache : Optional) →
+    taskOverflows (record { id = id; cost = cost; deadline = deadline; period = period; cache = cache }) ≡ false → id < 16 ^ 2
+unfolding widthsOf
+task-id-fits id cost deadline period Absent e = task-fits (record { id = id; cost = cost; deadline = deadline; period = period; cache = Absent }) e 0 (omega arith)
+task-id-fits id cost deadline period (Given own) e = task-fits (record { id = id; cost = cost; deadline = deadline; period = period; cache = Given own }) e 0 (omega arith)
+
 module _ (set : TaskSet) (plan : Plan) (full : length (set .tasks) ≡ mostTasks) (m : makes set plan ≡ true) where
   of : OfSet set plan
   of = of-set set full plan m
@@ -59,9 +68,10 @@ module _ (set : TaskSet) (plan : Plan) (full : length (set .tasks) ≡ mostTasks
   id-fits : (i : ℕ) → i < set .count → getD (set .tasks) i zeroTask .id < 16 ^ widthOf Frame.Placed 0
   unfolding widthsOf
   id-fits i h =
-      subst (λ (t : Task). t .id < 16 ^ 2) (member-at set i zeroTask h)
-      (task-fits (getD (members set) i zeroTask)
-      (some-at taskOverflows (members set) i zeroTask (ask-tasks set (of .clear .carried)) (omega (arith, members-length set (fits set full (of .clear))))) 0 (omega arith))
+      let t = getD (members set) i zeroTask in
+      subst (λ (s : Task). s .id < 16 ^ 2) (member-at set i zeroTask h)
+      (task-id-fits (t .id) (t .cost) (t .deadline) (t .period) (t .cache)
+      (some-at taskOverflows (members set) i zeroTask (ask-tasks set (of .clear .carried)) (omega (arith, members-length set (fits set full (of .clear))))))
 
   pub plan-whole : InFields Frame.Plan (planFigures plan)
   unfolding widthsOf

@@ -16,10 +16,10 @@ use Rattle.frames.specs.Table.{widthsOf}
 use Rattle.tasks.specs.declared.set.TaskSet.{TaskSet}
 use Rattle.tasks.specs.Set.{mostTasks}
 use Rattle.taskask.proofs.Carried.{ask-header, header-fits}
-use Rattle.places.specs.Places.{placesIn}
+use Rattle.places.specs.Places.{placesIn, chosen}
 use Rattle.places.proofs.PaddedLaws.{padded-take}
 use Rattle.places.proofs.PlacesLaws.{places-few}
-use Rattle.loads.specs.Charge.{serverLoss}
+use Rattle.loads.specs.Charge.{cacheOf, serverLoss}
 use Rattle.sizing.proofs.Claims.{allowed-range}
 use Rattle.reserves.specs.Reserves.{reserveOf, wholes, startOf, ringProcessors, ringLength, processorsOf}
 use Rattle.reserves.proofs.Starts.{ring-part, ring-holds}
@@ -28,12 +28,13 @@ use Rattle.ring.specs.declared.cover.Stand.{Stand}
 use Rattle.ring.proofs.WhoLaws.{first-whole}
 use Rattle.ring_claims.proofs.Claims.{first-reserve}
 use Rattle.ring_claims.proofs.OwnLaws.{whole-at}
+use Rattle.setfigures.specs.Figures.{setFigures}
 use Rattle.plan.specs.declared.plan.Plan.{Plan}
 use Rattle.plan.specs.declared.server.Server.{Server}
 use Rattle.plan.specs.Plan.{zeroStand, serverAt}
 use Rattle.layout.specs.Layout.{ringStart, serverOf, laidOut}
-use Rattle.layout.specs.Made.{planWith, setPlacement, setReserves, planMade}
-use Rattle.layout.proofs.LaidLaws.{laid-first}
+use Rattle.layout.specs.Made.{cachesWith, planWith, setPlacement, setReserves, setCaches, planMade}
+use Rattle.layout.proofs.LaidLaws.{cost-with, laid-first}
 use Rattle.planner.proofs.Made.{set-count, slot-some, count-most}
 use Rattle.planagree.specs.Agrees.{used, SamePlan}
 use Rattle.plancheck.specs.Makes.{makes}
@@ -112,8 +113,8 @@ module _ (set : TaskSet) (plan : Plan) (full : length (set .tasks) ≡ mostTasks
 
   module _ (i : ℕ) (h : i < plan .servers) where
     -- the server there is the one of the planner's placement, in what is used
-    server-is : used (serverIn plan i) ≡ used (serverOf S (set .header .cpmdo) placement rs (i + 1))
-    unfolding setReserves S rs placement
+    server-is : used (serverIn plan i) ≡ used (serverOf S (setCaches set) placement rs (i + 1))
+    unfolding setReserves setCaches S rs placement
     server-is =
         ap (λ (k : ℕ). used (serverIn plan k)) (sym (ap pred (add-one i)))
         ∙ checked-holds set plan full m .server (i + 1) (omega arith) (omega arith)
@@ -157,9 +158,13 @@ module _ (set : TaskSet) (plan : Plan) (full : length (set .tasks) ≡ mostTasks
         ∙ padded-take (placesIn placement (i + 1)) (length (placesIn placement (i + 1))) refl
         ∙ ap (λ (p : List ℕ). placesIn p (i + 1)) (sym (of .placement))
 
-    -- and its cache cost is the header's
-    pub cache-at : serverIn plan i .cache ≡ set .header .cpmdo
-    cache-at = ap (λ (s : Server). s .cache) server-is
+    -- and its cache cost is that of its tasks
+    pub cache-at : serverIn plan i .cache ≡ cacheOf (chosen (setFigures set) (take (set .count) (plan .placement)) (i + 1))
+    unfolding setCaches placement
+    cache-at =
+        ap (λ (s : Server). s .cache) server-is
+        ∙ cost-with set (setPlacement set) (i + 1) (omega arith) (omega (arith, of .servers))
+        ∙ ap (λ (p : List ℕ). cacheOf (chosen (setFigures set) p (i + 1))) (sym (of .placement))
 
   server-most : (i : ℕ) → i < set .count → getD (plan .placement) i 0 ≤ 64
   server-most i h =
@@ -197,7 +202,7 @@ module _ (set : TaskSet) (plan : Plan) (full : length (set .tasks) ≡ mostTasks
         sym (getD-take (plan .ring + plan .whole) (plan .first) i zeroStand h)
         ∙ ap (λ (l : List Stand). getD l i zeroStand) (same .first)
         ∙ getD-take (planMade set .ring + planMade set .whole) (planMade set .first) i zeroStand g
-        ∙ laid-first S (set .header .cpmdo) (setPlacement set) rs zeroStand i k
+        ∙ laid-first S (cachesWith set (setPlacement set)) (setPlacement set) rs zeroStand i k
 
     first-server : firstIn plan i .server ≡ firstReserve S rs (i + 1) .server
     first-server = ap (λ (s : Stand). s .server) first-at

@@ -11,18 +11,17 @@ use native.Mathlib.Decide.{decLt}
 use native.Mathlib.Omega.{arith}
 use lib.ListN.{length, length-take, length-map}
 use borrow.Author.Tests.{ne-eqb}
-use Rattle.laws.proofs.Tests.{clash, true-false}
-use Rattle.refusals.specs.Refused.{numberOf, placeOf}
+use Rattle.laws.proofs.Tests.{true-false}
+use Rattle.refusals.specs.Refused.{placeOf}
 use Rattle.refusals.specs.declared.Refusal.{Refusal}
 use Rattle.refusals.specs.declared.Refusal.the-variants.{Line, Order, Count, Twice, Board, Range, Slot, Tight, Horizon, Full, Ask, Room, Alone}
-use Rattle.refusals.specs.declared.Outcome.{Outcome}
-use Rattle.refusals.specs.declared.Outcome.the-variants.{Done, Refused}
+use Rattle.refusals.specs.declared.Outcome.the-variants.{Refused}
 use Rattle.frameread.specs.Line.{formed, closed}
 use Rattle.tasks.specs.declared.set.TaskSet.{TaskSet}
 use Rattle.tasks.specs.Set.{mostTasks, mostInterrupts, members, interruptsIn}
 use Rattle.taskrows.specs.Rows.{rangeRow}
 use Rattle.taskask.proofs.Carried.{ask-count, count-within, interrupts-within}
-use Rattle.taskfile.specs.File.{past, lineRow, orderRow, countLineRow, twiceLineRow}
+use Rattle.taskfile.specs.File.{past, taskFormed, lineRow, orderRow, countLineRow, twiceLineRow}
 use Rattle.taskfile.proofs.Past.{absent-later}
 use Rattle.taskread.specs.Read.{readOf}
 use Rattle.tasks_claims.specs.Claims.{LineRow, LINE, ORDER, COUNT, TWICE, holdsAt, FirstAt, linesTo}
@@ -30,7 +29,7 @@ use Rattle.tasks_claims.specs.Claims as filed
 use Rattle.tasks_claims.proofs.Claims.{read-exactly-line, read-exactly-interrupt, read-refuses}
 use Rattle.tasks_claims.proofs.ShapedLaws.{shaped-all}
 use Rattle.tasks_claims.proofs.ReachedLaws.{lines-most, ends}
-use Rattle.loads.specs.Charge.{figuresOf}
+use Rattle.loads.specs.Figures.{figuresOf}
 use Rattle.setfigures.specs.Figures.{setFigures}
 use Rattle.setfigures.specs.Board.{setBoard}
 use Rattle.rows.proofs.Clears.{board-slot}
@@ -47,7 +46,7 @@ use Rattle.plan_claims.proofs.Claims.{plan-exactly, plan-only}
 
 -- a line behind one that is not there breaks no row
 absent-holds : (row : LineRow) (text : List ℕ) (n : ℕ) → past n text ≡ [] → holdsAt row text (suc (suc n)) ≡ false
-unfolding lineRow orderRow countLineRow twiceLineRow formed closed
+unfolding lineRow orderRow countLineRow twiceLineRow taskFormed formed closed
 absent-holds LINE text n e = rw (absent-later n (suc n) text (omega arith) e)
 absent-holds ORDER text n e = rw (absent-later n (suc n) text (omega arith) e, ne-eqb (suc (suc n)) 1 (λ h. omega arith))
 absent-holds COUNT text n e = rw (absent-later n (suc n) text (omega arith) e, e)
@@ -111,7 +110,7 @@ full-few set k f =
       processors-few (set .header .slot) (setReserves set) (board-slot (set .header) (f .earlier BOARD (omega arith))),
       reserves-count (setBoard set) (setFigures set) (placementOf (setBoard set) (setFigures set)),
       servers-few (setBoard set) (setFigures set),
-      length-map (members set) figuresOf,
+      length-map (members set) (figuresOf (set .header)),
       members-few set FULL k f (omega arith),
     )
 

@@ -1,7 +1,7 @@
 -- What is promised of the texts and of the whole tool, each claim as a type. The proofs stand under the same names in proofs/.
 -- Document 01, "Lines of hexadecimal" (RULES 5), rows 11 and 12 of the refusals (RULES 6.5) and "How tight each promise is".
 use Prim.Native.Nat.{ℕ, _+_, _^_, _≤_, _<_}
-use mathlib.Core.List.{List, _++_}
+use mathlib.Core.List.{List, _++_, map}
 use mathlib.Core.Bool.{Bool, true, false}
 use mathlib.Core.Logic.{_↔_, _⊎_}
 use mathlib.Core.Path.{_≡_}
@@ -19,6 +19,8 @@ use Rattle.frames.specs.declared.table.Frame.{Frame}
 use Rattle.refusals.specs.Leaves.{leaves}
 use Rattle.refusals.specs.Refused.{placeOf}
 use Rattle.ring.specs.declared.cover.Stand.{Stand}
+use Rattle.loads.specs.Figures.{Figures}
+use Rattle.setfigures.specs.Figures.{setFigures}
 use Rattle.plan.specs.declared.plan.Plan.{Plan}
 use Rattle.plan.specs.declared.server.Server.{Server}
 use Rattle.plan.specs.Plan.{noServer, zeroStand}
@@ -129,13 +131,17 @@ TextTells =
     (set₁ set₂ : TaskSet) (plan₁ plan₂ : Plan) → FitFields set₁ plan₁ → FitFields set₂ plan₂
     → planText set₁ plan₁ ≡ planText set₂ plan₂ → (set₁ .count ≡ set₂ .count) × SamePrinted (set₂ .count) plan₁ plan₂
 
+-- the cache cost of each task
+abbrev pub taskCaches : TaskSet → List ℕ
+taskCaches set = map (λ (f : Figures). f .cache) (setFigures set)
+
 -- the plans of two sets are the same: in what is printed, in each server's places, and in its cache cost, which no line prints,
--- where the sets' headers have the same
+-- where the sets' tasks have the same
 pub record ToldSame (set₁ set₂ : TaskSet) (plan₁ plan₂ : Plan) : Type 0 where
   pub count : set₁ .count ≡ set₂ .count
   pub printed : SamePrinted (set₂ .count) plan₁ plan₂
   pub places : (i : ℕ) → i < plan₂ .servers → placesOf plan₁ i ≡ placesOf plan₂ i
-  pub cache : set₁ .header .cpmdo ≡ set₂ .header .cpmdo → (i : ℕ) → i < plan₂ .servers → serverIn plan₁ i .cache ≡ serverIn plan₂ i .cache
+  pub cache : taskCaches set₁ ≡ taskCaches set₂ → (i : ℕ) → i < plan₂ .servers → serverIn plan₁ i .cache ≡ serverIn plan₂ i .cache
 
 -- Two accepted plans with the same text are the same plan. A set has room for the most tasks, by its type.
 abbrev pub TextTellsPlan : Type 0

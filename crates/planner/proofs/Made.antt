@@ -11,8 +11,9 @@ use Rattle.refusals.specs.declared.Refusal.{Refusal}
 use Rattle.refusals.specs.declared.Refusal.the-variants.{Full, Ask, Alone}
 use Rattle.refusals.specs.declared.Outcome.{Outcome}
 use Rattle.refusals.specs.declared.Outcome.the-variants.{Done, Refused}
-use Rattle.demand.specs.Load.{Load, Every, loadsOf}
+use Rattle.demand.specs.Load.{Every}
 use Rattle.loads.specs.Charge.{Member}
+use Rattle.loads.specs.Figures.{Figures, figuresTo}
 use Rattle.interrupting.specs.Interrupts.{boundNumbers}
 use Rattle.members.specs.Server.{Board, SoundBoard, boardOf, Filed}
 use Rattle.servers.specs.Placement.{serversIn, placementOf}
@@ -32,7 +33,7 @@ use Rattle.setfigures.specs.Figures.{setFigures, figureNumbers}
 use Rattle.setfigures.specs.Board.{setInterrupts, setBoard}
 use Rattle.rows.specs.Rows.{chargedOutcome, horizonOf, Chargeable, RowsClear}
 use Rattle.layout.specs.Layout.{laidOut}
-use Rattle.layout.specs.Made.{reservesWith, planWith, setPlacement, setReserves, planMade}
+use Rattle.layout.specs.Made.{reservesWith, cachesWith, planWith, setPlacement, setReserves, planMade}
 use Rattle.plan.specs.Plan.{zeroPlan}
 use Rattle.alonerow.specs.Alone.{aloneRow}
 use Rattle.planner.specs.Planner.{Clear, Placeable, needed, fullRow, planOutcome, answer, planOf}
@@ -42,7 +43,7 @@ use Rattle.setfigures.proofs.FigureLaws.{figures-length, figures-back}
 use Rattle.setfigures.proofs.BoardLaws.{board-back}
 use Rattle.servers.proofs.Claims.{servers-few}
 use Rattle.sizing.proofs.Claims.{reserves-count}
-use Rattle.rows.proofs.Clears.{at-done, board-slot, charged-clear, figures-members, slot-small, set-filed, set-board}
+use Rattle.rows.proofs.Clears.{at-done, board-slot, charged-clear, figures-members, slot-small, set-costs, set-filed, set-board}
 use Rattle.alonerow.proofs.AloneLaws.{alone-clear}
 use Rattle.layout.proofs.Layouts.{processors-few}
 use Rattle.planner.proofs.Served.{front-reserves, layable, laid-is}
@@ -117,14 +118,14 @@ module _ (set : TaskSet) (full : length (set .tasks) ≡ mostTasks) (clear : Cle
 
   -- the figures may be placed and sized, by the set's horizon
   pub filed : {numbers : List ℕ} {H : ℕ} → numbers ≡ figureNumbers set → H ≡ horizonOf set → Filed (set .header) numbers (set .count) H
-  filed = set-filed set fits may-charge (rows-clear .horizon)
+  filed = set-filed set fits may-charge (set-costs set (clear .carried)) (rows-clear .horizon)
 
   -- they are the servers of the set's figures, on its board
   pub set-served : {numbers interrupts : List ℕ} → numbers ≡ figureNumbers set → interrupts ≡ boundNumbers (setInterrupts set) →
-      {sv : Servers} → sv ≡ serversOf (boardOf (set .header) interrupts) (loadsOf numbers (set .count)) → sv ≡ serversOf (setBoard set) (setFigures set)
+      {sv : Servers} → sv ≡ serversOf (boardOf (set .header) interrupts) (figuresTo numbers (set .count)) → sv ≡ serversOf (setBoard set) (setFigures set)
   set-served e n g =
-      g ∙ ap₂ (λ (ns is : List ℕ). serversOf (boardOf (set .header) is) (loadsOf ns (set .count))) e n
-      ∙ ap₂ (λ (b : Board) (ls : List Load). serversOf b ls) (board-back set) (figures-back set fits)
+      g ∙ ap₂ (λ (ns is : List ℕ). serversOf (boardOf (set .header) is) (figuresTo ns (set .count))) e n
+      ∙ ap₂ (λ (b : Board) (fs : List Figures). serversOf b fs) (board-back set) (figures-back set fits)
 
 -- ---- where row 13 is clear too
 
@@ -145,9 +146,9 @@ module _ (set : TaskSet) (full : length (set .tasks) ≡ mostTasks) (clear : Pla
     set-layable = layable (setBoard set) (setFigures set) few (members set full (clear .clear)) alone (sound set full (clear .clear)) (slot-below set full (clear .clear)) own tasks
 
     -- that is the set's plan
-    pub set-laid : laidOut (set .header .slot) (set .header .cpmdo) (take (set .count) (sv .placement)) (take (sv .count) (sv .reserve)) ≡ planMade set
-    unfolding planMade planWith reservesWith setPlacement
-    set-laid = laid-is (setBoard set) (setFigures set) few (members set full (clear .clear)) alone (sound set full (clear .clear)) (slot-below set full (clear .clear)) own tasks (set .header .cpmdo)
+    pub set-laid : laidOut (set .header .slot) (take (sv .count) (sv .cache)) (take (set .count) (sv .placement)) (take (sv .count) (sv .reserve)) ≡ planMade set
+    unfolding planMade planWith reservesWith cachesWith setPlacement
+    set-laid = laid-is (setBoard set) (setFigures set) few (members set full (clear .clear)) alone (sound set full (clear .clear)) (slot-below set full (clear .clear)) own tasks
 
     -- their processors are those that the set needs
     pub set-needs : processorsOf (set .header .slot) (take (sv .count) (sv .reserve)) ≡ needed set

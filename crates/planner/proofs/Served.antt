@@ -6,16 +6,17 @@ use mathlib.Core.List.{List}
 use native.Mathlib.Omega.{arith}
 use lib.ListN.{length, take, getD}
 use lib.Seq.{getD-take}
-use Rattle.demand.specs.Load.{Load, Every}
+use Rattle.demand.specs.Load.{Every}
 use Rattle.tasks.specs.Set.{mostTasks}
 use Rattle.places.specs.Padded.{padded}
 use Rattle.loads.specs.Charge.{Member}
+use Rattle.loads.specs.Figures.{Figures}
 use Rattle.members.specs.Server.{Board, SoundBoard}
-use Rattle.servers.specs.Placement.{serversIn, placementOf}
+use Rattle.servers.specs.Placement.{serversIn, placementOf, cacheIn, cachesOf}
 use Rattle.sizing.specs.Reserve.{reservesOf, sized, serversOf}
 use Rattle.servers.specs.Claims.{FitAlone}
 use Rattle.sizing.specs.declared.Servers.{Servers}
-use Rattle.places.proofs.PaddedLaws.{padded-length, padded-take}
+use Rattle.places.proofs.PaddedLaws.{padded-length, padded-take, up-length}
 use Rattle.servers.proofs.PlacementLaws.{placement-length}
 use Rattle.servers.proofs.Claims.{servers-few, planner-fits}
 use Rattle.sizing.proofs.Claims as size
@@ -23,12 +24,15 @@ use Rattle.reserves.specs.Slotted.{SlottedFirst}
 use Rattle.layout.specs.Layout.{laidOut}
 use Rattle.layout.specs.Layable.{Layable}
 
-module _ (b : Board) (figures : List Load) (few : length figures ≤ mostTasks) (members : Every (Member (b .header)) figures) (alone : FitAlone b figures) (sound : SoundBoard b) (small : b .header .slot < 2 ^ 32) where
+module _ (b : Board) (figures : List Figures) (few : length figures ≤ mostTasks) (members : Every (Member (b .header)) figures) (alone : FitAlone b figures) (sound : SoundBoard b) (small : b .header .slot < 2 ^ 32) where
   abbrev placement : List ℕ
   placement = placementOf b figures
 
   abbrev reserves : List ℕ
   reserves = reservesOf b figures (placementOf b figures)
+
+  abbrev caches : List ℕ
+  caches = cachesOf figures (placementOf b figures)
 
   -- there are at most mostTasks servers
   pub count-few : serversIn placement ≤ mostTasks
@@ -83,6 +87,13 @@ module _ (b : Board) (figures : List Load) (few : length figures ≤ mostTasks) 
         ap (λ (k : ℕ). take k (sv .placement)) tasks ∙ ap (take (length figures)) placement-is
         ∙ padded-take placement (length figures) (placement-length b figures)
 
+    -- and its cache costs
+    front-caches : take (sv .count) (sv .cache) ≡ caches
+    unfolding sized cachesOf
+    front-caches =
+        ap (λ (k : ℕ). take k (sv .cache)) count-is ∙ ap (λ (s : Servers). take (serversIn placement) (s .cache)) g
+        ∙ padded-take caches (serversIn placement) (up-length (cacheIn figures placement) (serversIn placement))
+
     -- the answer can be laid out
     pub layable : Layable sv n (b .header .slot)
     layable = record {
@@ -93,8 +104,9 @@ module _ (b : Board) (figures : List Load) (few : length figures ≤ mostTasks) 
       placement-room = ap padded front-placement ∙ sym placement-is;
     }
 
-    -- its layout is that of the placement and the reserves
-    pub laid-is : (cache : ℕ) → laidOut (b .header .slot) cache (take n (sv .placement)) (take (sv .count) (sv .reserve)) ≡ laidOut (b .header .slot) cache placement reserves
-    laid-is cache =
-        ap (λ (p : List ℕ). laidOut (b .header .slot) cache p (take (sv .count) (sv .reserve))) front-placement
-        ∙ ap (laidOut (b .header .slot) cache placement) front-reserves
+    -- its layout is that of the placement, the reserves and the cache costs
+    pub laid-is : laidOut (b .header .slot) (take (sv .count) (sv .cache)) (take n (sv .placement)) (take (sv .count) (sv .reserve)) ≡ laidOut (b .header .slot) caches placement reserves
+    laid-is =
+        ap (λ (cs : List ℕ). laidOut (b .header .slot) cs (take n (sv .placement)) (take (sv .count) (sv .reserve))) front-caches
+        ∙ ap (λ (p : List ℕ). laidOut (b .header .slot) caches p (take (sv .count) (sv .reserve))) front-placement
+        ∙ ap (laidOut (b .header .slot) caches placement) front-reserves

@@ -62,7 +62,7 @@ fn planned(set: TaskSet, served: Servers) -> PlanAnswer
     if (header.processors as u64) < processors {
         return refused(Refusal::Full(processors as u8));
     }
-    let plan = lay_out(served, set.count, slot, header.cpmdo as u64);
+    let plan = lay_out(served, set.count, slot);
     PlanAnswer {
         plan,
         outcome: Outcome::Done,

@@ -20,8 +20,8 @@ module _ (plan : Plan) {row : List ℕ} (e : row ≡ map (λ (s : Server). s .re
   pub row-stands : {p : ℕ} → Standing plan p →
       SlottedFirst (plan .slot) row (plan .servers) × (1 ≤ p) × (p ≤ processorsOf (plan .slot) (take (plan .servers) row))
   row-stands s =
-      (subst (λ (r : List ℕ). SlottedFirst (plan .slot) r (plan .servers)) (sym e) (s .laid), s .from-one, rw (row-front plan e) (s .there))
+      (subst (λ (r : List ℕ). SlottedFirst (plan .slot) r (plan .servers)) (sym e) (s .laid), s .from-one, rw (row-front (λ (s : Server). s .reserve) plan e) (s .there))
 
   -- and answers as the plan does
   pub row-who : (p : ℕ) (x : Tick) → whoOf (plan .slot) (take (plan .servers) row) p x ≡ whoOf (plan .slot) (reservesIn plan) p x
-  row-who p x = ap (λ (rs : List ℕ). whoOf (plan .slot) rs p x) (row-front plan e)
+  row-who p x = ap (λ (rs : List ℕ). whoOf (plan .slot) rs p x) (row-front (λ (s : Server). s .reserve) plan e)

@@ -3,16 +3,16 @@
 use Prim.Native.Nat.{ℕ}
 use mathlib.Core.Bool.{Bool}
 use mathlib.Core.List.{List}
-use Rattle.demand.specs.Load.{Load}
 use Rattle.places.specs.Places.{chosen}
 use Rattle.loads.specs.Charge.{serverLoss}
+use Rattle.loads.specs.Figures.{Figures}
 use Rattle.tasks.specs.declared.set.TaskSet.{TaskSet}
 use Rattle.setfigures.specs.Figures.{setFigures}
 use Rattle.layout.specs.Made.{setPlacement}
 use Rattle.named.specs.Named.{allowed}
 
 -- the members of server q: the figures of its tasks, in file order
-abbrev pub serverMembers : TaskSet → (q : ℕ) → List Load
+abbrev pub serverMembers : TaskSet → (q : ℕ) → List Figures
 serverMembers set q = chosen (setFigures set) (setPlacement set) q
 
 -- a reserve is allowed by the entry loss of server q

@@ -3,6 +3,7 @@
 use byprocessor::by_processor;
 use judging::judged;
 use layout::server_of;
+use plan::by_server::caches;
 use plan::plan::Plan;
 use plan::plan::reserves;
 use plan::server::Server;
@@ -26,17 +27,17 @@ pub fn record_of(set: TaskSet, plan: Plan, server: u64) -> Server
     ensures { λ r. ⌜ r ≡ serverIn set server ⌝ }
 {
     let tasks = set.count;
-    let cache = set.header.cpmdo as u64;
     let n = plan.servers as usize;
     let placement = plan.placement;
     let reserve = reserves(plan);
+    let cache = caches(plan);
     server_of(
         &placement,
         tasks,
         &reserve,
+        &cache,
         n,
         plan.slot,
-        cache,
         server as usize,
     )
 }

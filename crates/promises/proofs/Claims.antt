@@ -15,7 +15,7 @@ use Rattle.rows.specs.Rows.{Chargeable}
 use Rattle.rows.proofs.Clears.{charged-clear}
 use Rattle.plan.specs.declared.plan.Plan.{Plan}
 use Rattle.plan.specs.Plan.{reservesIn}
-use Rattle.layout.specs.Made.{reservesWith, planWith, setPlacement, planMade}
+use Rattle.layout.specs.Made.{reservesWith, cachesWith, planWith, setPlacement, planMade}
 use Rattle.planner.specs.Planner.{Clear, Placeable}
 use Rattle.planner.proofs.Made.{plan-outcome, outcome-clear}
 use Rattle.planagree.specs.Agrees.{SamePlan}
@@ -28,7 +28,7 @@ use Rattle.promises.proofs.PrintLaws.{laid-prints, same-prints, lines-o
 
 pub plan-prints : PlanPrints
 unfolding planWith reservesWith
-plan-prints set placement = laid-prints (rotaOf set placement) placement (set .header .cpmdo)
+plan-prints set placement = laid-prints (rotaOf set placement) placement (cachesWith set placement)
 
 -- the rows of an accepted set are clear
 placeable : (set : TaskSet) → Accepted set → Placeable set

@@ -36,19 +36,19 @@ map-at f d (x ∷ xs) (suc i) = map-at f d xs i
 module _ (rota : Rota) (placement : List ℕ) where
   -- ---- a plan that is laid out
 
-  module _ (cache : ℕ) where
+  module _ (caches : List ℕ) where
     abbrev laid : Plan
-    laid = laidOut (rota .slot) cache placement (rota .reserves)
+    laid = laidOut (rota .slot) caches placement (rota .reserves)
 
     -- the server of a number
-    server-is : (q : ℕ) → IsServer rota q → serverAt laid q ≡ serverOf (rota .slot) cache placement (rota .reserves) q
+    server-is : (q : ℕ) → IsServer rota q → serverAt laid q ≡ serverOf (rota .slot) caches placement (rota .reserves) q
     server-is zero s = absurd (omega (arith, s .some))
     server-is (suc i) s =
-        laid-server (rota .slot) cache placement (rota .reserves) noServer i (s .there)
-        ∙ ap (serverOf (rota .slot) cache placement (rota .reserves)) (add-one i)
+        laid-server (rota .slot) caches placement (rota .reserves) noServer i (s .there)
+        ∙ ap (serverOf (rota .slot) caches placement (rota .reserves)) (add-one i)
 
     -- what it prints
-    server-of : (q : ℕ) → PrintsServer rota placement q (serverOf (rota .slot) cache placement (rota .reserves) q)
+    server-of : (q : ℕ) → PrintsServer rota placement q (serverOf (rota .slot) caches placement (rota .reserves) q)
     server-of q = record {
       reserve = refl;
       start = λ h. ap (λ (b : Bool). cond b (startOf (rota .slot) (rota .reserves) q) 0) (lt-ltb (reserveOf (rota .reserves) q) (rota .slot) h);
@@ -63,14 +63,14 @@ module _ (rota : Rota) (placement : List ℕ) where
     first-is (suc i) h l =
         let e : suc i - 1 ≡ i = omega arith in
         ap (λ (k : ℕ). getD (laid .first) k zeroStand) e
-        ∙ laid-first (rota .slot) cache placement (rota .reserves) zeroStand i l
+        ∙ laid-first (rota .slot) caches placement (rota .reserves) zeroStand i l
         ∙ ap (firstReserve (rota .slot) (rota .reserves)) (add-one i)
 
     pub laid-prints : PrintsRota rota placement laid
     unfolding laidOut
     laid-prints = record {
       slot = refl;
-      reserves = laid-reserves (rota .slot) cache placement (rota .reserves);
+      reserves = laid-reserves (rota .slot) caches placement (rota .reserves);
       servers = refl;
       server = λ q s. subst (PrintsServer rota placement q) (sym (server-is q s)) (server-of q);
       placed = padded-take placement (length placement) refl;

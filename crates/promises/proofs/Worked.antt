@@ -46,7 +46,7 @@ use Rattle.fitting_rotas.specs.Rota.{rotaOf}
 use Rattle.promises.specs.Claims.{Accepted}
 
 abbrev task : (id C : ℕ) → Task
-task id C = record { id = id; cost = C; deadline = 10; period = 10 }
+task id C = record { id = id; cost = C; deadline = 10; period = 10; cache = Absent }
 
 -- D: S 10, tasks 5/10/10, 5/10/10, 1/10/10
 abbrev pub setD : TaskSet

@@ -14,39 +14,41 @@ use Rattle.refusals.specs.declared.Refusal.the-variants.{Board, Range, Slot, Ti
 use Rattle.refusals.specs.declared.Outcome.{Outcome}
 use Rattle.refusals.specs.declared.Outcome.the-variants.{Done, Refused}
 use Rattle.refusals.proofs.FirstLaws.{done-refused, first-done, when-done}
-use Rattle.wholes.specs.Multiple.{leastMultipleOf, LeastMultipleOf, within}
+use Rattle.wholes.specs.Multiple.{AllPositive, leastMultipleOf, LeastMultipleOf, within}
 use Rattle.wholes.specs.declared.Multiple.the-variants.{Within, Past}
 use Rattle.wholes.proofs.WithinLaws.{within-value, past-value}
-use Rattle.wholes.proofs.MultipleLaws.{least-multiple-of, multiple-of-pos}
-use Rattle.demand.specs.Load.{Load, Sound, Meets, Every}
-use Rattle.verdict.specs.Verdict.{ownHorizon}
+use Rattle.wholes.proofs.MultipleLaws.{least-multiple-of, multiple-of-append, multiple-of-pos}
+use Rattle.demand.specs.Load.{Meets, Every}
 use Rattle.interrupting.specs.Interrupts.{Bound, EveryBound, boundNumbers}
 use Rattle.tasks.specs.declared.set.Header.{Header}
 use Rattle.tasks.specs.declared.set.Task.{Task}
 use Rattle.tasks.specs.declared.set.TaskSet.{TaskSet}
-use Rattle.tasks.specs.Set.{mostTasks, mostInterrupts, mostProcessors, longestPeriod, members, interruptsIn, zeroTask, longestHorizon}
+use Rattle.tasks.specs.declared.set.Optional.{Optional}
+use Rattle.tasks.specs.declared.set.Optional.the-variants.{Absent, Given}
+use Rattle.tasks.specs.Set.{givenOr, mostTasks, mostInterrupts, mostProcessors, longestPeriod, members, interruptsIn, zeroTask, longestHorizon}
 use Rattle.refusals.specs.First.{firstOf, when}
 use Rattle.frames.specs.Table.{widthsOf, widthOf, fieldsIn}
 use Rattle.frames.specs.declared.table.Frame.{Frame}
 use Rattle.tasks.specs.Values.{headerValues}
-use Rattle.taskask.proofs.Carried.{ask-header, header-fits}
+use Rattle.taskask.proofs.Carried.{ask-header, ask-tasks, header-fits, task-fits}
 use Rattle.tasks.specs.Search.{firstTask, atTask}
 use Rattle.taskrows.specs.Rows.{boardRow, rangeRow, interruptRow, rangeAt, figuresOutcome}
-use Rattle.taskask.specs.Ask.{askRow}
+use Rattle.taskask.specs.Ask.{taskOverflows, askRow}
 use Rattle.tasks.proofs.FirstLaws.{first-none}
+use Rattle.tasks.proofs.Some.{some-at}
 use Rattle.tasks.proofs.Firsts.{at-some}
-use Rattle.loads.specs.Charge.{figuresOf, chargedIn, Member, Overheads}
-use Rattle.members.specs.Server.{SoundBoard, Timed, fits, Filed, Bounded}
+use Rattle.loads.specs.Charge.{chargedIn, Member, Overheads, SmallCost}
+use Rattle.loads.specs.Figures.{Figures, figuresOf}
+use Rattle.members.specs.Server.{SoundBoard, fits, Filed, Bounded}
 use Rattle.members.proofs.ServerLaws.{alone-fits}
 use Rattle.setfigures.specs.Figures.{setFigures, figureNumbers}
 use Rattle.rows.specs.declared.rows.Rows.{Rows}
 use Rattle.rows.specs.declared.rows.Rows.the-variants.{Clear}
-use Rattle.tightrows.specs.Rows.{slotRow, tightRow}
+use Rattle.tightrows.specs.Rows.{slotRow, ownLoad, tightRow}
 use Rattle.rows.specs.Rows.{horizonOf, horizonRow, chargedOutcome, cleared, rowsOf, Chargeable, RowsClear}
 use Rattle.setfigures.specs.Board.{setInterrupts, setBoard}
 use Rattle.setfigures.proofs.FigureLaws.{figures-back, numbers-there}
-use Rattle.byprocessor.proofs.NumberLaws.{bounds-all}
-use Rattle.rows.proofs.InterruptLaws.{in-range, set-sound, set-bounded, interrupts-divide, loads-divide, all-positive}
+use Rattle.rows.proofs.InterruptLaws.{in-range, set-sound, set-bounded, interrupts-divide, figures-divide, figures-positive, bounds-positive}
 
 -- ---- a header and a task
 
@@ -64,25 +66,35 @@ range-figures t e = in-range (t .cost) (t .deadline) (t .period) e
 tight-early : (h : Header) (t : Task) → tightRow h t ≡ false → h .relj < t .deadline
 unfolding tightRow
 tight-early h t e =
-    let l = chargedIn h (h .cpmdo) (figuresOf t) in
+    let l = ownLoad h t in
     leb-false (t .deadline) (h .relj) (or-left (leb (t .deadline) (h .relj)) (ltb (l .deadline) (l .cost)) e)
 
 -- and c ≤ d
-tight-meets : (h : Header) (t : Task) → tightRow h t ≡ false → Meets (chargedIn h (h .cpmdo) (figuresOf t))
+tight-meets : (h : Header) (t : Task) → tightRow h t ≡ false → Meets (ownLoad h t)
 unfolding tightRow
 tight-meets h t e =
-    let l = chargedIn h (h .cpmdo) (figuresOf t) in
+    let l = ownLoad h t in
     ltb-false (l .deadline) (l .cost) (or-right (leb (t .deadline) (h .relj)) (ltb (l .deadline) (l .cost)) e)
 
 -- a task that breaks neither row 6 nor row 8 may be charged
-task-member : (h : Header) (t : Task) → rangeRow t ≡ false → tightRow h t ≡ false → Member h (figuresOf t)
+task-member : (h : Header) (t : Task) → rangeRow t ≡ false → tightRow h t ≡ false → Member h (figuresOf h t)
 task-member h t r g =
     let f = range-figures t r in
     record { some = f .0; meets = f .1; constrained = f .2; short = f .3; early = tight-early h t g }
 
-every-by : (P : Load → Type 0) (f : Task → Load) (ts : List Task) → ((i : ℕ) → i < length ts → P (f (getD ts i zeroTask))) → Every P (map f ts)
+-- what holds task by task holds of all figures
+pub every-by : (P : Figures → Type 0) (f : Task → Figures) (ts : List Task) → ((i : ℕ) → i < length ts → P (f (getD ts i zeroTask))) → Every P (map f ts)
 every-by P f [] p = tt
 every-by P f (t ∷ ts) p = (p zero (omega arith), every-by P f ts (λ i l. p (suc i) (omega arith)))
+
+-- the cache cost of a task that a line can carry has four digits at most
+cost-small : (h : Header) (cache : Optional) (id cost deadline period : ℕ) → h .cpmdo < 2 ^ 16 →
+    taskOverflows (record { id = id; cost = cost; deadline = deadline; period = period; cache = cache }) ≡ false → givenOr cache (h .cpmdo) < 2 ^ 16
+unfolding widthsOf
+cost-small h Absent id cost deadline period small e = small
+cost-small h (Given own) id cost deadline period small e =
+    let fits : own < 16 ^ 4 = task-fits (record { id = id; cost = cost; deadline = deadline; period = period; cache = Given own }) e 4 (omega arith) in
+    omega arith
 
 -- ---- the rows of a set
 
@@ -186,57 +198,80 @@ module _ (set : TaskSet) where
   -- ---- the figures of a set that may be charged
 
   module _ (ok : Chargeable set) where
-    each : (P : Load → Type 0) → ((t : Task) → rangeRow t ≡ false → tightRow (set .header) t ≡ false → P (figuresOf t)) → Every P (setFigures set)
+    abbrev task : ℕ → Task
+    task i = getD (members set) i zeroTask
+
+    in-row : (i : ℕ) → i < length (members set) → rangeRow (task i) ≡ false
+    in-row i l = first-none rangeRow zeroTask 0 (members set) (ok .range) i l
+
+    not-tight : (i : ℕ) → i < length (members set) → tightRow (set .header) (task i) ≡ false
+    not-tight i l = first-none (tightRow (set .header)) zeroTask 0 (members set) (ok .tight) i l
+
+    each : (P : Figures → Type 0) → ((i : ℕ) → i < length (members set) → P (figuresOf (set .header) (task i))) → Every P (setFigures set)
     unfolding setFigures
-    each P f =
-        every-by P figuresOf (members set)
-        (λ i l. f (getD (members set) i zeroTask) (first-none rangeRow zeroTask 0 (members set) (ok .range) i l) (first-none (tightRow (set .header)) zeroTask 0 (members set) (ok .tight) i l))
+    each P f = every-by P (figuresOf (set .header)) (members set) f
+
+    -- its period is positive
+    pub figures-some : Every (λ (f : Figures). 1 ≤ f .period) (setFigures set)
+    figures-some =
+        each (λ (f : Figures). 1 ≤ f .period)
+        (λ i l.
+        let f = range-figures (task i) (in-row i l) in
+        omega (arith, f .0, f .1, f .2))
+
+    -- charged with its own cache cost, its cost is at most its deadline
+    pub figures-meet : Every (λ (f : Figures). Meets (chargedIn (set .header) (f .cache) f)) (setFigures set)
+    figures-meet = each (λ (f : Figures). Meets (chargedIn (set .header) (f .cache) f)) (λ i l. tight-meets (set .header) (task i) (not-tight i l))
+
+    member : (i : ℕ) → i < length (members set) → Member (set .header) (figuresOf (set .header) (task i))
+    member i l = task-member (set .header) (task i) (in-row i l) (not-tight i l)
 
     -- each task may be charged
     pub figures-members : Every (Member (set .header)) (setFigures set)
-    figures-members = each (Member (set .header)) (task-member (set .header))
-
-    -- its own figures are sound
-    pub figures-sound : Every Sound (setFigures set)
-    figures-sound =
-        each Sound
-        (λ t r g.
-        let f = range-figures t r in
-        record { some = f .0; due = omega (arith, f .0, f .1); constrained = f .2 })
-
-    -- charged, its cost is at most its deadline
-    pub figures-meet : Every (λ (l : Load). Meets (chargedIn (set .header) (set .header .cpmdo) l)) (setFigures set)
-    figures-meet = each (λ (l : Load). Meets (chargedIn (set .header) (set .header .cpmdo) l)) (λ t r g. tight-meets (set .header) t g)
+    figures-members = each (Member (set .header)) member
 
     -- and alone it fits, where the set has no interrupts
-    pub figures-alone : setInterrupts set ≡ [] → Every (λ (l : Load). fits (setBoard set) (l ∷ []) ≡ true) (setFigures set)
+    pub figures-alone : setInterrupts set ≡ [] → Every (λ (f : Figures). fits (setBoard set) (f ∷ []) ≡ true) (setFigures set)
     figures-alone none =
-        each (λ (l : Load). fits (setBoard set) (l ∷ []) ≡ true)
-        (λ t r g.
-        ap (λ (bs : List Bound). fits (record { header = set .header; interrupts = bs }) (figuresOf t ∷ [])) none
-        ∙ alone-fits (set .header) (figuresOf t) (task-member (set .header) t r g) (board-slot (set .header) (ok .board)) (tight-meets (set .header) t g))
+        each (λ (f : Figures). fits (setBoard set) (f ∷ []) ≡ true)
+        (λ i l.
+        ap (λ (bs : List Bound). fits (record { header = set .header; interrupts = bs }) (figuresOf (set .header) (task i) ∷ [])) none
+        ∙ alone-fits (set .header) (figuresOf (set .header) (task i)) (member i l) (board-slot (set .header) (ok .board)) (tight-meets (set .header) (task i) (not-tight i l)))
 
   -- the figures' periods are the tasks'
-  same-periods : (ts : List Task) → map (λ (l : Load). l .period) (map figuresOf ts) ≡ map (λ (t : Task). t .period) ts
+  same-periods : (ts : List Task) → map (λ (f : Figures). f .period) (map (figuresOf (set .header)) ts) ≡ map (λ (t : Task). t .period) ts
   same-periods [] = refl
   same-periods (t ∷ ts) = ap (λ (ns : List ℕ). t .period ∷ ns) (same-periods ts)
 
-  -- the periods of the figures and of the interrupts, of which the horizon is the least common multiple with the slot
-  abbrev periods : List ℕ
-  periods = map (λ (l : Load). l .period) (setFigures set) ++ map (λ (b : Bound). b .load .period) (setInterrupts set)
+  -- the periods of the figures and of the interrupts
+  abbrev pub task-periods : List ℕ
+  task-periods = map (λ (f : Figures). f .period) (setFigures set)
 
-  horizon-is : leastMultipleOf (set .header .slot) periods ≡ horizonOf set
+  abbrev pub interrupt-periods : List ℕ
+  interrupt-periods = map (λ (b : Bound). b .load .period) (setInterrupts set)
+
+  horizon-is : leastMultipleOf (set .header .slot) (task-periods ++ interrupt-periods) ≡ horizonOf set
   unfolding horizonOf setFigures
-  horizon-is = ap (λ (ns : List ℕ). leastMultipleOf (set .header .slot) (ns ++ map (λ (b : Bound). b .load .period) (setInterrupts set))) (same-periods (members set))
+  horizon-is = ap (λ (ns : List ℕ). leastMultipleOf (set .header .slot) (ns ++ interrupt-periods)) (same-periods (members set))
 
-  -- the horizon is that of the figures and the interrupts
-  pub horizon-of-figures : ownHorizon (set .header .slot) (setFigures set) (setInterrupts set) ≡ horizonOf set
-  unfolding ownHorizon
-  horizon-of-figures = horizon-is
+  -- the horizon: the tasks' periods first, and on from there the interrupts'
+  pub horizon-parts : leastMultipleOf (leastMultipleOf (set .header .slot) task-periods) interrupt-periods ≡ horizonOf set
+  horizon-parts = sym (multiple-of-append (set .header .slot) task-periods interrupt-periods) ∙ horizon-is
+
+  -- both are positive
+  module _ (ok : Chargeable set) where
+    pub tasks-positive : AllPositive task-periods
+    tasks-positive = figures-positive (setFigures set) (figures-some ok)
+
+    pub multiple-some : 1 ≤ leastMultipleOf (set .header .slot) task-periods
+    multiple-some = multiple-of-pos (set .header .slot) task-periods (board-slot (set .header) (ok .board)) tasks-positive
+
+    pub horizon-some : 1 ≤ leastMultipleOf (leastMultipleOf (set .header .slot) task-periods) interrupt-periods
+    horizon-some = multiple-of-pos (leastMultipleOf (set .header .slot) task-periods) interrupt-periods multiple-some (bounds-positive (setInterrupts set) (set-sound set (ok .interrupts)))
 
   -- so it is their least common multiple
-  pub horizon-least : LeastMultipleOf (set .header .slot) periods (horizonOf set)
-  horizon-least = subst (LeastMultipleOf (set .header .slot) periods) horizon-is (least-multiple-of (set .header .slot) periods)
+  pub horizon-least : LeastMultipleOf (set .header .slot) (task-periods ++ interrupt-periods) (horizonOf set)
+  horizon-least = subst (LeastMultipleOf (set .header .slot) (task-periods ++ interrupt-periods)) horizon-is (least-multiple-of (set .header .slot) (task-periods ++ interrupt-periods))
 
   -- the interrupts' periods divide it
   pub interrupts-of-horizon : EveryBound (λ (b : Bound). b .load .period ∣ horizonOf set) (setInterrupts set)
@@ -247,37 +282,29 @@ module _ (set : TaskSet) where
   unfolding horizonRow
   horizon-short e = ltb-false longestHorizon (horizonOf set) e
 
-  own-filed : set .count ≤ length (set .tasks) → Chargeable set → horizonRow set ≡ false → Filed (set .header) (figureNumbers set) (set .count) (horizonOf set)
-  own-filed room ok e =
+  own-filed : set .count ≤ length (set .tasks) → Chargeable set → Every SmallCost (setFigures set) → horizonRow set ≡ false → Filed (set .header) (figureNumbers set) (set .count) (horizonOf set)
+  own-filed room ok costs e =
       let slot = board-slot (set .header) (ok .board) in
       record {
         there = numbers-there set room (ok .few);
         few = ok .few;
         members = rw (figures-back set room) (figures-members ok);
+        costs = rw (figures-back set room) costs;
         slot = slot;
-        some = subst (λ (H : ℕ). 1 ≤ H) horizon-is (multiple-of-pos (set .header .slot) periods slot (all-positive (setFigures set) (setInterrupts set) (figures-sound ok) (set-sound set (ok .interrupts))));
+        some = subst (λ (H : ℕ). 1 ≤ H) horizon-parts (horizon-some ok);
         short = horizon-short e;
         of-slot = horizon-least .of-first;
-        of-periods = rw (figures-back set room) (loads-divide (setFigures set) (setInterrupts set) (horizonOf set) (horizon-least .of-others));
+        of-periods = rw (figures-back set room) (figures-divide (setFigures set) (setInterrupts set) (horizonOf set) (horizon-least .of-others));
       }
-
-  -- what the horizon of the figures and the interrupts asks
-  pub set-timed : set .count ≤ length (set .tasks) → Chargeable set → Timed (figureNumbers set) (set .count) (boundNumbers (setInterrupts set)) (set .header .slot)
-  set-timed room ok = record {
-    there = numbers-there set room (ok .few);
-    slot = board-slot (set .header) (ok .board);
-    sound = rw (figures-back set room) (figures-sound ok);
-    sound-interrupts = subst (EveryBound (λ (b : Bound). Sound (b .load))) (sym (bounds-all (setInterrupts set))) (set-sound set (ok .interrupts));
-  }
 
   -- the board of its servers is sound
   pub set-board : Chargeable set → SoundBoard (setBoard set)
   set-board ok = record { slot = board-slot (set .header) (ok .board); sound = set-sound set (ok .interrupts) }
 
   -- the figures of a set whose rows are clear are a file's, with the set's horizon
-  pub set-filed : set .count ≤ length (set .tasks) → Chargeable set → horizonRow set ≡ false →
+  pub set-filed : set .count ≤ length (set .tasks) → Chargeable set → Every SmallCost (setFigures set) → horizonRow set ≡ false →
       {numbers : List ℕ} {H : ℕ} → numbers ≡ figureNumbers set → H ≡ horizonOf set → Filed (set .header) numbers (set .count) H
-  set-filed room ok e n h = rw (n, h) (own-filed room ok e)
+  set-filed room ok costs e n h = rw (n, h) (own-filed room ok costs e)
 
   own-bounded : set .interrupts .count ≤ length (set .interrupts .each) → Chargeable set → Bounded (set .header) (boundNumbers (setInterrupts set)) (horizonOf set)
   own-bounded room ok = set-bounded set (ok .interrupts) (ok .few-interrupts) room interrupts-of-horizon
@@ -304,5 +331,14 @@ module _ (set : TaskSet) where
       let relo : set .header .relo < 16 ^ 4 = figure-small e 3 (omega arith) in
       let ctswo : set .header .ctswo < 16 ^ 4 = figure-small e 4 (omega arith) in
       let resd : set .header .resd < 16 ^ 4 = figure-small e 5 (omega arith) in
+      record { release = omega arith; switch = omega arith; delay = omega arith }
+
+  -- and the tasks' cache costs
+  pub set-costs : askRow set ≡ false → Every SmallCost (setFigures set)
+  unfolding widthsOf setFigures
+  set-costs e =
       let cpmdo : set .header .cpmdo < 16 ^ 4 = figure-small e 6 (omega arith) in
-      record { release = omega arith; switch = omega arith; delay = omega arith; cache = omega arith }
+      every-by SmallCost (figuresOf (set .header)) (members set)
+      (λ i l.
+      let t = getD (members set) i zeroTask in
+      cost-small (set .header) (t .cache) (t .id) (t .cost) (t .deadline) (t .period) (omega arith) (some-at taskOverflows (members set) i zeroTask (ask-tasks set e) l))

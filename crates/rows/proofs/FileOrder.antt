@@ -1,35 +1,34 @@
 -- The horizon of a set by its interrupts in file order: the same numbers divide it as by processor.
 -- Assumes nothing.
-use Prim.Native.Nat.{ℕ, zero, suc, _+_, _*_, _/_, _≤_, _<_, _∣_}
-use mathlib.Core.Path.{_≡_, sym, ap, ap₂, subst, _∙_}
-use mathlib.Core.List.{List, [], _∷_, map}
+use Prim.Native.Nat.{ℕ, zero, suc, _+_, _*_, _≤_, _<_, _∣_}
+use mathlib.Core.Path.{_≡_, refl, sym, ap, ap₂, subst, _∙_}
+use mathlib.Core.List.{List, [], _∷_, _++_, map, map-append}
 use native.Mathlib.Omega.{arith}
-use native.Mathlib.Nat.{dvd-antisymm}
+use native.Mathlib.Nat.{dvd-antisymm, le-of-dvd}
 use native.Mathlib.Decide.{ℕ-discrete}
 use lib.ListN.{length, getD, set as put, replicate, length-set, length-replicate}
 use lib.Seq.{getD-take, getD-set-same, getD-set-other}
 use Rattle.wholes.specs.Multiple.{Divide, leastMultipleOf, within}
 use Rattle.wholes.specs.declared.Multiple.the-variants.{Within, Past}
-use Rattle.wholes.proofs.MultipleLaws.{multiple-of-divides, multiple-of-pos, first-divides-of, others-divide-of}
-use Rattle.demand.specs.Load.{Load, loadsOf}
-use Rattle.interrupting.specs.Interrupts.{Bound, EveryBound, boundNumbers}
+use Rattle.wholes.proofs.MultipleLaws.{multiple-of-divides, first-divides-of, others-divide-of}
+use Rattle.wholes.proofs.WithinLaws.{past-is, within-value, past-value}
+use Rattle.demand.specs.Load.{each}
+use Rattle.interrupting.specs.Interrupts.{Bound, EveryBound}
 use Rattle.interrupting.proofs.BoundLaws.{bounds-map}
-use Rattle.verdict.specs.Verdict.{ownHorizon}
 use Rattle.tasks.specs.declared.set.Interrupt.{Interrupt}
 use Rattle.tasks.specs.declared.set.TaskSet.{TaskSet}
 use Rattle.tasks.specs.Set.{mostInterrupts, interruptsIn, zeroInterrupt, longestHorizon}
-use Rattle.members.specs.Server.{Board, boardOf, spaced, Apart, Timed}
-use Rattle.members.proofs.SpacedLaws.{spaced-length, spaced-at, spaced-bounds}
-use Rattle.members.proofs.HorizonLaws.{loads-apart, loads-past, loads-within, bounds-passed}
+use Rattle.loads.specs.Figures.{Figures, figuresAt, figuresTo}
+use Rattle.members.specs.Server.{spaced, Apart}
+use Rattle.members.proofs.SpacedLaws.{spaced-length, spaced-at}
 use Rattle.byprocessor.proofs.GroupLaws.{Each, by-each, by-every}
-use Rattle.byprocessor.proofs.NumberLaws.{bounds-all}
 use Rattle.setfigures.specs.Figures.{figureNumbers}
 use Rattle.setfigures.specs.Board.{setInterrupts}
-use Rattle.setfigures.proofs.FigureLaws.{figures-back}
-use Rattle.setfigures.proofs.BoardLaws.{counted-length, board-back}
+use Rattle.setfigures.proofs.FigureLaws.{figures-back, numbers-there}
+use Rattle.setfigures.proofs.BoardLaws.{counted-length}
 use Rattle.rows.specs.Rows.{horizonOf, Chargeable, PeriodsOf}
 use Rattle.rows.proofs.InterruptLaws.{each-ranged, each-on, bounds-divide}
-use Rattle.rows.proofs.Clears.{set-timed, horizon-of-figures}
+use Rattle.rows.proofs.Clears.{board-slot, task-periods, interrupt-periods, horizon-parts, tasks-positive, multiple-some, horizon-some}
 
 -- ---- the periods, place by place
 
@@ -70,36 +69,50 @@ divide-bounds (b ∷ bs) H d (suc i) l = divide-bounds bs H (d .1) i (omega arit
 
 -- ---- of a set
 
+-- the periods of tasks are every fourth number, from the third on
+spaced-figures : (numbers : List ℕ) (n : ℕ) → spaced numbers 2 4 n ≡ map (λ (f : Figures). f .period) (figuresTo numbers n)
+unfolding spaced each
+spaced-figures numbers zero = refl
+spaced-figures numbers (suc n) =
+    let at : 2 + 4 * n ≡ 4 * n + 2 = omega arith in
+    ap₂ (λ (ps : List ℕ) (k : ℕ). ps ++ (getD numbers k 0 ∷ [])) (spaced-figures numbers n) at ∙
+    sym (map-append (λ (f : Figures). f .period) (figuresTo numbers n) (figuresAt numbers n ∷ []))
+
 module _ (set : TaskSet) (room : set .count ≤ length (set .tasks)) (interrupts-room : set .interrupts .count ≤ length (set .interrupts .each)) (ok : Chargeable set) where
   abbrev count : ℕ
   count = set .interrupts .count
 
-  abbrev timed : Timed (figureNumbers set) (set .count) (boundNumbers (setInterrupts set)) (set .header .slot)
-  timed = set-timed set room ok
-
   -- the horizon of the tasks alone
   abbrev of-tasks : ℕ
-  of-tasks = leastMultipleOf (set .header .slot) (spaced (figureNumbers set) 2 3 (set .count))
-
-  -- the horizon of the figures and of the interrupts' numbers is the set's
-  own-is : within longestHorizon (ownHorizon (set .header .slot) (loadsOf (figureNumbers set) (set .count)) (boardOf (set .header) (boundNumbers (setInterrupts set)) .interrupts)) ≡ within longestHorizon (horizonOf set)
-  own-is =
-      ap₂ (λ (ls : List Load) (d : Board). within longestHorizon (ownHorizon (set .header .slot) ls (d .interrupts))) (figures-back set room) (board-back set)
-      ∙ ap (within longestHorizon) (horizon-of-figures set)
+  of-tasks = leastMultipleOf (set .header .slot) (task-periods set)
 
   module _ {figures : List ℕ} (f : figures ≡ figureNumbers set) where
-    pub tasks-apart : Apart figures 2 3 (set .count) (set .header .slot)
-    tasks-apart = rw f (loads-apart timed)
+    -- the tasks' periods among their numbers
+    tasks-spaced : spaced figures 2 4 (set .count) ≡ task-periods set
+    tasks-spaced =
+        spaced-figures figures (set .count)
+        ∙ ap (λ (ns : List ℕ). map (λ (g : Figures). g .period) (figuresTo ns (set .count))) f
+        ∙ ap (map (λ (g : Figures). g .period)) (figures-back set room)
 
-    tasks-is : within longestHorizon (leastMultipleOf (set .header .slot) (spaced figures 2 3 (set .count))) ≡ within longestHorizon of-tasks
-    tasks-is = ap (λ (ns : List ℕ). within longestHorizon (leastMultipleOf (set .header .slot) (spaced ns 2 3 (set .count)))) f
+    pub tasks-apart : Apart figures 2 4 (set .count) (set .header .slot)
+    tasks-apart = record {
+      there = λ i l. omega (arith, ap length f, numbers-there set room (ok .few));
+      some = board-slot (set .header) (ok .board);
+      positive = rw tasks-spaced (tasks-positive set ok);
+    }
+
+    tasks-is : within longestHorizon (leastMultipleOf (set .header .slot) (spaced figures 2 4 (set .count))) ≡ within longestHorizon of-tasks
+    tasks-is = ap (λ (ns : List ℕ). within longestHorizon (leastMultipleOf (set .header .slot) ns)) tasks-spaced
 
     -- past the limit after the tasks' periods is past it after all
-    pub tasks-past : within longestHorizon (leastMultipleOf (set .header .slot) (spaced figures 2 3 (set .count))) ≡ Past → Past ≡ within longestHorizon (horizonOf set)
-    tasks-past p = loads-past timed longestHorizon (sym tasks-is ∙ p) ∙ own-is
+    pub tasks-past : within longestHorizon (leastMultipleOf (set .header .slot) (spaced figures 2 4 (set .count))) ≡ Past → Past ≡ within longestHorizon (horizonOf set)
+    tasks-past p =
+        let more : of-tasks ≤ leastMultipleOf of-tasks (interrupt-periods set) =
+        le-of-dvd (horizon-some set ok) (first-divides-of of-tasks (interrupt-periods set)) in
+        sym (past-is longestHorizon (horizonOf set) (omega (arith, sym (horizon-parts set), more, past-value longestHorizon of-tasks (sym tasks-is ∙ p))))
 
-    pub tasks-within : {own : ℕ} → within longestHorizon (leastMultipleOf (set .header .slot) (spaced figures 2 3 (set .count))) ≡ Within own → own ≡ of-tasks
-    tasks-within p = loads-within timed longestHorizon (sym tasks-is ∙ p)
+    pub tasks-within : {own : ℕ} → within longestHorizon (leastMultipleOf (set .header .slot) (spaced figures 2 4 (set .count))) ≡ Within own → own ≡ of-tasks
+    tasks-within {own} p = within-value longestHorizon of-tasks own (sym tasks-is ∙ p) .0
 
   counted-below : {k : ℕ} → k < length (interruptsIn set) → k < count
   counted-below l = omega (arith, counted-length set interrupts-room)
@@ -119,7 +132,7 @@ module _ (set : TaskSet) (room : set .count ≤ length (set .tasks)) (interrupts
     below-counted : {k : ℕ} → k < length in-order → k < length (interruptsIn set)
     below-counted l = omega (arith, spaced-length numbers 0 1 count, counted-length set interrupts-room)
 
-    to-processors : (n : ℕ) → Divide in-order n → Divide (map (λ (b : Bound). b .load .period) (setInterrupts set)) n
+    to-processors : (n : ℕ) → Divide in-order n → Divide (interrupt-periods set) n
     unfolding setInterrupts
     to-processors n d =
         divide-bounds (setInterrupts set) n
@@ -131,7 +144,7 @@ module _ (set : TaskSet) (room : set .count ≤ length (set .tasks)) (interrupts
             let below : k < count = counted-below l in
             subst (λ (t : ℕ). t ∣ n) (period-at k below) (d k (omega (arith, spaced-length numbers 0 1 count)))
 
-    to-file : (n : ℕ) → Divide (map (λ (b : Bound). b .load .period) (setInterrupts set)) n → Divide in-order n
+    to-file : (n : ℕ) → Divide (interrupt-periods set) n → Divide in-order n
     unfolding setInterrupts
     to-file n d k l =
         let here : k < length (interruptsIn set) = below-counted l in
@@ -143,7 +156,7 @@ module _ (set : TaskSet) (room : set .count ≤ length (set .tasks)) (interrupts
       pub periods-apart : mostInterrupts ≤ length numbers → Apart numbers 0 1 count own
       periods-apart long = record {
         there = λ i l. omega (arith, ok .few-interrupts);
-        some = omega (arith, e, multiple-of-pos (set .header .slot) (spaced (figureNumbers set) 2 3 (set .count)) (timed .slot) (loads-apart timed .positive));
+        some = omega (arith, e, multiple-some set ok);
         positive = λ k l.
             let i = each-ranged set (ok .interrupts) k (below-counted l) in
             omega (arith, period-at k (counted-below (below-counted l)), i .some, i .meets, i .constrained);
@@ -153,7 +166,4 @@ module _ (set : TaskSet) (room : set .count ≤ length (set .tasks)) (interrupts
       pub periods-passed : within longestHorizon (leastMultipleOf own in-order) ≡ within longestHorizon (horizonOf set)
       periods-passed =
           ap (within longestHorizon)
-          (same-multiple own in-order (map (λ (b : Bound). b .load .period) (setInterrupts set)) to-processors to-file
-          ∙ ap (leastMultipleOf own) (sym (spaced-bounds (boundNumbers (setInterrupts set)) (length (boundNumbers (setInterrupts set)) / 4) ∙ ap (map (λ (b : Bound). b .load .period)) (bounds-all (setInterrupts set)))))
-          ∙ bounds-passed timed longestHorizon e
-          ∙ own-is
+          (same-multiple own in-order (interrupt-periods set) to-processors to-file ∙ ap (λ (k : ℕ). leastMultipleOf k (interrupt-periods set)) e ∙ horizon-parts set)

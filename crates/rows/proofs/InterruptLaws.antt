@@ -1,7 +1,7 @@
 -- The interrupts of a set for which row 6 is clear: each is in range, so that their numbers may stand behind a server's loads.
 -- Assumes nothing.
-use Prim.Native.Nat.{ℕ, zero, suc, _+_, _*_, _-_, _^_, _≤_, _<_, _∣_}
-use mathlib.Core.Path.{_≡_, sym, ap, subst, _∙_}
+use Prim.Native.Nat.{ℕ, zero, suc, _+_, _-_, _≤_, _<_, _∣_}
+use mathlib.Core.Path.{_≡_, sym, subst}
 use mathlib.Core.Bool.{Bool, true, false, not, _&&_, _||_}
 use mathlib.Core.List.{List, [], _∷_, _++_, map}
 use native.Mathlib.Omega.{arith}
@@ -10,7 +10,7 @@ use lib.Dec.{leb}
 use lib.ListN.{length, getD}
 use Rattle.laws.proofs.Tests.{and-left, and-right, or-left, or-right}
 use Rattle.wholes.specs.Multiple.{Divide, AllPositive}
-use Rattle.demand.specs.Load.{Load, Sound, Small, Every}
+use Rattle.demand.specs.Load.{Sound, Every}
 use Rattle.interrupting.specs.Interrupts.{Bound, Numbered, EveryBound, Ordered, boundNumbers}
 use Rattle.interrupting.proofs.BoundLaws.{bounds-map}
 use Rattle.tasks.specs.declared.set.Interrupt.{Interrupt}
@@ -19,12 +19,13 @@ use Rattle.tasks.specs.Set.{mostInterrupts, longestPeriod, interruptsIn, zeroIn
 use Rattle.tasks.specs.Search.{firstTask}
 use Rattle.tasks.proofs.FirstLaws.{first-none}
 use Rattle.taskrows.specs.Rows.{outOfRange, interruptRow}
-use Rattle.members.specs.Server.{boardOf, Bounded}
+use Rattle.loads.specs.Figures.{Figures}
+use Rattle.members.specs.Server.{Bounded}
 use Rattle.byprocessor.specs.Interrupts.{boundOf, Timely}
 use Rattle.byprocessor.proofs.GroupLaws.{On, Each, by-each, by-ordered}
 use Rattle.byprocessor.proofs.NumberLaws.{numbers-length, bounds-all}
 use Rattle.setfigures.specs.Board.{setInterrupts}
-use Rattle.setfigures.proofs.BoardLaws.{counted-length, interrupts-length}
+use Rattle.setfigures.proofs.BoardLaws.{interrupts-length}
 
 -- ---- row 6 clear
 
@@ -158,26 +159,28 @@ pub divide-right : (ms ns : List ℕ) (H : ℕ) → Divide (ms ++ ns) H → Divi
 divide-right [] ns H d = d
 divide-right (m ∷ ms) ns H d = divide-right ms ns H (λ j h. d (suc j) (omega arith))
 
-every-divides : (ls : List Load) (H : ℕ) → Divide (map (λ (l : Load). l .period) ls) H → Every (λ (l : Load). l .period ∣ H) ls
+every-divides : (fs : List Figures) (H : ℕ) → Divide (map (λ (f : Figures). f .period) fs) H → Every (λ (f : Figures). f .period ∣ H) fs
 every-divides [] H d = tt
-every-divides (l ∷ ls) H d = (d 0 (omega arith), every-divides ls H (λ j h. d (suc j) (omega arith)))
+every-divides (f ∷ fs) H d = (d 0 (omega arith), every-divides fs H (λ j h. d (suc j) (omega arith)))
 
 pub bounds-divide : (bs : List Bound) (H : ℕ) → Divide (map (λ (b : Bound). b .load .period) bs) H → EveryBound (λ (b : Bound). b .load .period ∣ H) bs
 bounds-divide [] H d = tt
 bounds-divide (b ∷ bs) H d = (d 0 (omega arith), bounds-divide bs H (λ j h. d (suc j) (omega arith)))
 
--- of the periods of loads and of interrupts
-module _ (ls : List Load) (bs : List Bound) (H : ℕ) (d : Divide (map (λ (l : Load). l .period) ls ++ map (λ (b : Bound). b .load .period) bs) H) where
-  pub loads-divide : Every (λ (l : Load). l .period ∣ H) ls
-  loads-divide = every-divides ls H (divide-left (map (λ (l : Load). l .period) ls) (map (λ (b : Bound). b .load .period) bs) H d)
+-- of the periods of tasks and of interrupts
+module _ (fs : List Figures) (bs : List Bound) (H : ℕ) (d : Divide (map (λ (f : Figures). f .period) fs ++ map (λ (b : Bound). b .load .period) bs) H) where
+  pub figures-divide : Every (λ (f : Figures). f .period ∣ H) fs
+  figures-divide = every-divides fs H (divide-left (map (λ (f : Figures). f .period) fs) (map (λ (b : Bound). b .load .period) bs) H d)
 
   pub interrupts-divide : EveryBound (λ (b : Bound). b .load .period ∣ H) bs
-  interrupts-divide = bounds-divide bs H (divide-right (map (λ (l : Load). l .period) ls) (map (λ (b : Bound). b .load .period) bs) H d)
+  interrupts-divide = bounds-divide bs H (divide-right (map (λ (f : Figures). f .period) fs) (map (λ (b : Bound). b .load .period) bs) H d)
 
-pub all-positive : (ls : List Load) (bs : List Bound) → Every Sound ls → EveryBound (λ (b : Bound). Sound (b .load)) bs →
-    AllPositive (map (λ (l : Load). l .period) ls ++ map (λ (b : Bound). b .load .period) bs)
-all-positive [] [] x y i l = absurd (omega arith)
-all-positive [] (b ∷ bs) x y zero l = omega (arith, y .0 .due, y .0 .constrained)
-all-positive [] (b ∷ bs) x y (suc i) l = all-positive [] bs x (y .1) i (omega arith)
-all-positive (k ∷ ls) bs x y zero l = omega (arith, x .0 .due, x .0 .constrained)
-all-positive (k ∷ ls) bs x y (suc i) l = all-positive ls bs (x .1) y i (omega arith)
+pub figures-positive : (fs : List Figures) → Every (λ (f : Figures). 1 ≤ f .period) fs → AllPositive (map (λ (f : Figures). f .period) fs)
+figures-positive [] x i l = absurd (omega arith)
+figures-positive (f ∷ fs) x zero l = x .0
+figures-positive (f ∷ fs) x (suc i) l = figures-positive fs (x .1) i (omega arith)
+
+pub bounds-positive : (bs : List Bound) → EveryBound (λ (b : Bound). Sound (b .load)) bs → AllPositive (map (λ (b : Bound). b .load .period) bs)
+bounds-positive [] x i l = absurd (omega arith)
+bounds-positive (b ∷ bs) x zero l = omega (arith, x .0 .due, x .0 .constrained)
+bounds-positive (b ∷ bs) x (suc i) l = bounds-positive bs (x .1) i (omega arith)

@@ -1,5 +1,5 @@
 -- Row 9 of the refusals, by its own test, and the first of rows 5 to 9 that holds of a set.
--- Document 01, "Refusal numbers and their order" (RULES 6); document 02, Req 08.
+-- Document 01, "Refusal numbers and their order" (RULES 6); document 02, Req 07 and Req 08.
 use Prim.Native.Nat.{ℕ, _≤_, _<_}
 use mathlib.Core.List.{List, map, _++_}
 use mathlib.Core.Path.{_≡_}

@@ -13,7 +13,7 @@ ghost use mathlib.Core.Path.{_≡_};
 ghost use mathlib.Core.Bool.{false};
 ghost use Prim.Native.Nat.{_≤_};
 ghost use Rattle.wholes.specs.Multiple.{within};
-ghost use Rattle.tasks.specs.Set.{members, mostTasks, mostInterrupts, longestHorizon};
+ghost use Rattle.tasks.specs.Set.{mostTasks, mostInterrupts, longestHorizon};
 ghost use Rattle.rows.specs.Rows.{horizonOf, horizonRow, rowsOf, Chargeable, PeriodsOf};
 
 // The periods of interrupts, in file order.
@@ -43,7 +43,7 @@ fn horizon_within(set: TaskSet) -> Multiple
     let count = set.interrupts.count;
     let numbers = figures(set);
     let others = periods(set.interrupts);
-    let Multiple::Within(own) = multiple_of(&numbers, 2, 3, n, slot, limit) else {
+    let Multiple::Within(own) = multiple_of(&numbers, 2, 4, n, slot, limit) else {
         return Multiple::Past;
     };
     multiple_of(&others, 0, 1, count, own, limit)

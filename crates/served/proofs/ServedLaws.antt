@@ -16,30 +16,32 @@ use Rattle.wholes.specs.declared.Multiple.{Multiple}
 use Rattle.wholes.specs.declared.Multiple.the-variants.{Within, Past}
 use Rattle.wholes.proofs.WithinLaws.{within-is}
 use Rattle.charging.specs.Charging.{entryLoss}
-use Rattle.demand.specs.Load.{Load, loadAt, loadsOf}
+use Rattle.demand.specs.Load.{Load, loadsOf}
 use Rattle.interrupting.specs.Interrupts.{Bound, asked, boundsOf, greatestOfAll, interruptsOf}
 use Rattle.interrupting.specs.Interrupted.{Interrupted}
 use Rattle.masking.specs.Masking.{Maskable, gaining, gainOf, maskedDemand}
 use Rattle.verdict.specs.Verdict.{ownHorizon, Testable}
 use Rattle.tasks.specs.declared.set.Header.{Header}
 use Rattle.tasks.specs.Set.{mostTasks, mostInterrupts, maskedTicks}
-use Rattle.loads.specs.Charge.{numbersOf, cacheOf, chargedIn, serverLoads, serverLoss, membersAt, Member, Overheads, Charging}
+use Rattle.loads.specs.Charge.{numbersOf, cacheOf, chargedIn, serverLoads, serverLoss, Member, Overheads, Charging}
+use Rattle.loads.specs.Figures.{Figures, figuresAt, membersAt}
 use Rattle.loads.proofs.NumberLaws.{numbers-length, loads-back, taken-length}
-use Rattle.loads.proofs.ChargeLaws.{loads-many, loads-sound, loads-small, loss-small}
+use Rattle.loads.proofs.ChargeLaws.{cache-small, loads-many, loads-sound, loads-small, loss-small}
 use Rattle.members.specs.Server.{Board, boardOf, serverDemand, serverHorizon, Filed, Bounded, Timed}
 use Rattle.members.proofs.ServerLaws.{server-within, server-due}
 use Rattle.members.proofs.BoundedLaws.{bounded-sound, bounded-greatest}
-use Rattle.members.proofs.FiledLaws.{Below, placed-at, placed-members, placed-periods}
+use Rattle.members.proofs.FiledLaws.{Below, placed-at, placed-members, placed-costs, placed-periods}
 use Rattle.served.specs.Served.{Served}
 
 -- places among the first n tasks of a file may be charged as a server
 pub filed-served : {h : Header} {figures : List ℕ} {n H : ℕ} → Filed h figures n H → (places : List ℕ) (k cache : ℕ) → k ≤ length places → k ≤ mostTasks →
-    Below n (take k places) → cache ≡ cacheOf h (membersAt figures (take k places)) → Served h cache figures places k H
+    Below n (take k places) → cache ≡ cacheOf (membersAt figures (take k places)) → Served h cache figures places k H
 filed-served {h} {figures} {n} {H} f places k cache there few b cost = record {
   places-there = there;
   few = few;
   there = λ i l. omega (arith, f .there, at i l);
   members = placed-members f (take k places) b;
+  costs = placed-costs f (take k places) b;
   cost = cost;
   slot = f .slot;
   some = f .some;
@@ -50,11 +52,6 @@ filed-served {h} {figures} {n} {H} f places k cache there few b cost = record {
   where
     at : (i : ℕ) → i < k → getD places i 0 < n
     at i l = subst (λ (p : ℕ). p < n) (getD-take k places i 0 l) (b i (rw (length-take-le k places there) l))
-
--- the cache cost of a server has four digits at most
-cache-small : (h : Header) (ms : List Load) → Overheads h → cacheOf h ms < 2 ^ 16
-unfolding cacheOf
-cache-small h ms o = o .cache
 
 same-within : {a b : ℕ} → Within a ≡ Within b → a ≡ b
 same-within e = cc
@@ -83,7 +80,7 @@ asked-parts B ns k t = omega arith
 
 module _ {h : Header} {cache : ℕ} {figures places : List ℕ} {k H : ℕ} (s : Served h cache figures places k H) where
   -- the members of the server
-  abbrev ms : List Load
+  abbrev ms : List Figures
   ms = membersAt figures (take k places)
 
   -- its entry loss
@@ -99,12 +96,12 @@ module _ {h : Header} {cache : ℕ} {figures places : List ℕ} {k H : ℕ} (s :
     cache-small = small;
     there = s .there;
     members = λ i l.
-        subst (λ (p : ℕ). Member h (loadAt figures p)) (getD-take k places i 0 l)
+        subst (λ (p : ℕ). Member h (figuresAt figures p)) (getD-take k places i 0 l)
         (placed-at (Member h) figures (take k places) i (rw (length-take-le k places (s .places-there)) l) (s .members));
   }
 
-  pub small-cache : Overheads h → cache < 2 ^ 32
-  small-cache o = omega (arith, s .cost, cache-small h ms o)
+  pub small-cache : cache < 2 ^ 32
+  small-cache = omega (arith, s .cost, cache-small ms (s .costs))
 
   -- its members, charged with its cache cost, are its loads
   pub own-charged : map (chargedIn h cache) ms ≡ serverLoads h ms
@@ -112,7 +109,7 @@ module _ {h : Header} {cache : ℕ} {figures places : List ℕ} {k H : ℕ} (s :
   own-charged = ap (λ (c : ℕ). map (chargedIn h c) ms) (s .cost)
 
   as-many : length (serverLoads h ms) ≡ k
-  as-many = loads-many h ms ∙ taken-length (loadAt figures) places k (s .places-there)
+  as-many = loads-many h ms ∙ taken-length (figuresAt figures) places k (s .places-there)
 
   -- on the board of interrupts
   module _ {interrupts : List ℕ} (w : Bounded h interrupts H) where
@@ -139,7 +136,7 @@ module _ {h : Header} {cache : ℕ} {figures places : List ℕ} {k H : ℕ} (s :
     may-test o lost e g = record {
       slot-some = s .slot;
       slot-small = omega (arith, le-of-dvd (s .some) (s .of-slot), s .short);
-      loss-small = omega (arith, g, loss-small h ms o);
+      loss-small = omega (arith, g, loss-small h ms o (s .costs));
       horizon-small = omega (arith, e, s .short, own-within);
     }
 
@@ -217,7 +214,7 @@ module _ {h : Header} {cache : ℕ} {figures places : List ℕ} {k H : ℕ} (s :
           there = omega (arith, ap length is, numbers-many);
           few = omega (arith, s .few);
           sound = rw front-loads (loads-sound h ms (s .members));
-          small = rw front-loads (loads-small h ms o (s .members));
+          small = rw front-loads (loads-small h ms o (s .costs) (s .members));
         };
         fours = rw front-behind (w .fours);
         few = rw front-behind (omega (arith, s .few, w .few));

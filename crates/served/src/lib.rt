@@ -1,5 +1,5 @@
 // The loads of the server at some places among a file's figures, and its own horizon.
-// What is asked stands in specs/Served.antt. Figures and loads stand in slices of numbers, three for each, interrupts in one, four for
+// What is asked stands in specs/Served.antt. Loads stand in a slice of numbers, three for each, figures and interrupts in slices of four for
 // each.
 use framelines::figures::put_figures;
 use loads::charge;
@@ -12,7 +12,8 @@ ghost use mathlib.Core.Path.{_≡_};
 ghost use Prim.Native.Nat.{_+_, _*_, _≤_};
 ghost use lib.ListN.{length, take};
 ghost use Rattle.digits.specs.Stored.{stored};
-ghost use Rattle.loads.specs.Charge.{numbersOf, serverLoads, membersAt};
+ghost use Rattle.loads.specs.Charge.{numbersOf, serverLoads};
+ghost use Rattle.loads.specs.Figures.{membersAt};
 ghost use Rattle.members.specs.Server.{boardOf, serverHorizon, Bounded};
 ghost use Rattle.served.specs.Served.{Served};
 

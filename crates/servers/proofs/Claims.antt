@@ -8,7 +8,8 @@ use mathlib.Core.List.{List, [], _∷_, _++_, append-assoc}
 use lib.ListN.{length, getD, take}
 use lib.Seq.{take-at, getD-at, append-snoc}
 use Rattle.laws.proofs.Tests.{true-false}
-use Rattle.demand.specs.Load.{Load, Every}
+use Rattle.demand.specs.Load.{Every}
+use Rattle.loads.specs.Figures.{Figures}
 use Rattle.demand.proofs.Demand.{every-front, every-last}
 use Rattle.search.specs.Search.{NoneIn, Next}
 use Rattle.places.specs.Places.{chosen}
@@ -25,7 +26,7 @@ use Rattle.servers.proofs.PlacementLaws.{placed, placed-length, placed-
 use Rattle.joining.proofs.JoinLaws.{join-view, first-picked}
 use Rattle.servers.proofs.FittingLaws.{in-range, fitting-none, few-more, fitting-more}
 use Rattle.servers.proofs.AloneLaws.{every-zip, every-by-server, alone-passes}
-use Rattle.taking.proofs.ChargedLaws.{members-with}
+use Rattle.taking.proofs.ChargedLaws.{every-with}
 
 -- ---- one step, whatever the rule
 
@@ -43,18 +44,18 @@ one-more-fits b done placement l q sound members alone = fitting-more b done pla
 -- ---- all tasks in file order
 
 -- what holds of every load of two lists holds of the first
-every-part : (P : Load → Type 0) (ls ks : List Load) → Every P (ls ++ ks) → Every P ls
+every-part : (P : Figures → Type 0) (ls ks : List Figures) → Every P (ls ++ ks) → Every P ls
 every-part P [] ks e = tt
 every-part P (l ∷ ls) ks e = (e .0, every-part P ls ks (e .1))
 
 pub placed-fits : PlacedFits
 placed-fits b step figures sound members alone opens =
     placed-keeps step
-    (λ (done : List Load) (placement : List ℕ). Every (Member (b .header)) done → FitAlone b done → Fitting b done placement)
+    (λ (done : List Figures) (placement : List ℕ). Every (Member (b .header)) done → FitAlone b done → Fitting b done placement)
     (λ ms alones. fitting-none b)
     (λ done placement l held ms alones.
-    one-more-fits b done placement l (step done placement l) sound ms (every-last (λ (k : Load). fits b (k ∷ []) ≡ true) done l alones)
-    (held (every-front (Member (b .header)) done l ms) (every-front (λ (k : Load). fits b (k ∷ []) ≡ true) done l alones)) (opens done placement l))
+    one-more-fits b done placement l (step done placement l) sound ms (every-last (λ (k : Figures). fits b (k ∷ []) ≡ true) done l alones)
+    (held (every-front (Member (b .header)) done l ms) (every-front (λ (k : Figures). fits b (k ∷ []) ≡ true) done l alones)) (opens done placement l))
     figures members alone
 
 -- the planner's step takes the task or opens a server
@@ -68,34 +69,34 @@ planner-fits b figures sound members alone = placed-fits b (fit b) figures sound
 
 pub alone-nowhere : AloneNowhere
 alone-nowhere b figures placement sound members w =
-    every-by-server (λ (l : Load). fits b (l ∷ []) ≡ true) figures placement (serversIn placement) (w .parted .one-each) (w .parted .there)
+    every-by-server (λ (l : Figures). fits b (l ∷ []) ≡ true) figures placement (serversIn placement) (w .parted .one-each) (w .parted .there)
     (λ q first there.
     let own = chosen figures placement q in
-    every-zip (Member (b .header)) (λ (l : Load). PassesWhole b (l ∷ [])) (λ (l : Load). fits b (l ∷ []) ≡ true) own
+    every-zip (Member (b .header)) (λ (l : Figures). PassesWhole b (l ∷ [])) (λ (l : Figures). fits b (l ∷ []) ≡ true) own
     (λ l member passes. passes-fits b (l ∷ []) (member, tt) sound passes)
     (every-chosen (Member (b .header)) figures placement q members) (alone-passes b own (w .passes q first there)))
 
 -- there are never more servers than tasks
-pub servers-few : (b : Board) (figures : List Load) → serversIn (placementOf b figures) ≤ length figures
+pub servers-few : (b : Board) (figures : List Figures) → serversIn (placementOf b figures) ≤ length figures
 unfolding placementOf serversIn
 servers-few b figures =
     omega (
       arith,
       placed-length (fit b) figures,
-      placed-keeps (fit b) (λ (done : List Load) (placement : List ℕ). serversIn placement ≤ length placement) (omega arith)
+      placed-keeps (fit b) (λ (done : List Figures) (placement : List ℕ). serversIn placement ≤ length placement) (omega arith)
           (λ done placement l few. few-more placement (fit b done placement l) (in-range b done placement l (fit b done placement l) (fit-takes-or-opens b done placement l)) few) figures,
     )
 
 -- what first fit means over all lengths
-module _ (b : Board) (done : List Load) (placement : List ℕ) (l : Load) (sound : SoundBoard b) (members : Every (Member (b .header)) (done ++ (l ∷ []))) where
+module _ (b : Board) (done : List Figures) (placement : List ℕ) (l : Figures) (sound : SoundBoard b) (members : Every (Member (b .header)) (done ++ (l ∷ []))) where
   -- that the rule takes a server, or does not, says whether it passes with the task
   takes-passes : (q : ℕ) → takes b done placement l q ≡ true → PassesWith b done placement l q
   unfolding takes
-  takes-passes q t = fits-passes b (chosen done placement q ++ (l ∷ [])) (members-with (b .header) done placement l members q) sound t
+  takes-passes q t = fits-passes b (chosen done placement q ++ (l ∷ [])) (every-with (Member (b .header)) done placement l members q) sound t
 
   takes-not : (q : ℕ) → takes b done placement l q ≡ false → PassesWith b done placement l q → ⊥
   unfolding takes
-  takes-not q t p = true-false (sym (passes-fits b (chosen done placement q ++ (l ∷ [])) (members-with (b .header) done placement l members q) sound p) ∙ t)
+  takes-not q t p = true-false (sym (passes-fits b (chosen done placement q ++ (l ∷ [])) (every-with (Member (b .header)) done placement l members q) sound p) ∙ t)
 
   -- the rule in those words
   pub fit-means : Lowest b done placement l (fit b done placement l) ⊎ Opened b done placement l (fit b done placement l)

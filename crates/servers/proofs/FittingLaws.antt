@@ -10,6 +10,7 @@ use lib.ListN.{length, getD, length-append, List·getD-append}
 use lib.Seq.{getD-append-seam}
 use borrow.Author.Tests.{ne-eqb}
 use Rattle.demand.specs.Load.{Load, Sound, Every}
+use Rattle.loads.specs.Figures.{Figures}
 use Rattle.demand.specs.Demand.{demand}
 use Rattle.demand.proofs.Claims.{loads-lawful}
 use Rattle.masking.proofs.MaskedLaws.{masked-above}
@@ -25,11 +26,11 @@ use Rattle.taking.specs.Takes.{takes}
 use Rattle.servers.specs.Fitting.{Parted, PassesWhole, Fitting}
 use Rattle.servers.specs.Claims.{TakesOrNew}
 use Rattle.members.proofs.ServerLaws.{fits-passes}
-use Rattle.taking.proofs.ChargedLaws.{members-with}
+use Rattle.taking.proofs.ChargedLaws.{every-with}
 use Rattle.servers.proofs.PlacementLaws.{servers-more}
 
 -- a server past the last has no task
-pub in-none : (figures : List Load) (placement : List ℕ) (q : ℕ) → serversIn placement < q → chosen figures placement q ≡ []
+pub in-none : (figures : List Figures) (placement : List ℕ) (q : ℕ) → serversIn placement < q → chosen figures placement q ≡ []
 unfolding chosen serversIn
 in-none [] placement q h = refl
 in-none (l ∷ figures) [] q h = refl
@@ -41,7 +42,7 @@ abbrev pub InRange : (placement : List ℕ) (q : ℕ) → Type 0
 InRange placement q = (1 ≤ q) × (q ≤ suc (serversIn placement))
 
 -- a server that takes the task, or a new one, is
-pub in-range : (b : Board) (done : List Load) (placement : List ℕ) (l : Load) (q : ℕ) → TakesOrNew b done placement l q → InRange placement q
+pub in-range : (b : Board) (done : List Figures) (placement : List ℕ) (l : Figures) (q : ℕ) → TakesOrNew b done placement l q → InRange placement q
 in-range b done placement l q o =
     ⊎-elim (λ w. (w .0, omega (arith, w .1))) (λ (e : q ≡ suc (serversIn placement)). (omega arith, omega arith)) o
 
@@ -58,7 +59,7 @@ module _ (placement : List ℕ) (q : ℕ) where
   longer : length (placement ++ (q ∷ [])) ≡ length placement + 1
   longer = length-append placement (q ∷ [])
 
-  module _ (figures : List Load) (l : Load) (p : Parted figures placement) (o : InRange placement q) where
+  module _ (figures : List Figures) (l : Figures) (p : Parted figures placement) (o : InRange placement q) where
     -- every server named is there
     still-there : (i : ℕ) → i < length (placement ++ (q ∷ [])) →
         (1 ≤ getD (placement ++ (q ∷ [])) i 0) × (getD (placement ++ (q ∷ [])) i 0 ≤ serversIn (placement ++ (q ∷ [])))
@@ -108,7 +109,7 @@ few-more placement q o h = omega (arith, servers-more placement q, length-append
 
 -- ---- every server passes
 
-module _ (b : Board) (done : List Load) (placement : List ℕ) (l : Load) (q : ℕ) (sound : SoundBoard b)
+module _ (b : Board) (done : List Figures) (placement : List ℕ) (l : Figures) (q : ℕ) (sound : SoundBoard b)
     (members : Every (Member (b .header)) (done ++ (l ∷ []))) (alone : fits b (l ∷ []) ≡ true) where
   -- the server that the task joins fits
   joined-fits : TakesOrNew b done placement l q → fits b (chosen done placement q ++ (l ∷ [])) ≡ true
@@ -116,7 +117,7 @@ module _ (b : Board) (done : List Load) (placement : List ℕ) (l : Load) (q : �
   joined-fits o = ⊎-elim (λ w. w .2) new o
     where
       new : q ≡ suc (serversIn placement) → fits b (chosen done placement q ++ (l ∷ [])) ≡ true
-      new e = ap (λ (ks : List Load). fits b (ks ++ (l ∷ []))) (in-none done placement q (omega arith)) ∙ alone
+      new e = ap (λ (ks : List Figures). fits b (ks ++ (l ∷ []))) (in-none done placement q (omega arith)) ∙ alone
 
   -- every server passes still
   still-pass : Fitting b done placement → TakesOrNew b done placement l q → (x : ℕ) → 1 ≤ x → x ≤ serversIn (placement ++ (q ∷ [])) →
@@ -127,7 +128,7 @@ module _ (b : Board) (done : List Load) (placement : List ℕ) (l : Load) (q : �
       by (yes e) =
           subst (PassesWhole b)
           (sym (in-joined done placement l q q (w .parted .one-each) refl) ∙ ap (chosen (done ++ (l ∷ [])) (placement ++ (q ∷ []))) e)
-          (fits-passes b (chosen done placement q ++ (l ∷ [])) (members-with (b .header) done placement l members q) sound (joined-fits o))
+          (fits-passes b (chosen done placement q ++ (l ∷ [])) (every-with (Member (b .header)) done placement l members q) sound (joined-fits o))
       by (no n) =
           subst (PassesWhole b) (sym (in-apart done placement l q x (w .parted .one-each) n))
           (w .passes x first (omega (arith, there, n, servers-more placement q, in-range b done placement l q o .1)))
@@ -148,7 +149,7 @@ some-demand [] e h = absurd (omega arith)
 some-demand (l ∷ ls) e h = (l .deadline, loads-lawful .some l ls (e .0))
 
 -- so does each server, since none is empty
-pub fitting-asks : (b : Board) (figures : List Load) (placement : List ℕ) (q : ℕ) → Every (Member (b .header)) figures → Fitting b figures placement →
+pub fitting-asks : (b : Board) (figures : List Figures) (placement : List ℕ) (q : ℕ) → Every (Member (b .header)) figures → Fitting b figures placement →
     1 ≤ q → q ≤ serversIn placement → (t : ℕ) × (1 ≤ serverDemand b (chosen figures placement q) t)
 fitting-asks b figures placement q members w first there =
     let ms = chosen figures placement q in

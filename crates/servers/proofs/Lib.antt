@@ -3,7 +3,6 @@ pub mod PlacementLaws
 pub mod FittingLaws
 pub mod AloneLaws
 pub mod Claims
-pub mod TotalLaws
 pub mod KeptLaws
 pub mod SoFarLaws
 pub mod Worked

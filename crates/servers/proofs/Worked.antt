@@ -27,7 +27,7 @@ twoProcessors = record { processors = 2; slot = 10; relj = 0; relo = 0; ctswo = 
 pub goes-back :
     placementOf
     (uninterrupted twoProcessors)
-    (record { cost = 6; deadline = 10; period = 10 } ∷ record { cost = 6; deadline = 10; period = 10 } ∷ record { cost = 4; deadline = 10; period = 10 } ∷ [])
+    (record { cost = 6; deadline = 10; period = 10; cache = 0 } ∷ record { cost = 6; deadline = 10; period = 10; cache = 0 } ∷ record { cost = 4; deadline = 10; period = 10; cache = 0 } ∷ [])
     ≡ 1 ∷ 2 ∷ 1 ∷ []
 unfolding placementOf placeBy fit join takes serversIn chosen fits passesWith serverLoads serverLoss cacheOf chargedIn effectiveDeadline effectiveCost entryLoss passing verdictOf verdictAt firstFailing firstUpTo firstAfter failing ownHorizon leastMultipleOf leastMultiple commonMeasure measureIn maskedDemand gaining gainOf gainAt soonest soonestOf latest greatest interruptDemand boundTo demand jobs supply supplyPast
 goes-back = refl

@@ -6,7 +6,8 @@ use mathlib.Core.Logic.{_⊎_}
 use mathlib.Core.Bool.{true}
 use mathlib.Core.List.{List, [], _∷_, _++_}
 use lib.ListN.{length, getD, take}
-use Rattle.demand.specs.Load.{Load, Every}
+use Rattle.demand.specs.Load.{Every}
+use Rattle.loads.specs.Figures.{Figures}
 use Rattle.places.specs.Places.{chosen}
 use Rattle.loads.specs.Charge.{Member}
 use Rattle.members.specs.Server.{Board, SoundBoard, fits}
@@ -18,13 +19,13 @@ use Rattle.servers.specs.Fitting.{PassesWhole, Fitting}
 -- ---- one step, whatever the rule
 
 -- q is a server that takes the task, or a new one
-abbrev pub TakesOrNew : Board → (done : List Load) → (placement : List ℕ) → Load → (q : ℕ) → Type 0
+abbrev pub TakesOrNew : Board → (done : List Figures) → (placement : List ℕ) → Figures → (q : ℕ) → Type 0
 TakesOrNew b done placement l q =
     ((1 ≤ q) × (q ≤ serversIn placement) × (takes b done placement l q ≡ true)) ⊎ (q ≡ suc (serversIn placement))
 
 -- a step that always answers such a server
 abbrev pub TakesOrOpens : Board → Step → Type 0
-TakesOrOpens b step = (done : List Load) (placement : List ℕ) (l : Load) → TakesOrNew b done placement l (step done placement l)
+TakesOrOpens b step = (done : List Figures) (placement : List ℕ) (l : Figures) → TakesOrNew b done placement l (step done placement l)
 
 -- First fit picks candidates.
 abbrev pub FirstFitPicks : Type 0
@@ -39,47 +40,47 @@ JoinTakesOrOpens =
 -- A fitting placement stays one with a task more, in a server that takes it or in a new one, where the task fits alone.
 abbrev pub OneMoreFits : Type 0
 OneMoreFits =
-    (b : Board) (done : List Load) (placement : List ℕ) (l : Load) (q : ℕ) → SoundBoard b → Every (Member (b .header)) (done ++ (l ∷ [])) →
+    (b : Board) (done : List Figures) (placement : List ℕ) (l : Figures) (q : ℕ) → SoundBoard b → Every (Member (b .header)) (done ++ (l ∷ [])) →
     fits b (l ∷ []) ≡ true → Fitting b done placement → TakesOrNew b done placement l q →
     Fitting b (done ++ (l ∷ [])) (placement ++ (q ∷ []))
 
 -- ---- all tasks in file order
 
 -- the tasks each fit alone
-abbrev pub FitAlone : Board → List Load → Type 0
-FitAlone b figures = Every (λ (l : Load). fits b (l ∷ []) ≡ true) figures
+abbrev pub FitAlone : Board → List Figures → Type 0
+FitAlone b figures = Every (λ (l : Figures). fits b (l ∷ []) ≡ true) figures
 
 -- Tasks that fit alone, placed by any step that takes or opens, are fittingly placed.
 abbrev pub PlacedFits : Type 0
 PlacedFits =
-    (b : Board) (step : Step) (figures : List Load) → SoundBoard b → Every (Member (b .header)) figures → FitAlone b figures → TakesOrOpens b step →
+    (b : Board) (step : Step) (figures : List Figures) → SoundBoard b → Every (Member (b .header)) figures → FitAlone b figures → TakesOrOpens b step →
     Fitting b figures (placeBy step [] [] figures)
 
 -- So is the planner's placement.
 abbrev pub PlannerFits : Type 0
 PlannerFits =
-    (b : Board) (figures : List Load) → SoundBoard b → Every (Member (b .header)) figures → FitAlone b figures →
+    (b : Board) (figures : List Figures) → SoundBoard b → Every (Member (b .header)) figures → FitAlone b figures →
     Fitting b figures (placementOf b figures)
 
 -- In a placement that fits each task fits alone: one that does not, on a board with interrupts, fits in no server.
 abbrev pub AloneNowhere : Type 0
 AloneNowhere =
-    (b : Board) (figures : List Load) (placement : List ℕ) → SoundBoard b → Every (Member (b .header)) figures → Fitting b figures placement →
+    (b : Board) (figures : List Figures) (placement : List ℕ) → SoundBoard b → Every (Member (b .header)) figures → Fitting b figures placement →
     FitAlone b figures
 
 -- server q, with a task more, passes with R = S
-abbrev pub PassesWith : Board → (done : List Load) → (placement : List ℕ) → Load → (q : ℕ) → Type 0
+abbrev pub PassesWith : Board → (done : List Figures) → (placement : List ℕ) → Figures → (q : ℕ) → Type 0
 PassesWith b done placement l q = PassesWhole b (chosen done placement q ++ (l ∷ []))
 
 -- q passes with the task and no lower-numbered server does
-pub record Lowest (b : Board) (done : List Load) (placement : List ℕ) (l : Load) (q : ℕ) : Type 0 where
+pub record Lowest (b : Board) (done : List Figures) (placement : List ℕ) (l : Figures) (q : ℕ) : Type 0 where
   pub first : 1 ≤ q
   pub there : q ≤ serversIn placement
   pub passes : PassesWith b done placement l q
   pub no-lower : (x : ℕ) → 1 ≤ x → x < q → PassesWith b done placement l x → ⊥
 
 -- q is a new server, since none passes with the task
-pub record Opened (b : Board) (done : List Load) (placement : List ℕ) (l : Load) (q : ℕ) : Type 0 where
+pub record Opened (b : Board) (done : List Figures) (placement : List ℕ) (l : Figures) (q : ℕ) : Type 0 where
   pub new : q ≡ suc (serversIn placement)
   pub none : (x : ℕ) → 1 ≤ x → x ≤ serversIn placement → PassesWith b done placement l x → ⊥
 
@@ -87,7 +88,7 @@ pub record Opened (b : Board) (done : List Load) (placement : List ℕ) (l : Loa
 -- Those before it are placed as if it and those after it never came.
 abbrev pub FirstFit : Type 0
 FirstFit =
-    (b : Board) (before : List Load) (l : Load) (after : List Load) → SoundBoard b → Every (Member (b .header)) (before ++ (l ∷ after))
+    (b : Board) (before : List Figures) (l : Figures) (after : List Figures) → SoundBoard b → Every (Member (b .header)) (before ++ (l ∷ after))
     → let all = placementOf b (before ++ (l ∷ after)) in
     let q = getD all (length before) 0 in
     (take (length before) all ≡ placementOf b before)

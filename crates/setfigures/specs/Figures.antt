@@ -4,13 +4,12 @@ use Prim.Native.Nat.{ℕ, _*_}
 use mathlib.Core.List.{List, map}
 use lib.ListN.{replicate}
 use Rattle.digits.specs.Stored.{stored}
-use Rattle.demand.specs.Load.{Load}
 use Rattle.tasks.specs.declared.set.TaskSet.{TaskSet}
 use Rattle.tasks.specs.Set.{mostTasks, members}
-use Rattle.loads.specs.Charge.{figuresOf, numbersOf}
+use Rattle.loads.specs.Figures.{Figures, figuresOf, ownNumbers}
 
-unfoldable pub setFigures : TaskSet → List Load
-setFigures set = map figuresOf (members set)
+unfoldable pub setFigures : TaskSet → List Figures
+setFigures set = map (figuresOf (set .header)) (members set)
 
 unfoldable pub figureNumbers : TaskSet → List ℕ
-figureNumbers set = stored (replicate (3 * mostTasks) 0) 0 (numbersOf (setFigures set))
+figureNumbers set = stored (replicate (4 * mostTasks) 0) 0 (ownNumbers (setFigures set))

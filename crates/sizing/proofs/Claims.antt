@@ -6,7 +6,8 @@ use mathlib.Core.Path.{_≡_, sym, ap, subst, _∙_}
 use mathlib.Core.Logic.{⊎-elim}
 use mathlib.Core.List.{List}
 use lib.ListN.{length, getD}
-use Rattle.demand.specs.Load.{Load, Every}
+use Rattle.demand.specs.Load.{Every}
+use Rattle.loads.specs.Figures.{Figures}
 use Rattle.demand.specs.Supply.{Ring, Allowed}
 use Rattle.verdict.specs.Reserve.{Smallest}
 use Rattle.verdict.proofs.Claims.{reserve-means}
@@ -22,7 +23,7 @@ use Rattle.sizing.specs.Reserve.{reserveIn, reservesOf}
 use Rattle.sizing.specs.Claims.{SmallestReserves}
 
 -- members that pass with a whole processor have their smallest reserve
-reserve-for : (b : Board) (members : List Load) → SoundBoard b → Every (Member (b .header)) members → PassesWhole b members →
+reserve-for : (b : Board) (members : List Figures) → SoundBoard b → Every (Member (b .header)) members → PassesWhole b members →
     Smallest (serverDemand b members) (b .header .slot) (serverLoss (b .header) members) (reserveFor b members)
 unfolding reserveFor
 reserve-for b members sound ok whole =
@@ -43,7 +44,7 @@ smallest-reserves b figures placement sound members w = (up-length (reserveIn b 
         (reserve-for b own sound (every-chosen (Member (b .header)) figures placement (suc q) members) (w .passes (suc q) first there))
 
 -- one reserve for each server
-pub reserves-count : (b : Board) (figures : List Load) (placement : List ℕ) → length (reservesOf b figures placement) ≡ serversIn placement
+pub reserves-count : (b : Board) (figures : List Figures) (placement : List ℕ) → length (reservesOf b figures placement) ≡ serversIn placement
 unfolding reservesOf
 reserves-count b figures placement = up-length (reserveIn b figures placement) (serversIn placement)
 
@@ -53,7 +54,7 @@ allowed-range S L R some a =
     ⊎-elim (λ (r : Ring S L R). (omega (arith, r .enters), omega (arith, r .parts))) (λ (e : R ≡ S). (omega arith, omega arith)) a
 
 -- so each reserve of a fitting placement is
-pub reserves-range : (b : Board) (figures : List Load) (placement : List ℕ) → SoundBoard b → Every (Member (b .header)) figures → Fitting b figures placement →
+pub reserves-range : (b : Board) (figures : List Figures) (placement : List ℕ) → SoundBoard b → Every (Member (b .header)) figures → Fitting b figures placement →
     (i : ℕ) → i < length (reservesOf b figures placement) →
     (1 ≤ getD (reservesOf b figures placement) i 0) × (getD (reservesOf b figures placement) i 0 ≤ b .header .slot)
 reserves-range b figures placement sound members w i below =

@@ -4,7 +4,8 @@ use Prim.Native.Nat.{ℕ, _-_, _≤_}
 use mathlib.Core.Path.{_≡_}
 use mathlib.Core.List.{List}
 use lib.ListN.{length, getD}
-use Rattle.demand.specs.Load.{Load, Every}
+use Rattle.demand.specs.Load.{Every}
+use Rattle.loads.specs.Figures.{Figures}
 use Rattle.verdict.specs.Reserve.{Smallest}
 use Rattle.places.specs.Places.{chosen}
 use Rattle.loads.specs.Charge.{serverLoss, Member}
@@ -17,7 +18,7 @@ use Rattle.sizing.specs.Reserve.{reservesOf}
 -- allowed one.
 abbrev pub SmallestReserves : Type 0
 SmallestReserves =
-    (b : Board) (figures : List Load) (placement : List ℕ) → SoundBoard b → Every (Member (b .header)) figures → Fitting b figures placement
+    (b : Board) (figures : List Figures) (placement : List ℕ) → SoundBoard b → Every (Member (b .header)) figures → Fitting b figures placement
     → (length (reservesOf b figures placement) ≡ serversIn placement)
     × ((q : ℕ) → 1 ≤ q → q ≤ serversIn placement
     → Smallest (serverDemand b (chosen figures placement q)) (b .header .slot) (serverLoss (b .header) (chosen figures placement q)) (getD (reservesOf b figures placement) (q - 1) 0))

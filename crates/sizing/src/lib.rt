@@ -1,5 +1,5 @@
 // Sizing: the smallest reserve of each server of a placement; and placing and sizing in one. What they mean stands in specs/Reserve.antt.
-// The tasks' own figures stand in one slice, three for each, the server of each task in another, of which the first n count, and the
+// The tasks' own figures stand in one slice, four for each, the server of each task in another, of which the first n count, and the
 // interrupts in a third, four numbers for each.
 use members::loss;
 use places::places_of;
@@ -11,15 +11,17 @@ use tasks::set::TaskSet;
 ghost use mathlib.Core.Path.{_≡_};
 ghost use Prim.Native.Nat.{_≤_};
 ghost use lib.ListN.{length, take};
-ghost use Rattle.demand.specs.Load.{loadsOf};
+ghost use Rattle.loads.specs.Figures.{figuresTo};
 ghost use Rattle.places.specs.Padded.{padded, upTo};
 ghost use Rattle.tasks.specs.Set.{mostTasks};
 ghost use Rattle.members.specs.Server.{boardOf, Filed, Bounded};
-ghost use Rattle.sizing.specs.Reserve.{reserveIn, serversOf};
+ghost use Rattle.servers.specs.Placement.{cacheIn};
+ghost use Rattle.sizing.specs.Reserve.{reserveIn, serversOf, Costed};
 
-// The smallest allowed reserve with which server q passes, by its own loss and its own horizon.
+// The smallest allowed reserve with which server q passes, by its own cache cost, loss and horizon.
 pub fn reserve_of(
     header: Header,
+    cache: u64,
     figures: &[u64],
     placement: &[u64],
     n: usize,
@@ -30,9 +32,9 @@ pub fn reserve_of(
     requires { ⌜ Filed header (now figures) n horizon ⌝ }
     requires { ⌜ Bounded header (now interrupts) horizon ⌝ }
     requires { ⌜ n ≤ length (now placement) ⌝ }
-    ensures { λ r. ⌜ r ≡ reserveIn (boardOf header (now (interrupts .entry))) (loadsOf (now (figures .entry)) n) (take n (now (placement .entry))) q ⌝ }
+    requires { ⌜ cache ≡ cacheIn (figuresTo (now figures) n) (take n (now placement)) q ⌝ }
+    ensures { λ r. ⌜ r ≡ reserveIn (boardOf header (now (interrupts .entry))) (figuresTo (now (figures .entry)) n) (take n (now (placement .entry))) q ⌝ }
 {
-    let cache = header.cpmdo as u64;
     let mut places = [0u8; TaskSet::MOST_TASKS];
     let count = places_of(placement, n, q, &mut places);
     let mut loads = [0u64; ROOM];
@@ -58,6 +60,7 @@ pub fn size(
     figures: &[u64],
     placement: &[u64],
     n: usize,
+    cache: &[u64],
     count: u64,
     interrupts: &[u64],
     horizon: u64,
@@ -65,23 +68,26 @@ pub fn size(
     requires { ⌜ Filed header (now figures) n horizon ⌝ }
     requires { ⌜ Bounded header (now interrupts) horizon ⌝ }
     requires { ⌜ (n ≤ length (now placement)) × (count ≤ mostTasks) ⌝ }
-    ensures { λ r. ⌜ r ≡ padded (upTo (reserveIn (boardOf header (now (interrupts .entry))) (loadsOf (now (figures .entry)) n) (take n (now (placement .entry)))) count) ⌝ }
+    requires { ⌜ Costed (figuresTo (now figures) n) (take n (now placement)) (now cache) count ⌝ }
+    ensures { λ r. ⌜ r ≡ padded (upTo (reserveIn (boardOf header (now (interrupts .entry))) (figuresTo (now (figures .entry)) n) (take n (now (placement .entry)))) count) ⌝ }
 {
     let mut reserve = [0u64; TaskSet::MOST_TASKS];
     let mut at: usize = 0;
     let mut q: u64 = 0;
     while q < count {
         q += 1;
-        reserve[at] = reserve_of(header, figures, placement, n, q, interrupts, horizon);
+        let cost = cache[at];
+        reserve[at] = reserve_of(header, cost, figures, placement, n, q, interrupts, horizon);
         at += 1;
     }
     reserve
 }
 
-// The server of each task in file order, and the reserve of each server; servers count from 1, unused room is zero.
+// The server of each task in file order, and the cache cost and the reserve of each server; servers count from 1, unused room is zero.
 pub struct Servers {
     pub count: u64,
     pub placement: [u64; TaskSet::MOST_TASKS],
+    pub cache: [u64; TaskSet::MOST_TASKS],
     pub reserve: [u64; TaskSet::MOST_TASKS],
 }
 
@@ -90,15 +96,17 @@ pub struct Servers {
 pub fn serve(header: Header, figures: &[u64], n: usize, interrupts: &[u64], horizon: u64) -> Servers
     requires { ⌜ Filed header (now figures) n horizon ⌝ }
     requires { ⌜ Bounded header (now interrupts) horizon ⌝ }
-    ensures { λ r. ⌜ r ≡ serversOf (boardOf header (now (interrupts .entry))) (loadsOf (now (figures .entry)) n) ⌝ }
+    ensures { λ r. ⌜ r ≡ serversOf (boardOf header (now (interrupts .entry))) (figuresTo (now (figures .entry)) n) ⌝ }
 {
     let placed = place(header, figures, n, interrupts, horizon);
     let placement = placed.placement;
+    let costs = placed.cache;
     let reserve = size(
         header,
         figures,
         &placement,
         n,
+        &costs,
         placed.count,
         interrupts,
         horizon,
@@ -106,6 +114,7 @@ pub fn serve(header: Header, figures: &[u64], n: usize, interrupts: &[u64], hori
     Servers {
         count: placed.count,
         placement,
+        cache: costs,
         reserve,
     }
 }

@@ -1,6 +1,6 @@
 -- A server's members at their places among a file's tasks, as the code finds them: they may be charged as a server, and whether they
 -- fit is the test that is asked with no entry loss.
-use Prim.Native.Nat.{ℕ, zero, suc, _+_, _*_, _≤_, _<_}
+use Prim.Native.Nat.{ℕ, zero, suc, _+_, _≤_, _<_}
 use native.Mathlib.Omega.{arith}
 use mathlib.Core.Path.{_≡_, refl, sym, ap, ap₂, subst, _∙_}
 use mathlib.Core.Bool.{Bool, true, false}
@@ -13,10 +13,10 @@ use Rattle.laws.proofs.Orders.{le-or-lt}
 use Rattle.laws.proofs.Tests.{same-test}
 use Rattle.digits.specs.Stored.{stored}
 use Rattle.digits.proofs.Stored.{stored-byte, stored-length}
-use Rattle.demand.specs.Load.{Load, Every, loadAt, loadsOf}
+use Rattle.demand.specs.Load.{Every, each}
 use Rattle.demand.specs.Lawful.{Lawful}
 use Rattle.demand.specs.Passes.{Passes}
-use Rattle.demand.proofs.Demand.{loads-length, every-snoc, every-front, every-last, every-at}
+use Rattle.demand.proofs.Demand.{each-length, every-snoc, every-front, every-last}
 use Rattle.demand.proofs.Supply.{supply-all}
 use Rattle.verdict.specs.Verdict.{passing}
 use Rattle.verdict.proofs.Verdict.{passing-passes, passes-passing}
@@ -24,7 +24,8 @@ use Rattle.tasks.specs.declared.set.Header.{Header}
 use Rattle.tasks.specs.Set.{mostTasks}
 use Rattle.places.specs.Places.{keep, placesFrom, placesIn, chosen}
 use Rattle.places.proofs.PlacesLaws.{in-more, places-more, places-few, places-below}
-use Rattle.loads.specs.Charge.{cacheOf, serverLoss, membersAt, Member}
+use Rattle.loads.specs.Charge.{cacheOf, serverLoss, Member}
+use Rattle.loads.specs.Figures.{Figures, figuresAt, figuresTo, membersAt}
 use Rattle.members.specs.Server.{Board, SoundBoard, serverDemand, serverHorizon, fits, passesWith, Filed}
 use Rattle.members.proofs.ServerLaws.{server-lawful}
 use Rattle.members.proofs.FiledLaws.{Below, every-chosen}
@@ -33,25 +34,25 @@ use Rattle.served.proofs.ServedLaws.{filed-served}
 
 -- ---- the places of a server's tasks
 
--- what is kept or left out, of each place its load
-keep-load : (figures : List ℕ) (b : Bool) (i : ℕ) → map (loadAt figures) (keep b i []) ≡ keep b (loadAt figures i) []
-keep-load figures true i = refl
-keep-load figures false i = refl
+-- what is kept or left out, of each place its figures
+keep-figures : (figures : List ℕ) (b : Bool) (i : ℕ) → map (figuresAt figures) (keep b i []) ≡ keep b (figuresAt figures i) []
+keep-figures figures true i = refl
+keep-figures figures false i = refl
 
--- the loads at the places of a server's tasks are its members
+-- the figures at the places of a server's tasks are its members
 places-members : (figures placement : List ℕ) (n q : ℕ) → n ≤ length placement →
-    membersAt figures (placesIn (take n placement) q) ≡ chosen (loadsOf figures n) (take n placement) q
-unfolding placesFrom chosen loadsOf
+    membersAt figures (placesIn (take n placement) q) ≡ chosen (figuresTo figures n) (take n placement) q
+unfolding placesFrom chosen each
 places-members figures placement zero q h = refl
 places-members figures placement (suc n) q h =
     ap (λ (p : List ℕ). membersAt figures (placesIn p q)) next ∙
-    ap (map (loadAt figures)) (places-more (take n placement) a q) ∙
-    map-append (loadAt figures) (placesIn (take n placement) q) (keep (eqb a q) (length (take n placement)) []) ∙
-    ap₂ (λ (ks js : List Load). ks ++ js)
+    ap (map (figuresAt figures)) (places-more (take n placement) a q) ∙
+    map-append (figuresAt figures) (placesIn (take n placement) q) (keep (eqb a q) (length (take n placement)) []) ∙
+    ap₂ (λ (ks js : List Figures). ks ++ js)
     (places-members figures placement n q (omega arith))
-    (keep-load figures (eqb a q) (length (take n placement)) ∙ ap (λ (k : ℕ). keep (eqb a q) (loadAt figures k) []) as-long) ∙
-    sym (in-more (loadsOf figures n) (take n placement) (loadAt figures n) a q (as-long ∙ sym (loads-length figures n))) ∙
-    ap (λ (p : List ℕ). chosen (loadsOf figures n ++ (loadAt figures n ∷ [])) p q) (sym next)
+    (keep-figures figures (eqb a q) (length (take n placement)) ∙ ap (λ (k : ℕ). keep (eqb a q) (figuresAt figures k) []) as-long) ∙
+    sym (in-more (figuresTo figures n) (take n placement) (figuresAt figures n) a q (as-long ∙ sym (each-length (figuresAt figures) n))) ∙
+    ap (λ (p : List ℕ). chosen (figuresTo figures n ++ (figuresAt figures n ∷ [])) p q) (sym next)
   where
     a : ℕ
     a = getD placement n 0
@@ -63,7 +64,7 @@ places-members figures placement (suc n) q h =
     next = take-suc placement n 0 h
 
 -- the first n of `places` are those of these members among the first m tasks of a file
-pub record Standing (figures : List ℕ) (m : ℕ) (members : List Load) (places : List ℕ) (n : ℕ) : Type 0 where
+pub record Standing (figures : List ℕ) (m : ℕ) (members : List Figures) (places : List ℕ) (n : ℕ) : Type 0 where
   pub there : n ≤ length places
   pub few : n ≤ mostTasks
   pub below : Below m (take n places)
@@ -86,7 +87,7 @@ module _ (figures placement b : List ℕ) (n q : ℕ) (h : n ≤ length placemen
 
   module _ {places : List ℕ} {k : ℕ} (e : k ≡ length found) (s : places ≡ stored b 0 found) where
     -- the places of a server's tasks
-    pub standing-found : n ≤ mostTasks → Standing figures n (chosen (loadsOf figures n) (take n placement) q) places k
+    pub standing-found : n ≤ mostTasks → Standing figures n (chosen (figuresTo figures n) (take n placement) q) places k
     standing-found few =
         record {
           there = omega (arith, as-few, long);
@@ -107,15 +108,15 @@ module _ (figures placement b : List ℕ) (n q : ℕ) (h : n ≤ length placemen
 
     -- with task n's own place behind them
     pub standing-joined : n < mostTasks →
-        Standing figures (n + 1) (chosen (loadsOf figures n) (take n placement) q ++ (loadAt figures n ∷ [])) (set places k n) (k + 1)
+        Standing figures (n + 1) (chosen (figuresTo figures n) (take n placement) q ++ (figuresAt figures n ∷ [])) (set places k n) (k + 1)
     standing-joined few =
         record {
           there = omega (arith, as-few, long);
           few = omega (arith, as-few);
           below = subst (Below (n + 1)) (sym front) below;
           is =
-              ap (membersAt figures) front ∙ map-append (loadAt figures) found (n ∷ []) ∙
-              ap (λ (ks : List Load). ks ++ (loadAt figures n ∷ [])) (places-members figures placement n q h);
+              ap (membersAt figures) front ∙ map-append (figuresAt figures) found (n ∷ []) ∙
+              ap (λ (ks : List Figures). ks ++ (figuresAt figures n ∷ [])) (places-members figures placement n q h);
         }
       where
         joined : List ℕ
@@ -147,7 +148,7 @@ module _ (figures placement b : List ℕ) (n q : ℕ) (h : n ≤ length placemen
             by (inr old) = rw (List·getD-append found (n ∷ []) 0 j old) (omega (arith, found-below j old))
 
 -- a task alone
-pub standing-alone : (figures : List ℕ) (i : ℕ) → Standing figures (i + 1) (loadAt figures i ∷ []) (i ∷ []) 1
+pub standing-alone : (figures : List ℕ) (i : ℕ) → Standing figures (i + 1) (figuresAt figures i ∷ []) (i ∷ []) 1
 standing-alone figures i =
     record {
       there = omega arith;
@@ -160,11 +161,11 @@ standing-alone figures i =
     below zero h = omega arith
     below (suc j) h = absurd (omega arith)
 
--- they may be charged as a server
-pub standing-served : {h : Header} {figures : List ℕ} {m H : ℕ} {members : List Load} {places : List ℕ} {n : ℕ} →
-    Filed h figures m H → Standing figures m members places n → Served h (h .cpmdo) figures places n H
-unfolding cacheOf
-standing-served {h} {places = places} {n = n} file w = filed-served file places n (h .cpmdo) (w .there) (w .few) (w .below) refl
+-- they may be charged as a server, at the largest cache cost among them
+pub standing-served : {h : Header} {figures : List ℕ} {m H : ℕ} {members : List Figures} {places : List ℕ} {n : ℕ} (cache : ℕ) →
+    Filed h figures m H → Standing figures m members places n → cache ≡ cacheOf members → Served h cache figures places n H
+standing-served {places = places} {n = n} cache file w cost =
+    filed-served file places n cache (w .there) (w .few) (w .below) (cost ∙ ap cacheOf (sym (w .is)))
 
 -- ---- a whole processor has no entry loss
 
@@ -178,7 +179,7 @@ same-whole g H S L L′ lawful some =
     (λ e. passes-passing g H S L S (other-loss g S L′ L (passing-passes g H S L′ S lawful some e)))
 
 -- so the test of members that is asked with none is whether they fit
-pub fits-whole : (b : Board) (members : List Load) → Every (Member (b .header)) members → SoundBoard b →
+pub fits-whole : (b : Board) (members : List Figures) → Every (Member (b .header)) members → SoundBoard b →
     passing (serverDemand b members) (serverHorizon b members) (b .header .slot) 0 (b .header .slot) ≡ fits b members
 unfolding fits passesWith
 fits-whole b members ok sound =
@@ -186,13 +187,8 @@ fits-whole b members ok sound =
 
 -- ---- a server with a task more
 
--- the last task of a file has its figures there, and may be charged
-pub filed-last : {h : Header} {figures : List ℕ} {H : ℕ} (i : ℕ) → Filed h figures (i + 1) H → (3 * i + 3 ≤ length figures) × Member h (loadAt figures i)
-filed-last {h} {figures} i file = (omega (arith, file .there), every-at figures (Member h) (i + 1) (omega arith) (file .members))
-
--- the members of a server with the task
-pub members-with : (h : Header) (done : List Load) (placement : List ℕ) (l : Load) → Every (Member h) (done ++ (l ∷ [])) →
-    (q : ℕ) → Every (Member h) (chosen done placement q ++ (l ∷ []))
-members-with h done placement l members q =
-    every-snoc (Member h) (chosen done placement q) l
-    (every-chosen (Member h) done placement q (every-front (Member h) done l members)) (every-last (Member h) done l members)
+-- what holds of all tasks with the task holds of the members of a server with it
+pub every-with : (P : Figures → Type 0) (done : List Figures) (placement : List ℕ) (l : Figures) → Every P (done ++ (l ∷ [])) →
+    (q : ℕ) → Every P (chosen done placement q ++ (l ∷ []))
+every-with P done placement l all q =
+    every-snoc P (chosen done placement q) l (every-chosen P done placement q (every-front P done l all)) (every-last P done l all)

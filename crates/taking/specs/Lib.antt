@@ -1,3 +1,1 @@
 pub mod Takes
-pub mod Totals
-pub mod Soonest

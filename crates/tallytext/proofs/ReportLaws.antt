@@ -20,7 +20,7 @@ use Rattle.framelines.specs.Each.{eachLine}
 use Rattle.framelines.proofs.EachLaws.{each-length, figures-lines, figures-length}
 use Rattle.tally.specs.Tally.{numbers}
 use Rattle.tally.specs.declared.Tally.{Tally}
-use Rattle.tallytext.specs.Text.{numbersTold, metFigures, tallyText, tallyBytes, toldFigures}
+use Rattle.tallytext.specs.Text.{numbersTold, metFigures, metLine, tallyText, tallyBytes, toldFigures}
 
 -- the bytes of the 40 line, and of the text
 accepted-size : lengthOf Frame.Accepted + 1 ≡ 11
@@ -34,7 +34,7 @@ bytes-told = refl
 pub text-length : (t : Tally) → length (tallyText t) ≡ tallyBytes
 unfolding tallyText
 text-length t =
-    length-append (lineOf Frame.Accepted (t .accepted ∷ [])) (eachLine Frame.Met (metFigures t) numbersTold)
+    length-append (lineOf Frame.Accepted (t .accepted ∷ [])) (eachLine (metLine t) numbersTold)
     ∙ ap₂ _+_ (line-length Frame.Accepted (t .accepted ∷ [])) (each-length Frame.Met (metFigures t) numbersTold)
 
 -- a number has as many figures as its line has fields
@@ -63,7 +63,7 @@ pub told-length : (t : Tally) → length (toldFigures t) ≡ 2 * length numbersT
 unfolding widthsOf
 told-length t = figures-length Frame.Met (metFigures t) 0 numbersTold (met-sized t) (2 * length numbersTold) (length numbersTold) (omega arith)
 
-told-lines : (t : Tally) → linesOf Frame.Met (toldFigures t) (length numbersTold) ≡ eachLine Frame.Met (metFigures t) numbersTold
+told-lines : (t : Tally) → linesOf Frame.Met (toldFigures t) (length numbersTold) ≡ eachLine (metLine t) numbersTold
 told-lines t = figures-lines Frame.Met (metFigures t) 0 numbersTold (met-sized t) (2 * length numbersTold) (length numbersTold) (omega arith)
 
 -- the 40 line at the start and the 41 lines behind it are the text
@@ -83,7 +83,7 @@ text-put t b {values} {opened} {left} room e f g =
     line = lineOf Frame.Accepted (t .accepted ∷ [])
 
     lines : List ℕ
-    lines = eachLine Frame.Met (metFigures t) numbersTold
+    lines = eachLine (metLine t) numbersTold
 
     behind : 11 ≡ 0 + length line
     behind = omega (arith, line-length Frame.Accepted (t .accepted ∷ []), accepted-size)

@@ -18,9 +18,13 @@ numbersTold = 0 ∷ 1 ∷ 2 ∷ 3 ∷ 4 ∷ 5 ∷ 6 ∷ 7 ∷ 8 ∷ 9 ∷ 10 ∷
 abbrev pub metFigures : Tally → (number : ℕ) → List ℕ
 metFigures t number = number ∷ getD (t .refused) number 0 ∷ []
 
+-- that line
+abbrev pub metLine : Tally → (number : ℕ) → List ℕ
+metLine t number = lineOf Frame.Met (metFigures t number)
+
 -- the 40 line, then a 41 line for each number told
 unfoldable pub tallyText : Tally → List ℕ
-tallyText t = lineOf Frame.Accepted (t .accepted ∷ []) ++ eachLine Frame.Met (metFigures t) numbersTold
+tallyText t = lineOf Frame.Accepted (t .accepted ∷ []) ++ eachLine (metLine t) numbersTold
 
 -- the bytes of the text, by the table
 abbrev pub tallyBytes : ℕ

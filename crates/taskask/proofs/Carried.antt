@@ -20,6 +20,7 @@ use Rattle.tasks.specs.declared.set.Task.{Task}
 use Rattle.tasks.specs.declared.set.TaskSet.{TaskSet}
 use Rattle.tasks.specs.Set.{mostTasks, mostInterrupts, members, interruptsIn}
 use Rattle.tasks.specs.Search.{some}
+use Rattle.taskframe.specs.Frames.{taskFrame}
 use Rattle.taskask.specs.Ask.{countRow, twiceRow, headerOverflows, taskOverflows, maskedOverflows, interruptOverflows, askRow}
 
 -- the figures of a header, of a task, of a 05 line and of an interrupt that are not too large fit their fields
@@ -27,9 +28,9 @@ pub header-fits : (h : Header) → headerOverflows h ≡ false → (k : ℕ) →
 unfolding headerOverflows
 header-fits h e = values-fit Frame.Header (headerValues h) e
 
-pub task-fits : (t : Task) → taskOverflows t ≡ false → (k : ℕ) → k < fieldsIn Frame.Task → getD (taskValues t) k 0 < 16 ^ widthOf Frame.Task k
+pub task-fits : (t : Task) → taskOverflows t ≡ false → (k : ℕ) → k < fieldsIn (taskFrame t) → getD (taskValues t) k 0 < 16 ^ widthOf (taskFrame t) k
 unfolding taskOverflows
-task-fits t e = values-fit Frame.Task (taskValues t) e
+task-fits t e = values-fit (taskFrame t) (taskValues t) e
 
 pub masked-fits : (masked : ℕ) → maskedOverflows (Given masked) ≡ false → (k : ℕ) → k < fieldsIn Frame.Masked → getD (masked ∷ []) k 0 < 16 ^ widthOf Frame.Masked k
 unfolding maskedOverflows

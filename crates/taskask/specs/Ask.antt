@@ -1,5 +1,5 @@
 -- Row 11 of a task set, with rows 3 and 4 of a set's figures.
--- Document 01, "Refusal numbers and their order" (RULES 6), rows 3, 4 and 11; document 02, Req 04 and Req 08.
+-- Document 01, "Refusal numbers and their order" (RULES 6), rows 3, 4 and 11; document 02, Req 04, 07 and 08.
 use mathlib.Core.List.{List, [], _∷_}
 use mathlib.Core.Bool.{Bool, false, _||_}
 use lib.Dec.{ltb, eqb}
@@ -14,6 +14,7 @@ use Rattle.tasks.specs.declared.set.TaskSet.{TaskSet}
 use Rattle.tasks.specs.Set.{mostTasks, mostInterrupts, members, interruptsIn, hasId}
 use Rattle.tasks.specs.Values.{headerValues, taskValues, interruptValues}
 use Rattle.tasks.specs.Search.{some}
+use Rattle.taskframe.specs.Frames.{taskFrame}
 
 -- 3 COUNT: no task, a 65th, or a 33rd interrupt
 unfoldable pub countRow : TaskSet → Bool
@@ -29,7 +30,7 @@ unfoldable pub headerOverflows : Header → Bool
 headerOverflows h = lineOverflows Frame.Header (headerValues h)
 
 unfoldable pub taskOverflows : Task → Bool
-taskOverflows t = lineOverflows Frame.Task (taskValues t)
+taskOverflows t = lineOverflows (taskFrame t) (taskValues t)
 
 unfoldable pub maskedOverflows : Optional → Bool
 maskedOverflows Absent = false

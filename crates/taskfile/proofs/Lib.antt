@@ -1,4 +1,5 @@
 pub mod Past
+pub mod TaskLaws
 pub mod AmongLaws
 pub mod Lines
 pub mod OpeningLaws

@@ -4,13 +4,13 @@ use Prim.Native.Nat.{ℕ, zero, suc, _+_, _≤_, _<_}
 use native.Mathlib.Omega.{arith}
 use native.Mathlib.Decide.{decLt}
 use mathlib.Core.List.{List, [], _∷_}
-use mathlib.Core.Bool.{Bool, true, false, not, cond, and-false, or-false}
-use mathlib.Core.Logic.{_⊎_, inl, inr}
+use mathlib.Core.Bool.{Bool, true, false, not, cond, and-false, or-false, or-true}
+use mathlib.Core.Logic.{_⊎_, inl, inr, ⊎-elim}
 use mathlib.Core.Path.{_≡_, refl, sym, _∙_, ap}
 use lib.ListN.{length}
 use lib.Dec.{eqb}
 use borrow.Author.Tests.{eq-eqb, ne-eqb, not-false}
-use Rattle.laws.proofs.Tests.{true-false}
+use Rattle.laws.proofs.Tests.{true-false, or-either, or-left, or-right}
 use Rattle.frameread.specs.Line.{formed, closed}
 use Rattle.frames.specs.declared.table.Frame.{Frame}
 use Rattle.refusals.specs.declared.Refusal.{Refusal}
@@ -20,36 +20,61 @@ use Rattle.refusals.specs.First.{firstOf, when, till}
 use Rattle.tasks.specs.declared.set.Interrupt.{Interrupt}
 use Rattle.tasks.specs.Set.{mostTasks, mostInterrupts, hasId}
 use Rattle.tasks.specs.Search.{some}
-use Rattle.taskfile.specs.File.{past, empty, fileKinds, admitted, lineRow, orderRow, countLineRow, twiceLineRow, lineOutcome, openingLines, taskAt, tasksAmong, fileTasks, interruptsAmong}
+use Rattle.taskfile.specs.File.{past, empty, fileKinds, admitted, lineRow, orderRow, countLineRow, twiceLineRow, lineOutcome, openingLines, taskFormed, taskAt, tasksAmong, fileTasks, interruptsAmong}
 use Rattle.frameread.proofs.KindLaws.{not-formed}
 use Rattle.tasks.proofs.SearchLaws.{some-nowhere}
 use Rattle.refusals.proofs.FirstLaws.{done-refused, first-done, first-none, when-done, till-done, done-till}
 use Rattle.taskfile.proofs.Past.{absent-later, absent-past}
+use Rattle.taskfile.proofs.TaskLaws.{task-nowhere, task-apart, no-task-line}
 use Rattle.taskfile.proofs.AmongLaws.{task-counts}
 
 -- a line of one kind that a task file admits is of no other
-pub header-no-task : (text : List ℕ) → formed Frame.Header text ≡ true → formed Frame.Task text ≡ false
-header-no-task text f = not-formed Frame.Header Frame.Task refl text f
+pub header-no-task : (text : List ℕ) → formed Frame.Header text ≡ true → taskFormed text ≡ false
+header-no-task text f = no-task-line Frame.Header refl refl text f
 
-pub task-no-header : (text : List ℕ) → formed Frame.Task text ≡ true → formed Frame.Header text ≡ false
-task-no-header text f = not-formed Frame.Task Frame.Header refl text f
+pub interrupt-no-task : (text : List ℕ) → formed Frame.Interrupt text ≡ true → taskFormed text ≡ false
+interrupt-no-task text f = no-task-line Frame.Interrupt refl refl text f
 
-pub task-no-masked : (text : List ℕ) → formed Frame.Task text ≡ true → formed Frame.Masked text ≡ false
-task-no-masked text f = not-formed Frame.Task Frame.Masked refl text f
+pub task-no-header : (text : List ℕ) → taskFormed text ≡ true → formed Frame.Header text ≡ false
+task-no-header text f = task-apart text f Frame.Header refl refl
+
+pub task-no-masked : (text : List ℕ) → taskFormed text ≡ true → formed Frame.Masked text ≡ false
+task-no-masked text f = task-apart text f Frame.Masked refl refl
+
+pub task-no-interrupt : (text : List ℕ) → taskFormed text ≡ true → formed Frame.Interrupt text ≡ false
+task-no-interrupt text f = task-apart text f Frame.Interrupt refl refl
 
 pub masked-no-header : (text : List ℕ) → formed Frame.Masked text ≡ true → formed Frame.Header text ≡ false
 masked-no-header text f = not-formed Frame.Masked Frame.Header refl text f
 
-pub masked-no-task : (text : List ℕ) → formed Frame.Masked text ≡ true → formed Frame.Task text ≡ false
-masked-no-task text f = not-formed Frame.Masked Frame.Task refl text f
+pub masked-no-task : (text : List ℕ) → formed Frame.Masked text ≡ true → taskFormed text ≡ false
+masked-no-task text f = no-task-line Frame.Masked refl refl text f
 
--- a text that starts with no kind of line, and with none of the four that a task file admits
+-- a text that starts with a line that a task file admits
+task-admitted : (rest : List ℕ) → taskFormed rest ≡ true → admitted rest ≡ true
+unfolding some taskFormed
+task-admitted rest task =
+    ⊎-elim
+    (λ (plain : formed Frame.Task rest ≡ true). rw plain (simp or-true))
+    (λ (cached : formed Frame.Cached rest ≡ true). rw cached (simp or-true))
+    (or-either (formed Frame.Task rest) (formed Frame.Cached rest) task)
+
+masked-admitted : (rest : List ℕ) → formed Frame.Masked rest ≡ true → admitted rest ≡ true
+unfolding some
+masked-admitted rest masked = rw masked (simp or-true)
+
+interrupt-admitted : (rest : List ℕ) → formed Frame.Interrupt rest ≡ true → admitted rest ≡ true
+unfolding some
+interrupt-admitted rest interrupt = rw interrupt (simp or-true)
+
+-- a text that starts with no kind of line, and with none of those that a task file admits
 pub admits-none : (rest : List ℕ) → ((kind : Frame) → formed kind rest ≡ false) → admitted rest ≡ false
 admits-none rest none = some-nowhere (λ (kind : Frame). formed kind rest) Frame.Header fileKinds (λ j lt. none _)
 
-pub neither : (rest : List ℕ) → formed Frame.Header rest ≡ false → formed Frame.Task rest ≡ false → formed Frame.Masked rest ≡ false → formed Frame.Interrupt rest ≡ false → admitted rest ≡ false
-unfolding some
-neither rest header task masked interrupt = rw (header, task, masked, interrupt)
+pub neither : (rest : List ℕ) → formed Frame.Header rest ≡ false → taskFormed rest ≡ false → formed Frame.Masked rest ≡ false → formed Frame.Interrupt rest ≡ false → admitted rest ≡ false
+unfolding some taskFormed
+neither rest header task masked interrupt =
+    rw (header, or-left (formed Frame.Task rest) (formed Frame.Cached rest) task, or-right (formed Frame.Task rest) (formed Frame.Cached rest) task, masked, interrupt)
 
 -- a text that starts with a line is not empty
 pub formed-there : (frame : Frame) (rest : List ℕ) → formed frame rest ≡ true → empty rest ≡ false
@@ -62,19 +87,19 @@ formed-there frame (b ∷ bs) f = refl
 -- behind one that is not there they are clear
 pub absent-done : (text : List ℕ) (n : ℕ) → past n text ≡ [] → lineOutcome text (suc (suc n)) ≡ Done
 unfolding lineOutcome lineRow orderRow countLineRow twiceLineRow formed closed
-absent-done text n e = rw (absent-later n (suc n) text (omega arith) e, e, ne-eqb (suc (suc n)) 1 (λ h. omega arith))
+absent-done text n e = rw (absent-later n (suc n) text (omega arith) e, e, task-nowhere, ne-eqb (suc (suc n)) 1 (λ h. omega arith))
 
 -- and in a file with a task also right behind the last
 pub last-done : (text : List ℕ) (n : ℕ) → past (suc n) text ≡ [] → 1 ≤ length (fileTasks text) → lineOutcome text (suc (suc n)) ≡ Done
 unfolding lineOutcome lineRow orderRow countLineRow twiceLineRow formed closed
 last-done text n e any =
     let there : eqb (length (fileTasks text)) 0 ≡ false = ne-eqb (length (fileTasks text)) 0 (λ h. omega arith) in
-    rw (e, there, ne-eqb (suc (suc n)) 1 (λ h. omega arith)) (simp and-false)
+    rw (e, there, task-nowhere, ne-eqb (suc (suc n)) 1 (λ h. omega arith)) (simp and-false)
 
 -- with no task that is COUNT
 pub no-task : (text : List ℕ) (n : ℕ) → empty (past n text) ≡ false → past (suc n) text ≡ [] → length (fileTasks text) ≡ 0 → lineOutcome text (suc (suc n)) ≡ Refused (Count (suc (suc n)))
 unfolding lineOutcome lineRow orderRow countLineRow twiceLineRow formed closed
-no-task text n there e none = rw (e, there, none, ne-eqb (suc (suc n)) 1 (λ h. omega arith))
+no-task text n there e none = rw (e, there, none, task-nowhere, ne-eqb (suc (suc n)) 1 (λ h. omega arith))
 
 -- so a text with a task that ends behind clear lines is clear for ever
 pub clear-past : (text : List ℕ) (n m : ℕ) → past (suc n) text ≡ [] → 1 ≤ length (fileTasks text) → till (lineOutcome text) (suc n) ≡ Done → till (lineOutcome text) m ≡ Done
@@ -131,19 +156,19 @@ pub first-header : (text : List ℕ) → formed Frame.Header text ≡ true → l
 unfolding lineOutcome lineRow orderRow countLineRow twiceLineRow past some
 first-header text header = rw (header, header-no-task text header, not-formed Frame.Header Frame.Interrupt refl text header, formed-there Frame.Header text header)
 
--- that is an 02, a 05 or an 07 line
-pub first-task : (text : List ℕ) → formed Frame.Task text ≡ true → lineOutcome text 1 ≡ Refused (Order 1)
-unfolding lineOutcome lineRow orderRow past some
-first-task text task = rw (task-no-header text task, task, and-false (not (empty text)))
+-- that is a task's line, a 05 or an 07 line
+pub first-task : (text : List ℕ) → taskFormed text ≡ true → lineOutcome text 1 ≡ Refused (Order 1)
+unfolding lineOutcome lineRow orderRow past
+first-task text task = rw (task-no-header text task, task-admitted text task, and-false (not (empty text)))
 
 pub first-masked : (text : List ℕ) → formed Frame.Masked text ≡ true → lineOutcome text 1 ≡ Refused (Order 1)
-unfolding lineOutcome lineRow orderRow past some
-first-masked text masked = rw (masked-no-header text masked, masked-no-task text masked, masked, and-false (not (empty text)))
+unfolding lineOutcome lineRow orderRow past
+first-masked text masked = rw (masked-no-header text masked, masked-admitted text masked, and-false (not (empty text)))
 
 pub first-interrupt : (text : List ℕ) → formed Frame.Interrupt text ≡ true → lineOutcome text 1 ≡ Refused (Order 1)
-unfolding lineOutcome lineRow orderRow past some
+unfolding lineOutcome lineRow orderRow past
 first-interrupt text interrupt =
-    rw (not-formed Frame.Interrupt Frame.Header refl text interrupt, not-formed Frame.Interrupt Frame.Task refl text interrupt, not-formed Frame.Interrupt Frame.Masked refl text interrupt, interrupt, and-false (not (empty text)))
+    rw (not-formed Frame.Interrupt Frame.Header refl text interrupt, interrupt-admitted text interrupt, and-false (not (empty text)))
 
 -- that is none of them
 pub first-other : (text : List ℕ) → empty text ≡ false → admitted text ≡ false → lineOutcome text 1 ≡ Refused (Line 1)
@@ -154,9 +179,9 @@ first-other text there other = rw (there, other)
 
 -- that is a 05 line
 pub second-masked : (text : List ℕ) → formed Frame.Masked (past 1 text) ≡ true → lineOutcome text 2 ≡ Done
-unfolding lineOutcome lineRow orderRow countLineRow twiceLineRow some
+unfolding lineOutcome lineRow orderRow countLineRow twiceLineRow
 second-masked text masked =
-    rw (masked-no-header (past 1 text) masked, masked-no-task (past 1 text) masked, not-formed Frame.Masked Frame.Interrupt refl (past 1 text) masked, masked, formed-there Frame.Masked (past 1 text) masked)
+    rw (masked-no-header (past 1 text) masked, masked-admitted (past 1 text) masked, masked-no-task (past 1 text) masked, not-formed Frame.Masked Frame.Interrupt refl (past 1 text) masked, masked, formed-there Frame.Masked (past 1 text) masked)
     (simp and-false)
 
 -- ---- any line
@@ -176,9 +201,9 @@ later-header text n some header =
 
 -- that is a 05 line, elsewhere than line 2
 third-masked : (text : List ℕ) (n : ℕ) → 2 ≤ n → formed Frame.Masked (past n text) ≡ true → lineOutcome text (suc n) ≡ Refused (Order (suc n))
-unfolding lineOutcome lineRow orderRow some
+unfolding lineOutcome lineRow orderRow
 third-masked text n over masked =
-    rw (masked-no-header (past n text) masked, masked-no-task (past n text) masked, masked, ne-eqb (suc n) 1 (λ h. omega arith), ne-eqb (suc n) 2 (λ h. omega arith), and-false (not (empty (past n text))))
+    rw (masked-no-header (past n text) masked, masked-admitted (past n text) masked, masked, ne-eqb (suc n) 1 (λ h. omega arith), ne-eqb (suc n) 2 (λ h. omega arith), and-false (not (empty (past n text))))
 
 -- behind the lines before the tasks no 05 line is at line 2
 pub later-masked : (text : List ℕ) (n : ℕ) → openingLines text ≤ n → formed Frame.Masked (past n text) ≡ true → lineOutcome text (suc n) ≡ Refused (Order (suc n))
@@ -186,34 +211,34 @@ later-masked text zero opened masked = absurd (omega (arith, some-opening text))
 later-masked text (suc zero) opened masked = absurd (omega (arith, opening-two text masked))
 later-masked text (suc (suc n)) opened masked = third-masked text (suc (suc n)) (omega arith) masked
 
--- that is an 02 line, with no 07 line before it: refused as a 65th, or as one whose id repeats, or clear
-pub later-task : (text : List ℕ) (n : ℕ) → 1 ≤ n → interruptsAmong text n ≡ [] → formed Frame.Task (past n text) ≡ true → lineOutcome text (suc n) ≡ firstOf (when (eqb (length (tasksAmong text n)) mostTasks) (Count (suc n))) (when (some (hasId (taskAt (past n text) .id)) (tasksAmong text n)) (Twice (suc n)))
-unfolding lineOutcome lineRow orderRow countLineRow twiceLineRow some
+-- that is a task's line, with no 07 line before it: refused as a 65th, or as one whose id repeats, or clear
+pub later-task : (text : List ℕ) (n : ℕ) → 1 ≤ n → interruptsAmong text n ≡ [] → taskFormed (past n text) ≡ true → lineOutcome text (suc n) ≡ firstOf (when (eqb (length (tasksAmong text n)) mostTasks) (Count (suc n))) (when (some (hasId (taskAt (past n text) .id)) (tasksAmong text n)) (Twice (suc n)))
+unfolding lineOutcome lineRow orderRow countLineRow twiceLineRow
 later-task text n after-first none task =
     let there : eqb (length (fileTasks text)) 0 ≡ false = ne-eqb (length (fileTasks text)) 0 (λ h. omega (arith, task-counts text n task)) in
-    rw (task-no-header (past n text) task, task-no-masked (past n text) task, not-formed Frame.Task Frame.Interrupt refl (past n text) task, task, none, ne-eqb (suc n) 1 (λ h. omega arith), there)
+    rw (task-no-header (past n text) task, task-admitted (past n text) task, task-no-masked (past n text) task, task-no-interrupt (past n text) task, task, none, ne-eqb (suc n) 1 (λ h. omega arith), there)
     (simp (and-false, or-false))
 
--- that is an 02 line behind an 07 line
-pub late-task : (text : List ℕ) (n : ℕ) → 1 ≤ n → 1 ≤ length (interruptsAmong text n) → formed Frame.Task (past n text) ≡ true → lineOutcome text (suc n) ≡ Refused (Order (suc n))
-unfolding lineOutcome lineRow orderRow some
+-- that is a task's line behind an 07 line
+pub late-task : (text : List ℕ) (n : ℕ) → 1 ≤ n → 1 ≤ length (interruptsAmong text n) → taskFormed (past n text) ≡ true → lineOutcome text (suc n) ≡ Refused (Order (suc n))
+unfolding lineOutcome lineRow orderRow
 late-task text n after-first late task =
-    rw (task-no-header (past n text) task, task-no-masked (past n text) task, task, ne-eqb (suc n) 1 (λ h. omega arith), ne-eqb (length (interruptsAmong text n)) 0 (λ h. omega arith), and-false (not (empty (past n text))))
+    rw (task-no-header (past n text) task, task-admitted (past n text) task, task-no-masked (past n text) task, task, ne-eqb (suc n) 1 (λ h. omega arith), ne-eqb (length (interruptsAmong text n)) 0 (λ h. omega arith), and-false (not (empty (past n text))))
 
 -- that is an 07 line: refused as a 33rd, or clear
 pub later-interrupt : (text : List ℕ) (n : ℕ) → 1 ≤ n → formed Frame.Interrupt (past n text) ≡ true → lineOutcome text (suc n) ≡ when (eqb (length (interruptsAmong text n)) mostInterrupts) (Count (suc n))
-unfolding lineOutcome lineRow orderRow countLineRow twiceLineRow some
+unfolding lineOutcome lineRow orderRow countLineRow twiceLineRow
 later-interrupt text n after-first interrupt =
-    rw (not-formed Frame.Interrupt Frame.Header refl (past n text) interrupt, not-formed Frame.Interrupt Frame.Task refl (past n text) interrupt, not-formed Frame.Interrupt Frame.Masked refl (past n text) interrupt, interrupt, formed-there Frame.Interrupt (past n text) interrupt, ne-eqb (suc n) 1 (λ h. omega arith))
+    rw (not-formed Frame.Interrupt Frame.Header refl (past n text) interrupt, interrupt-admitted (past n text) interrupt, interrupt-no-task (past n text) interrupt, not-formed Frame.Interrupt Frame.Masked refl (past n text) interrupt, interrupt, formed-there Frame.Interrupt (past n text) interrupt, ne-eqb (suc n) 1 (λ h. omega arith))
     (simp (and-false, first-none))
 
 -- ---- a line that is clear
 
--- behind the lines before the tasks it is an 02 or an 07 line, if it is there
-pub clear-kind : (text : List ℕ) (n : ℕ) → openingLines text ≤ n → empty (past n text) ≡ false → lineOutcome text (suc n) ≡ Done → (formed Frame.Task (past n text) ≡ true) ⊎ (formed Frame.Interrupt (past n text) ≡ true)
-clear-kind text n opened there clear = go (formed Frame.Header (past n text)) (formed Frame.Task (past n text)) (formed Frame.Masked (past n text)) (formed Frame.Interrupt (past n text)) refl refl refl refl
+-- behind the lines before the tasks it is a task's or an 07 line, if it is there
+pub clear-kind : (text : List ℕ) (n : ℕ) → openingLines text ≤ n → empty (past n text) ≡ false → lineOutcome text (suc n) ≡ Done → (taskFormed (past n text) ≡ true) ⊎ (formed Frame.Interrupt (past n text) ≡ true)
+clear-kind text n opened there clear = go (formed Frame.Header (past n text)) (taskFormed (past n text)) (formed Frame.Masked (past n text)) (formed Frame.Interrupt (past n text)) refl refl refl refl
   where
-    go : (h t m i : Bool) → formed Frame.Header (past n text) ≡ h → formed Frame.Task (past n text) ≡ t → formed Frame.Masked (past n text) ≡ m → formed Frame.Interrupt (past n text) ≡ i → (t ≡ true) ⊎ (i ≡ true)
+    go : (h t m i : Bool) → formed Frame.Header (past n text) ≡ h → taskFormed (past n text) ≡ t → formed Frame.Masked (past n text) ≡ m → formed Frame.Interrupt (past n text) ≡ i → (t ≡ true) ⊎ (i ≡ true)
     go h true m i eh et em ei = inl refl
     go h false m true eh et em ei = inr refl
     go true false m false eh et em ei = done-refused (sym clear ∙ later-header text n (omega (arith, some-opening text)) eh)
@@ -228,8 +253,8 @@ order-clear text k clear =
     let later = firstOf (when (countLineRow text k) (Count k)) (when (twiceLineRow text k) (Twice k)) in
     when-done (orderRow text k) (Order k) (first-done order later (first-done (when (lineRow text k) (Line k)) (firstOf order later) clear .1) .0)
 
--- before a clear 02 line there is no 07 line
-pub clear-none : (text : List ℕ) (n : ℕ) → 1 ≤ n → formed Frame.Task (past n text) ≡ true → lineOutcome text (suc n) ≡ Done → interruptsAmong text n ≡ []
+-- before a clear line of a task there is no 07 line
+pub clear-none : (text : List ℕ) (n : ℕ) → 1 ≤ n → taskFormed (past n text) ≡ true → lineOutcome text (suc n) ≡ Done → interruptsAmong text n ≡ []
 clear-none text n some task clear = by-list (interruptsAmong text n) refl
   where
     by-list : (is : List Interrupt) → interruptsAmong text n ≡ is → is ≡ []
@@ -257,8 +282,8 @@ clear-there text (suc n) none clear =
     let parts = first-done (till (lineOutcome text) (suc n)) (lineOutcome text (suc (suc n))) clear in
     next-there text n none (clear-there text n none (parts .0)) (parts .1)
 
--- an 02 line is no 65th
-pub clear-room : (text : List ℕ) (n : ℕ) → 1 ≤ n → formed Frame.Task (past n text) ≡ true → lineOutcome text (suc n) ≡ Done → length (tasksAmong text n) ≡ mostTasks → ⊥
+-- a task's line is no 65th
+pub clear-room : (text : List ℕ) (n : ℕ) → 1 ≤ n → taskFormed (past n text) ≡ true → lineOutcome text (suc n) ≡ Done → length (tasksAmong text n) ≡ mostTasks → ⊥
 clear-room text n some task clear full =
     let refused : lineOutcome text (suc n) ≡ Refused (Count (suc n)) = rw (eq-eqb (length (tasksAmong text n)) mostTasks full) at (later-task text n some (clear-none text n some task clear) task) in
     done-refused (sym clear ∙ refused)

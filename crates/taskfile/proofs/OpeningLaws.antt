@@ -14,11 +14,11 @@ use Rattle.frames.specs.declared.table.Frame.{Frame}
 use Rattle.refusals.specs.declared.Outcome.the-variants.{Done}
 use Rattle.refusals.specs.First.{till}
 use Rattle.refusals.proofs.FirstLaws.{till-suc}
-use Rattle.taskfile.specs.File.{past, lineOutcome, openingLines, openingBytes, taskAt, interruptAt, among, tasksAmong, interruptsAmong}
+use Rattle.taskfile.specs.File.{past, lineOutcome, openingLines, openingBytes, taskFormed, taskAt, interruptAt, among, tasksAmong, interruptsAmong}
 use Rattle.taskfile.specs.Taken.{Taken}
 use Rattle.taskfile.proofs.Past.{past-formed}
 use Rattle.taskfile.proofs.AmongLaws.{among-none, among-other}
-use Rattle.taskfile.proofs.Lines.{first-header, second-masked, opening-one, opening-two}
+use Rattle.taskfile.proofs.Lines.{header-no-task, masked-no-task, first-header, second-masked, opening-one, opening-two}
 
 -- the bytes of these lines, by whether line 2 is a 05 line
 pub opening-bytes : (text : List ℕ) {b : Bool} → formed Frame.Masked (past 1 text) ≡ b → openingBytes text ≡ lengthOf Frame.Header + 1 + cond b (lengthOf Frame.Masked + 1) 0
@@ -38,19 +38,19 @@ module _ (text : List ℕ) (header : formed Frame.Header text ≡ true) where
   within-header = rw (zero-add (lengthOf Frame.Header + 1)) at (past-first .1)
 
   -- line 1 holds neither a task nor an interrupt
-  among-header : {A : Type 0} (kind : Frame) (figures : List ℕ → A) → formed kind text ≡ false → among kind figures text 1 ≡ []
+  among-header : {A : Type 0} (test : List ℕ → Bool) (figures : List ℕ → A) → test text ≡ false → among test figures text 1 ≡ []
   unfolding past
-  among-header kind figures other = among-other kind figures text 0 other ∙ among-none kind figures text
+  among-header test figures other = among-other test figures text 0 other ∙ among-none test figures text
 
   till-header : till (lineOutcome text) 1 ≡ Done
   unfolding till
   till-header = first-header text header
 
   no-task : tasksAmong text 1 ≡ []
-  no-task = among-header Frame.Task taskAt (not-formed Frame.Header Frame.Task refl text header)
+  no-task = among-header taskFormed taskAt (header-no-task text header)
 
   no-interrupt : interruptsAmong text 1 ≡ []
-  no-interrupt = among-header Frame.Interrupt interruptAt (not-formed Frame.Header Frame.Interrupt refl text header)
+  no-interrupt = among-header (formed Frame.Interrupt) interruptAt (not-formed Frame.Header Frame.Interrupt refl text header)
 
   -- these lines are clear, the next one starts behind their bytes, and they hold no task and no interrupt
   record Opened (k at : ℕ) : Type 0 where
@@ -79,8 +79,8 @@ module _ (text : List ℕ) (header : formed Frame.Header text ≡ true) where
           })
       by-kind true e =
           let passed = past-formed Frame.Masked text 1 (lengthOf Frame.Header + 1) past-header within-header (ap (formed Frame.Masked) (sym past-header) ∙ e) in
-          let task : tasksAmong text 2 ≡ [] = among-other Frame.Task taskAt text 1 (not-formed Frame.Masked Frame.Task refl (past 1 text) e) ∙ no-task in
-          let interrupt : interruptsAmong text 2 ≡ [] = among-other Frame.Interrupt interruptAt text 1 (not-formed Frame.Masked Frame.Interrupt refl (past 1 text) e) ∙ no-interrupt in
+          let task : tasksAmong text 2 ≡ [] = among-other taskFormed taskAt text 1 (masked-no-task (past 1 text) e) ∙ no-task in
+          let interrupt : interruptsAmong text 2 ≡ [] = among-other (formed Frame.Interrupt) interruptAt text 1 (not-formed Frame.Masked Frame.Interrupt refl (past 1 text) e) ∙ no-interrupt in
           rw (opening-two text e, opening-bytes text e)
           (record {
             taken = record {

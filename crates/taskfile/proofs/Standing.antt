@@ -5,10 +5,12 @@ use native.Mathlib.Omega.{arith}
 use native.Mathlib.Numerals.{add-one}
 use mathlib.Core.List.{List, [], _∷_, map}
 use mathlib.Core.Bool.{Bool, true, false, _||_}
+use mathlib.Core.Logic.{_⊎_, ⊎-elim}
 use mathlib.Core.Path.{_≡_, refl, sym, _∙_, ap, subst}
 use lib.ListN.{length, drop, getD, length-map}
 use lib.Dec.{eqb}
 use borrow.Author.Tests.{eq-eqb, ne-eqb}
+use Rattle.laws.proofs.Tests.{or-neither}
 use Rattle.frameread.specs.Line.{formed, fieldOf}
 use types.Run.{OneOf, miss}
 use denote.Enum.Declared.{tagOf}
@@ -24,13 +26,19 @@ use Rattle.frameread.proofs.Formed.{field-below}
 use Rattle.tasks.specs.declared.set.Task.{Task}
 use Rattle.tasks.specs.Set.{mostTasks, mostInterrupts, hasId}
 use Rattle.tasks.specs.Search.{some}
-use Rattle.taskfile.specs.File.{empty, admitted, lineOutcome, tasksAmong, interruptsAmong, taskAt}
+use Rattle.taskfile.specs.File.{empty, admitted, lineOutcome, tasksAmong, interruptsAmong, taskFormed, taskKind, taskAt}
 use Rattle.taskfile.specs.Taken.{Taken, Tasked, BehindTasks, idsOf}
+use Rattle.taskfile.proofs.TaskLaws.{task-plain, task-cached, of-kind, kind-plain, kind-cached, kind-width}
 use Rattle.taskfile.proofs.Lines.{neither, some-opening, line-other, later-header, later-masked, later-task, late-task, later-interrupt}
 
 -- a number that is a field of a formed line is below its width's power of 16
 pub field-within : (frame : Frame) (k x : ℕ) (text : List ℕ) → formed frame text ≡ true → x ≡ fieldOf frame k text → x < 16 ^ widthOf frame k
 field-within frame k x text f e = subst (λ (n : ℕ). n < 16 ^ widthOf frame k) (sym e) (field-below frame text f k)
+
+-- and so are those of a task's line, whichever kind it is of
+pub task-within : (frame : Frame) (k x : ℕ) (text : List ℕ) → taskFormed text ≡ true → frame ≡ taskKind text → k < 4 → x ≡ fieldOf frame k text → x < 16 ^ widthOf Frame.Task k
+task-within frame k x text task kind lt e =
+    subst (λ (w : ℕ). x < 16 ^ w) (ap (λ (f : Frame). widthOf f k) kind ∙ kind-width text k lt) (field-within frame k x text (of-kind text task kind) e)
 
 -- a place within a text is followed by a byte
 pub byte-there : (at : ℕ) (text : List ℕ) → at < length text → empty (drop at text) ≡ false
@@ -42,6 +50,7 @@ byte-there (suc at) (b ∷ bs) lt = byte-there at bs (omega arith)
 tag-index : (frame : Frame) → tagOf the-type frame ≡ indexOf frame
 tag-index Frame.Header = refl
 tag-index Frame.Task = refl
+tag-index Frame.Cached = refl
 tag-index Frame.Masked = refl
 tag-index Frame.Interrupt = refl
 tag-index Frame.Plan = refl
@@ -63,6 +72,14 @@ tag-frame frame kind e =
 pub tag-formed : (frame kind : Frame) (text : List ℕ) → tagOf the-type frame ≡ indexOf kind → formed frame text ≡ true → formed kind text ≡ true
 tag-formed frame kind text e f = ap (λ (g : Frame). formed g text) (sym (tag-frame frame kind e)) ∙ f
 
+-- a line of a frame with the tag of 02 or of 03 is a task's, and that frame is its kind
+pub tag-task : (frame : Frame) (text : List ℕ) → (tagOf the-type frame ≡ 1) ⊎ (tagOf the-type frame ≡ 2) → formed frame text ≡ true → (taskFormed text ≡ true) × (frame ≡ taskKind text)
+tag-task frame text o f =
+    ⊎-elim
+    (λ (e : tagOf the-type frame ≡ 1). let plain = tag-formed frame Frame.Task text e f in (task-plain text plain, tag-frame frame Frame.Task e ∙ sym (kind-plain text plain)))
+    (λ (e : tagOf the-type frame ≡ 2). let cached = tag-formed frame Frame.Cached text e f in (task-cached text cached, tag-frame frame Frame.Cached e ∙ sym (kind-cached text cached)))
+    o
+
 -- a line of a frame with one of these tags is of no kind whose tag is none of them
 pub other-kind : (tags : List ℕ) (frame kind : Frame) (text : List ℕ) → OneOf tags (tagOf the-type frame) → (OneOf tags (indexOf kind) → ⊥) → formed frame text ≡ true → formed kind text ≡ false
 other-kind tags frame kind text o missed f =
@@ -73,18 +90,20 @@ abbrev tagsFrom : ℕ → List ℕ
 tagsFrom n = drop n (map indexOf allFrames)
 
 -- a line of a frame that is none of a task file's is of no kind that it admits
-pub other-frame : (frame : Frame) (text : List ℕ) → OneOf (tagsFrom 4) (tagOf the-type frame) → formed frame text ≡ true → admitted text ≡ false
-other-frame frame text o f = neither text (apart Frame.Header (miss (tagsFrom 4) 0 tt)) (apart Frame.Task (miss (tagsFrom 4) 1 tt)) (apart Frame.Masked (miss (tagsFrom 4) 2 tt)) (apart Frame.Interrupt (miss (tagsFrom 4) 3 tt))
+pub other-frame : (frame : Frame) (text : List ℕ) → OneOf (tagsFrom 5) (tagOf the-type frame) → formed frame text ≡ true → admitted text ≡ false
+unfolding taskFormed
+other-frame frame text o f = neither text (apart Frame.Header (miss (tagsFrom 5) 0 tt)) (or-neither (apart Frame.Task (miss (tagsFrom 5) 1 tt)) (apart Frame.Cached (miss (tagsFrom 5) 2 tt))) (apart Frame.Masked (miss (tagsFrom 5) 3 tt)) (apart Frame.Interrupt (miss (tagsFrom 5) 4 tt))
+  where
+    apart : (kind : Frame) → (OneOf (tagsFrom 5) (indexOf kind) → ⊥) → formed kind text ≡ false
+    apart kind missed = other-kind (tagsFrom 5) frame kind text o missed f
+
+-- and one that is none of the first four kinds and no 07 line
+pub other-task : (frame : Frame) (text : List ℕ) → OneOf (tagsFrom 4) (tagOf the-type frame) → formed frame text ≡ true → formed Frame.Interrupt text ≡ false → admitted text ≡ false
+unfolding taskFormed
+other-task frame text o f = neither text (apart Frame.Header (miss (tagsFrom 4) 0 tt)) (or-neither (apart Frame.Task (miss (tagsFrom 4) 1 tt)) (apart Frame.Cached (miss (tagsFrom 4) 2 tt))) (apart Frame.Masked (miss (tagsFrom 4) 3 tt))
   where
     apart : (kind : Frame) → (OneOf (tagsFrom 4) (indexOf kind) → ⊥) → formed kind text ≡ false
     apart kind missed = other-kind (tagsFrom 4) frame kind text o missed f
-
--- and one that is none of the first three kinds and no 07 line
-pub other-task : (frame : Frame) (text : List ℕ) → OneOf (tagsFrom 3) (tagOf the-type frame) → formed frame text ≡ true → formed Frame.Interrupt text ≡ false → admitted text ≡ false
-other-task frame text o f = neither text (apart Frame.Header (miss (tagsFrom 3) 0 tt)) (apart Frame.Task (miss (tagsFrom 3) 1 tt)) (apart Frame.Masked (miss (tagsFrom 3) 2 tt))
-  where
-    apart : (kind : Frame) → (OneOf (tagsFrom 3) (indexOf kind) → ⊥) → formed kind text ≡ false
-    apart kind missed = other-kind (tagsFrom 3) frame kind text o missed f
 
 -- an id is among tasks' ids exactly if a task has it
 pub some-ids : (id : ℕ) (ts : List Task) → some (λ i. eqb i id) (idsOf ts) ≡ some (hasId id) ts
@@ -118,15 +137,15 @@ module _ {text : List ℕ} {k at : ℕ} (taken : Taken text k at) where
     pub said-done : (count ≡ mostInterrupts → ⊥) → lineOutcome text (k + 1) ≡ Done
     said-done room = rw (ne-eqb count mostInterrupts room) at said-interrupt
 
--- an 02 line that comes too late
-pub said-late : {text : List ℕ} {k at : ℕ} → BehindTasks text k at → formed Frame.Task (drop at text) ≡ true → lineOutcome text (k + 1) ≡ Refused (Order (k + 1))
-said-late {text = text} {k = k} s task = rw (add-one k) (late-task text k (taken-some (s .taken)) (s .late task) (ap (formed Frame.Task) (s .taken .rest) ∙ task))
+-- a task's line that comes too late
+pub said-late : {text : List ℕ} {k at : ℕ} → BehindTasks text k at → taskFormed (drop at text) ≡ true → lineOutcome text (k + 1) ≡ Refused (Order (k + 1))
+said-late {text = text} {k = k} s task = rw (add-one k) (late-task text k (taken-some (s .taken)) (s .late task) (ap taskFormed (s .taken .rest) ∙ task))
 
-module _ {text : List ℕ} {k at : ℕ} (s : Tasked text k at) (task : formed Frame.Task (drop at text) ≡ true) (ids : List ℕ) (held : ids ≡ idsOf (tasksAmong text k)) where
+module _ {text : List ℕ} {k at : ℕ} (s : Tasked text k at) (task : taskFormed (drop at text) ≡ true) (ids : List ℕ) (held : ids ≡ idsOf (tasksAmong text k)) where
   said-task : lineOutcome text (k + 1) ≡ firstOf (when (eqb (length ids) mostTasks) (Count (k + 1))) (when (some (λ i. eqb i (taskAt (drop at text) .id)) ids) (Twice (k + 1)))
   said-task =
       rw (add-one k, held, some-ids (taskAt (drop at text) .id) (tasksAmong text k), length-map, ← s .taken .rest)
-      (later-task text k (taken-some (s .taken)) (s .none) (ap (formed Frame.Task) (s .taken .rest) ∙ task))
+      (later-task text k (taken-some (s .taken)) (s .none) (ap taskFormed (s .taken .rest) ∙ task))
 
   pub said-count : length ids ≡ mostTasks → lineOutcome text (k + 1) ≡ Refused (Count (k + 1))
   said-count full = rw (eq-eqb (length ids) mostTasks full) at said-task

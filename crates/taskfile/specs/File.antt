@@ -1,5 +1,5 @@
 -- A task file's lines, counted from 1, and the rows that reading tests at each line.
--- Document 01, "Lines of hexadecimal" (RULES 5) and rows 1 to 4 of the refusals (RULES 6.1 and 6.2); document 02, Req 04 and Req 08.
+-- Document 01, "Lines of hexadecimal" (RULES 5) and rows 1 to 4 of the refusals (RULES 6.1 and 6.2); document 02, Req 04, 07 and 08.
 use Prim.Native.Nat.{ℕ, zero, suc, pred, _+_}
 use mathlib.Core.List.{List, [], _∷_, _++_}
 use mathlib.Core.Bool.{Bool, true, false, not, cond, _&&_, _||_}
@@ -32,7 +32,11 @@ abbrev pub empty : List ℕ → Bool
 empty [] = true
 empty (b ∷ bs) = false
 
--- whether line k is there, is an 01 line, is an 02 line, is a 05 line, is an 07 line
+-- whether a text starts with a task's line, an 02 or an 03 line
+unfoldable pub taskFormed : List ℕ → Bool
+taskFormed text = formed Frame.Task text || formed Frame.Cached text
+
+-- whether line k is there, is an 01 line, is a task's line, is a 05 line, is an 07 line
 abbrev pub present : List ℕ → ℕ → Bool
 present text k = not (empty (from text k))
 
@@ -40,7 +44,7 @@ abbrev pub isHeader : List ℕ → ℕ → Bool
 isHeader text k = formed Frame.Header (from text k)
 
 abbrev pub isTask : List ℕ → ℕ → Bool
-isTask text k = formed Frame.Task (from text k)
+isTask text k = taskFormed (from text k)
 
 abbrev pub isMasked : List ℕ → ℕ → Bool
 isMasked text k = formed Frame.Masked (from text k)
@@ -48,7 +52,7 @@ isMasked text k = formed Frame.Masked (from text k)
 abbrev pub isInterrupt : List ℕ → ℕ → Bool
 isInterrupt text k = formed Frame.Interrupt (from text k)
 
--- the figures of line 1, with no 05 line, of an 02 line and of an 07 line
+-- the figures of line 1, with no 05 line
 unfoldable pub headerAt : List ℕ → Header
 headerAt text =
     record {
@@ -62,15 +66,24 @@ headerAt text =
       masked = Absent;
     }
 
+-- the kind of a task's line, the cache cost that an 03 line gives, and the figures of the line
+unfoldable pub taskKind : List ℕ → Frame
+taskKind text = cond (formed Frame.Cached text) Frame.Cached Frame.Task
+
+unfoldable pub cacheAt : List ℕ → Optional
+cacheAt text = cond (formed Frame.Cached text) (Given (fieldOf Frame.Cached 4 text)) Absent
+
 unfoldable pub taskAt : List ℕ → Task
 taskAt text =
     record {
-      id = fieldOf Frame.Task 0 text;
-      cost = fieldOf Frame.Task 1 text;
-      deadline = fieldOf Frame.Task 2 text;
-      period = fieldOf Frame.Task 3 text;
+      id = fieldOf (taskKind text) 0 text;
+      cost = fieldOf (taskKind text) 1 text;
+      deadline = fieldOf (taskKind text) 2 text;
+      period = fieldOf (taskKind text) 3 text;
+      cache = cacheAt text;
     }
 
+-- the figures of an 07 line
 unfoldable pub interruptAt : List ℕ → Interrupt
 interruptAt text =
     record {
@@ -95,17 +108,17 @@ openingLines text = cond (isMasked text 2) 2 1
 unfoldable pub openingBytes : List ℕ → ℕ
 openingBytes text = lengthOf Frame.Header + 1 + cond (isMasked text 2) (lengthOf Frame.Masked + 1) 0
 
--- what the lines of a kind among the first n lines hold, in order
-unfoldable pub among : {A : Type 0} → Frame → (List ℕ → A) → List ℕ → ℕ → List A
-among kind figures text zero = []
-among kind figures text (suc n) = among kind figures text n ++ cond (formed kind (past n text)) (figures (past n text) ∷ []) []
+-- what the lines that pass a test among the first n lines hold, in order
+unfoldable pub among : {A : Type 0} → (List ℕ → Bool) → (List ℕ → A) → List ℕ → ℕ → List A
+among test figures text zero = []
+among test figures text (suc n) = among test figures text n ++ cond (test (past n text)) (figures (past n text) ∷ []) []
 
--- the tasks of the 02 lines, the interrupts of the 07 lines
+-- the tasks of the 02 and 03 lines, the interrupts of the 07 lines
 abbrev pub tasksAmong : List ℕ → ℕ → List Task
-tasksAmong text n = among Frame.Task taskAt text n
+tasksAmong text n = among taskFormed taskAt text n
 
 abbrev pub interruptsAmong : List ℕ → ℕ → List Interrupt
-interruptsAmong text n = among Frame.Interrupt interruptAt text n
+interruptsAmong text n = among (formed Frame.Interrupt) interruptAt text n
 
 -- those of the whole file, which has no more lines than bytes
 abbrev pub fileTasks : List ℕ → List Task
@@ -116,12 +129,12 @@ fileInterrupts text = interruptsAmong text (length text)
 
 -- the kinds that a task file admits, and whether a text starts with a line of one of them
 abbrev pub fileKinds : List Frame
-fileKinds = Frame.Header ∷ Frame.Task ∷ Frame.Masked ∷ Frame.Interrupt ∷ []
+fileKinds = Frame.Header ∷ Frame.Task ∷ Frame.Cached ∷ Frame.Masked ∷ Frame.Interrupt ∷ []
 
 abbrev pub admitted : List ℕ → Bool
 admitted rest = some (λ (kind : Frame). formed kind rest) fileKinds
 
--- 1 LINE: a line is not kind 01, 02, 05 or 07 at its exact length in legal digits, or lacks its LF
+-- 1 LINE: a line is not kind 01, 02, 03, 05 or 07 at its exact length in legal digits, or lacks its LF
 unfoldable pub lineRow : List ℕ → ℕ → Bool
 lineRow text k = present text k && not (admitted (from text k))
 
@@ -133,7 +146,7 @@ firstLine false at-one at-later = at-later
 abbrev pub lateTask : List ℕ → ℕ → Bool
 lateTask text k = isTask text k && not (eqb (length (interruptsAmong text (pred k))) 0)
 
--- 2 ORDER: line 1 is missing or not 01, or a later line is 01, or one elsewhere than line 2 is 05, or one behind an 07 line is 02
+-- 2 ORDER: line 1 is missing or not 01, or a later line is 01, or one elsewhere than line 2 is 05, or one behind an 07 line is 02 or 03
 unfoldable pub orderRow : List ℕ → ℕ → Bool
 orderRow text k =
     firstLine (eqb k 1) (not (isHeader text k)) (isHeader text k || ((isMasked text k && not (eqb k 2)) || lateTask text k))
@@ -142,7 +155,7 @@ orderRow text k =
 abbrev pub afterLast : List ℕ → ℕ → Bool
 afterLast text k = present text (pred k) && not (present text k)
 
--- 3 COUNT: no 02 line (place: the line after the last), or a 65th, or a 33rd 07 line
+-- 3 COUNT: no 02 or 03 line (place: the line after the last), or a 65th, or a 33rd 07 line
 unfoldable pub countLineRow : List ℕ → ℕ → Bool
 countLineRow text k =
     (afterLast text k && eqb (length (fileTasks text)) 0) ||

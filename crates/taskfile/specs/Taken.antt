@@ -1,17 +1,15 @@
 -- Where the reader stands after some lines.
--- Document 01, "Reading takes lines in order" (RULES 6.2); document 02, Req 08.
+-- Document 01, "Reading takes lines in order" (RULES 6.2); document 02, Req 07 and Req 08.
 use Prim.Native.Nat.{ℕ, _+_, _≤_}
 use mathlib.Core.Bool.{true}
 use mathlib.Core.List.{List, [], map}
 use mathlib.Core.Path.{_≡_}
 use lib.ListN.{length, drop}
-use Rattle.frameread.specs.Line.{formed}
-use Rattle.frames.specs.declared.table.Frame.{Frame}
 use Rattle.refusals.specs.declared.Outcome.the-variants.{Done}
 use Rattle.refusals.specs.First.{till}
 use Rattle.tasks.specs.declared.set.Task.{Task}
 use Rattle.tasks.specs.Set.{mostTasks, mostInterrupts}
-use Rattle.taskfile.specs.File.{past, lineOutcome, openingLines, tasksAmong, interruptsAmong}
+use Rattle.taskfile.specs.File.{past, lineOutcome, openingLines, tasksAmong, interruptsAmong, taskFormed}
 
 -- the reader has taken k lines, at least those before the tasks: each is clear, and the rest of the text starts at the cursor
 pub record Taken (text : List ℕ) (k at : ℕ) : Type 0 where
@@ -24,15 +22,15 @@ pub record Taken (text : List ℕ) (k at : ℕ) : Type 0 where
   pub few : length (tasksAmong text k) ≤ mostTasks
   pub fewer : length (interruptsAmong text k) ≤ mostInterrupts
 
--- and no 07 line is among them, so that an 02 line may follow
+-- and no 07 line is among them, so that a task's line may follow
 pub record Tasked (text : List ℕ) (k at : ℕ) : Type 0 where
   pub taken : Taken text k at
   pub none : interruptsAmong text k ≡ []
 
--- or an 07 line is, if an 02 line follows: that comes too late
+-- or an 07 line is, if a task's line follows: that comes too late
 pub record BehindTasks (text : List ℕ) (k at : ℕ) : Type 0 where
   pub taken : Taken text k at
-  pub late : formed Frame.Task (drop at text) ≡ true → 1 ≤ length (interruptsAmong text k)
+  pub late : taskFormed (drop at text) ≡ true → 1 ≤ length (interruptsAmong text k)
 
 -- the ids of these tasks
 abbrev pub idsOf : List Task → List ℕ

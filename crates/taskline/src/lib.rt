@@ -31,7 +31,7 @@ pub fn task_line(text: &[u8], at: usize, lines: usize, ids: &[u8]) -> TaskLine
     };
     match frame {
         Frame::Header | Frame::Masked => TaskLine::Refused(Refusal::Order(line)),
-        Frame::Task => listed_line(text, at, lines, ids),
+        Frame::Task | Frame::Cached => listed_line(text, at, frame, lines, ids),
         _ => TaskLine::Refused(Refusal::Line(line)),
     }
 }

@@ -1,4 +1,4 @@
--- How reading the 02 lines goes on: from the lines before the tasks, over each task, to a line that is none.
+-- How reading the 02 and 03 lines goes on: from the lines before the tasks, over each task, to a line that is none.
 -- Assumes nothing.
 use Prim.Native.Nat.{ℕ, suc, _+_, _≤_, _<_}
 use native.Mathlib.Omega.{arith}
@@ -6,12 +6,11 @@ use native.Mathlib.Numerals.{add-one}
 use mathlib.Core.List.{List, [], _∷_, _++_, map-append}
 use mathlib.Core.Bool.{true, false}
 use mathlib.Core.Logic.{⊎-elim}
-use mathlib.Core.Path.{_≡_, refl, sym, _∙_, ap}
+use mathlib.Core.Path.{_≡_, sym, _∙_, ap}
 use lib.ListN.{length, drop, take, set as put, length-append, length-set, drop-of-length-le}
 use lib.Seq.{take-suc-set}
 use Rattle.laws.proofs.Tests.{true-false}
-use Rattle.frameread.specs.Line.{formed, closed}
-use Rattle.frameread.proofs.KindLaws.{not-formed}
+use Rattle.frameread.specs.Line.{formed}
 use Rattle.frames.specs.Table.{lengthOf}
 use Rattle.frames.specs.declared.table.Frame.{Frame}
 use Rattle.refusals.specs.declared.Refusal.{Refusal}
@@ -22,11 +21,13 @@ use Rattle.tasks.specs.declared.set.Task.{Task}
 use Rattle.tasks.specs.declared.set.TaskSet.{TaskSet}
 use Rattle.tasks.specs.Set.{mostTasks, interruptsWith, setOf, zeroSet, withTask}
 use Rattle.tasks.proofs.SetLaws.{set-more}
-use Rattle.taskfile.specs.File.{past, empty, lineOutcome, fileHeader, openingLines, taskAt, interruptAt, tasksAmong, interruptsAmong}
+use Rattle.taskframe.specs.Frames.{taskFrame}
+use Rattle.taskfile.specs.File.{past, empty, lineOutcome, fileHeader, openingLines, taskFormed, taskKind, taskAt, interruptAt, tasksAmong, interruptsAmong}
 use Rattle.taskfile.specs.Taken.{Taken, Tasked, BehindTasks, idsOf}
 use Rattle.taskfile.proofs.Past.{past-formed}
 use Rattle.taskfile.proofs.AmongLaws.{among-task, among-other}
-use Rattle.taskfile.proofs.Lines.{clear-header, clear-kind, clear-room}
+use Rattle.taskfile.proofs.TaskLaws.{task-nowhere, of-kind, frame-kind}
+use Rattle.taskfile.proofs.Lines.{task-no-interrupt, interrupt-no-task, clear-header, clear-kind, clear-room}
 use Rattle.taskfile.proofs.OpeningLaws.{taken-opening, among-opening, none-opening}
 use Rattle.taskfile.proofs.Standing.{byte-there, taken-some}
 use Rattle.listedline.specs.declared.TaskLine.{TaskLine}
@@ -75,10 +76,10 @@ module _ {text : List ℕ} {k at : ℕ} {set : TaskSet} {ids : List ℕ} (t : Ta
   figures : t ≡ taskAt (past k text)
   figures = task-given (lineOutcome text (k + 1)) (taskAt (drop at text)) t e .1 ∙ ap taskAt (sym (held .tasked .taken .rest))
 
-  task : formed Frame.Task (past k text) ≡ true
+  task : taskFormed (past k text) ≡ true
   task =
       ⊎-elim
-      (λ (task : formed Frame.Task (past k text) ≡ true). task)
+      (λ (task : taskFormed (past k text) ≡ true). task)
       (λ (interrupt : formed Frame.Interrupt (past k text) ≡ true). true-false (sym interrupt ∙ ap (formed Frame.Interrupt) (held .tasked .taken .rest) ∙ other))
       (clear-kind text k (held .tasked .taken .opened) (ap empty (held .tasked .taken .rest) ∙ byte-there at text within) line)
 
@@ -98,11 +99,15 @@ module _ {text : List ℕ} {k at : ℕ} {set : TaskSet} {ids : List ℕ} (t : Ta
   longer = ap length more ∙ length-append (tasksAmong text k) (t ∷ [])
 
   none-more : interruptsAmong text (suc k) ≡ []
-  none-more = among-other Frame.Interrupt interruptAt text k (not-formed Frame.Task Frame.Interrupt refl (past k text) task) ∙ held .tasked .none
+  none-more = among-other (formed Frame.Interrupt) interruptAt text k (task-no-interrupt (past k text) task) ∙ held .tasked .none
 
-  taken-more : Taken text (suc k) (at + (lengthOf Frame.Task + 1))
+  -- the line is of the kind that the task remembers
+  kind : taskFrame t ≡ taskKind (drop at text)
+  kind = ap taskFrame (task-given (lineOutcome text (k + 1)) (taskAt (drop at text)) t e .1) ∙ frame-kind (drop at text)
+
+  taken-more : Taken text (suc k) (at + (lengthOf (taskFrame t) + 1))
   taken-more =
-      let passed = past-formed Frame.Task text k at (held .tasked .taken .rest) (held .tasked .taken .within) (ap (formed Frame.Task) (sym (held .tasked .taken .rest)) ∙ task) in
+      let passed = past-formed (taskFrame t) text k at (held .tasked .taken .rest) (held .tasked .taken .within) (of-kind (drop at text) (ap taskFormed (sym (held .tasked .taken .rest)) ∙ task) kind) in
       record {
         opened = omega (arith, held .tasked .taken .opened);
         within = passed .1;
@@ -120,7 +125,7 @@ module _ {text : List ℕ} {k at : ℕ} {set : TaskSet} {ids : List ℕ} (t : Ta
       ∙ ap (λ (l : List ℕ). l ++ (t .id ∷ [])) (held .listed)
       ∙ sym (ap idsOf more ∙ map-append (λ (u : Task). u .id) (tasksAmong text k) (t ∷ []))
 
-  pub held-task : Held text (k + 1) (at + (lengthOf Frame.Task + 1)) (withTask set t) (put ids (set .count) (t .id))
+  pub held-task : Held text (k + 1) (at + (lengthOf (taskFrame t) + 1)) (withTask set t) (put ids (set .count) (t .id))
   held-task =
       rw (add-one k)
       (record {
@@ -134,13 +139,12 @@ module _ {text : List ℕ} {k at : ℕ} {set : TaskSet} {ids : List ℕ} (t : Ta
 
 -- at the end of the text, or before an 07 line
 pub held-over : {text : List ℕ} {k at : ℕ} {set : TaskSet} {ids : List ℕ} → Held text k at set ids → length text ≤ at → BehindTasks text k at
-unfolding formed closed
 held-over {text = text} held over =
-    record { taken = held .tasked .taken; late = λ task. true-false (sym task ∙ ap (formed Frame.Task) (drop-of-length-le text over)) }
+    record { taken = held .tasked .taken; late = λ task. true-false (sym task ∙ ap taskFormed (drop-of-length-le text over) ∙ task-nowhere) }
 
 pub held-before : {text : List ℕ} {k at : ℕ} {set : TaskSet} {ids : List ℕ} → Held text k at set ids → formed Frame.Interrupt (drop at text) ≡ true → BehindTasks text k at
 held-before {text = text} {at = at} held interrupt =
-    record { taken = held .tasked .taken; late = λ task. true-false (sym task ∙ not-formed Frame.Interrupt Frame.Task refl (drop at text) interrupt) }
+    record { taken = held .tasked .taken; late = λ task. true-false (sym task ∙ interrupt-no-task (drop at text) interrupt) }
 
 pub ended-done : {text : List ℕ} {k at : ℕ} {set : TaskSet} {ids : List ℕ} → Held text k at set ids → BehindTasks text k at → Ended text (record { outcome = Done; set = set; at = at; lines = k })
 ended-done held over = record { tasked = held .tasked; all = held .all; done = λ e. over; refused = λ why e. done-refused e }

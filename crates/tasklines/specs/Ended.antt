@@ -1,5 +1,5 @@
--- How reading the 02 lines ends.
--- Document 01, "Reading takes lines in order" (RULES 6.2); document 02, Req 08.
+-- How reading the 02 and 03 lines ends.
+-- Document 01, "Reading takes lines in order" (RULES 6.2); document 02, Req 07 and Req 08.
 use Prim.Native.Nat.{ℕ, _+_}
 use mathlib.Core.List.{List, []}
 use mathlib.Core.Path.{_≡_}

@@ -1,4 +1,4 @@
-// The 02 lines of a task file, from the line behind its opening to the first 07 line, to the end of the text or to the first line that
+// The 02 and 03 lines of a task file, from the line behind its opening to the first 07 line, to the end of the text or to the first line that
 // is refused.
 use frameread::is_line;
 use frames::table::Frame;
@@ -7,6 +7,7 @@ use listedline::TaskLine;
 use listedline::task_outcome;
 use opening::Opening;
 use refusals::Outcome;
+use taskframe::task_frame;
 use taskline::task_line;
 use tasks::set::TaskSet;
 ghost use mathlib.Core.Path.{_≡_};
@@ -49,7 +50,8 @@ pub fn task_lines(text: &[u8], opening: Opening) -> TaskLines
         set.tasks[count] = task;
         set.count = count + 1;
         ids[count] = task.id;
-        at += length(Frame::Task) + 1;
+        let frame = task_frame(task);
+        at += length(frame) + 1;
         lines += 1;
     }
     TaskLines {

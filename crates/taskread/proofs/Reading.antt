@@ -6,7 +6,6 @@ use native.Mathlib.Numerals.{add-one}
 use mathlib.Core.List.{List, []}
 use mathlib.Core.Path.{_≡_, refl, sym, _∙_, ap}
 use lib.ListN.{length}
-use Rattle.frames.specs.declared.table.Frame.{Frame}
 use Rattle.refusals.specs.declared.Refusal.{Refusal}
 use Rattle.refusals.specs.declared.Refusal.the-variants.{Count}
 use Rattle.refusals.specs.declared.Outcome.{Outcome}
@@ -18,8 +17,8 @@ use Rattle.tasks.specs.declared.set.TaskSet.{TaskSet}
 use Rattle.tasks.specs.Set.{mostInterrupts, interruptsWith, setOf, setWith, zeroSet}
 use Rattle.tasks.proofs.SetLaws.{set-with}
 use Rattle.taskrows.specs.Rows.{figuresOutcome}
-use Rattle.taskfile.specs.File.{past, lineOutcome, headerAt, fileHeader, interruptAt, tasksAmong, interruptsAmong, fileTasks, fileInterrupts}
-use Rattle.taskfile.proofs.AmongLaws.{among-all, among-whole}
+use Rattle.taskfile.specs.File.{past, lineOutcome, headerAt, fileHeader, tasksAmong, interruptsAmong, fileTasks, fileInterrupts}
+use Rattle.taskfile.proofs.AmongLaws.{among-all, all-interrupts}
 use Rattle.taskfile.proofs.Lines.{refused-within, no-task, clear-there, clear-past}
 use Rattle.headerline.specs.declared.HeaderLine.{HeaderLine}
 use Rattle.headerline.specs.Answer.{headerOr, ofHeader}
@@ -100,7 +99,7 @@ module _ {text : List ℕ} {k : ℕ} {set : TaskSet} {rest : InterruptLines} (al
     tasks-all = sym (ended .tasks) ∙ among-all text (rest .lines) (ended .done done)
 
     interrupts-all : interruptsAmong text (rest .lines) ≡ fileInterrupts text
-    interrupts-all = among-whole Frame.Interrupt interruptAt text (rest .lines) (ended .done done)
+    interrupts-all = all-interrupts text (rest .lines) (ended .done done)
 
     counted : set .count ≡ length (fileTasks text)
     unfolding setOf

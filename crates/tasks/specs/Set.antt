@@ -1,5 +1,5 @@
 -- The task set as a value: its tasks and its interrupts in file order, the all-zero set, and the set with its unused room at zero.
--- Document 01, "The numbers of a task set" (RULES 1) and "Refusal numbers and their order" (RULES 6); document 02, Req 04 (RULES 1.5) and Req 08.
+-- Document 01, "The numbers of a task set" (RULES 1) and "Refusal numbers and their order" (RULES 6); document 02, Req 04 (RULES 1.5), Req 07 and Req 08.
 use Prim.Native.Nat.{ℕ, _+_, _-_}
 use mathlib.Core.List.{List, _++_}
 use mathlib.Core.Bool.{Bool}
@@ -32,13 +32,18 @@ longestHorizon = 10000000
 abbrev pub zeroHeader : Header
 zeroHeader = record { processors = 0; slot = 0; relj = 0; relo = 0; ctswo = 0; resd = 0; cpmdo = 0; masked = Absent }
 
--- B: what the 05 line gives; without it B is 0
-abbrev pub given : Optional → ℕ
-given Absent = 0
-given (Given figure) = figure
+-- the figure that an optional line or field gives, or another where there is none
+abbrev pub givenOr : Optional → (other : ℕ) → ℕ
+givenOr Absent other = other
+givenOr (Given figure) other = figure
 
+-- B: what the 05 line gives; without it B is 0
 abbrev pub maskedTicks : Header → ℕ
-maskedTicks h = given (h .masked)
+maskedTicks h = givenOr (h .masked) 0
+
+-- a task's cache cost: what its 03 line gives; a task of an 02 line takes the header's
+abbrev pub cacheCost : Header → Task → ℕ
+cacheCost h t = givenOr (t .cache) (h .cpmdo)
 
 -- a header with what its 05 line gives
 abbrev pub withMasked : Header → Optional → Header
@@ -55,7 +60,7 @@ withMasked h masked =
     }
 
 abbrev pub zeroTask : Task
-zeroTask = record { id = 0; cost = 0; deadline = 0; period = 0 }
+zeroTask = record { id = 0; cost = 0; deadline = 0; period = 0; cache = Absent }
 
 abbrev pub zeroInterrupt : Interrupt
 zeroInterrupt = record { processor = 0; cost = 0; deadline = 0; period = 0; jitter = 0 }

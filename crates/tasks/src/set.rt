@@ -1,9 +1,9 @@
 // The task set: the board's figures, the tasks and the interrupts, each in file order, with the limits of documents 01 and 02 as its constants.
 // A set may also be built by a caller, so its types hold more than a file's fields do.
 ghost use mathlib.Core.Path.{_≡_};
-ghost use Rattle.tasks.specs.Set.{zeroSet, noInterrupts, maskedTicks, withMasked};
+ghost use Rattle.tasks.specs.Set.{zeroSet, noInterrupts, maskedTicks, withMasked, givenOr, cacheCost};
 
-// The figure of an optional line, or that there is no such line.
+// The figure of an optional line or field, or that there is none.
 pub enum Optional {
     Absent,
     Given(u16),
@@ -21,11 +21,13 @@ pub struct Header {
     pub masked: Optional,
 }
 
+// The figures of an 02 line; or those of an 03 line, which also gives the task's cache cost.
 pub struct Task {
     pub id: u8,
     pub cost: u32,
     pub deadline: u32,
     pub period: u32,
+    pub cache: Optional,
 }
 
 // The figures of an 07 line: an interrupt's processor, cost, deadline, period and jitter.
@@ -81,6 +83,7 @@ impl TaskSet {
                 cost: 0,
                 deadline: 0,
                 period: 0,
+                cache: Optional::Absent,
             }; TaskSet::MOST_TASKS],
             interrupts: Interrupts::none(),
         }
@@ -104,16 +107,25 @@ impl Interrupts {
     }
 }
 
+impl Optional {
+    // The figure, or another where there is none.
+    pub fn given_or(self, other: u16) -> u16
+        ensures { λ r. ⌜ r ≡ givenOr self other ⌝ }
+    {
+        match self {
+            Optional::Given(figure) => figure,
+            Optional::Absent => other,
+        }
+    }
+}
+
 impl Header {
     // B: the ticks for which a job can hold interrupts off.
     pub fn masked_ticks(self) -> u16
         ensures { λ r. ⌜ r ≡ maskedTicks self ⌝ }
     {
         let masked = self.masked;
-        match masked {
-            Optional::Given(ticks) => ticks,
-            Optional::Absent => 0,
-        }
+        masked.given_or(0)
     }
 
     pub fn with_masked(self, masked: Optional) -> Header
@@ -129,5 +141,15 @@ impl Header {
             cpmdo: self.cpmdo,
             masked,
         }
+    }
+}
+
+impl Task {
+    // What the task pays for a cold cache: what its 03 line gives, or the board's.
+    pub fn cache_cost(self, header: Header) -> u16
+        ensures { λ r. ⌜ r ≡ cacheCost header self ⌝ }
+    {
+        let cache = self.cache;
+        cache.given_or(header.cpmdo)
     }
 }

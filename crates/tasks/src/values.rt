@@ -19,14 +19,17 @@ pub fn header_values(header: Header) -> [u64; 7]
     ]
 }
 
-pub fn task_values(task: Task) -> [u64; 4]
+// Those of an 03 line; an 02 line has the first four.
+pub fn task_values(task: Task) -> [u64; 5]
     ensures { λ r. ⌜ r ≡ taskValues task ⌝ }
 {
+    let cache = task.cache;
     [
         task.id as u64,
         task.cost as u64,
         task.deadline as u64,
         task.period as u64,
+        cache.given_or(0) as u64,
     ]
 }
 

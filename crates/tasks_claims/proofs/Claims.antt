@@ -1,9 +1,10 @@
 -- The claims of specs/Claims, each under its own name.
-use Rattle.tasks_claims.specs.Claims.{ReadExactlyLine, ReadExactlyBoard, ReadExactlyRange, ReadExactlyInterrupt, ReadExactlyDone, ReadRefuses, ReadDetermined, ReadLooksAt, ReadAccepted, MaskedRemembered, MaskedOnlyAtTwo, InterruptsRemembered, TaskTooLate, InterruptTooMany, NoTaskPlace, WritesExactly, WritesLeave, WriteDetermined, ReadWritten, ReadWrittenSame, WrittenRead}
+use Rattle.tasks_claims.specs.Claims.{ReadExactlyLine, ReadExactlyBoard, ReadExactlyRange, ReadExactlyInterrupt, ReadExactlyDone, ReadRefuses, ReadDetermined, ReadLooksAt, ReadAccepted, MaskedRemembered, MaskedOnlyAtTwo, TasksRemembered, InterruptsRemembered, TaskTooLate, InterruptTooMany, NoTaskPlace, WritesExactly, WritesLeave, WriteDetermined, ReadWritten, ReadWrittenSame, WrittenRead}
 use Rattle.tasks_claims.proofs.Exactly as exactly
 use Rattle.tasks_claims.proofs.Prefix as prefix
 use Rattle.tasks_claims.proofs.Accepted as accepted
 use Rattle.tasks_claims.proofs.MaskedLaws as masked
+use Rattle.tasks_claims.proofs.TaskLineLaws as lines
 use Rattle.tasks_claims.proofs.InterruptLaws as interrupts
 use Rattle.tasks_claims.proofs.WriteAnswers as answers
 use Rattle.tasks_claims.proofs.RoundTripSet as sets
@@ -41,6 +42,9 @@ masked-remembered = masked.masked-remembered
 
 pub masked-only-at-two : MaskedOnlyAtTwo
 masked-only-at-two = masked.masked-only-at-two
+
+pub tasks-remembered : TasksRemembered
+tasks-remembered = lines.tasks-remembered
 
 pub interrupts-remembered : InterruptsRemembered
 interrupts-remembered = interrupts.interrupts-remembered

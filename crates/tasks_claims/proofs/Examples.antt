@@ -1,5 +1,5 @@
 -- Task files and what reading answers for each, computed from the definitions of specs/.
--- Document 01, example A and the rows of the refusals; document 02, Req 04 and Req 08.
+-- Document 01, example A and the rows of the refusals; document 02, Req 04, 07 and 08.
 use Prim.Native.String.{String}
 use mathlib.Core.List.{List, [], _∷_, map}
 use mathlib.Core.Path.{_≡_, refl}
@@ -15,11 +15,11 @@ use Rattle.refusals.specs.declared.Outcome.the-variants.{Done, Refused}
 use Rattle.tasks.specs.declared.set.Interrupt.{Interrupt}
 use Rattle.tasks.specs.declared.set.Optional.{Optional}
 use Rattle.tasks.specs.declared.set.Optional.the-variants.{Absent, Given}
-use Rattle.tasks.specs.Set.{setOf, interruptsIn, interruptsWith}
+use Rattle.tasks.specs.Set.{setOf, members, interruptsIn, interruptsWith}
 use Rattle.refusals.specs.First.{till}
 use Rattle.tasks.specs.Search.{some, firstFrom}
 use Rattle.taskrows.specs.Rows.{boardRow, rangeRow, interruptRow, figuresOutcome}
-use Rattle.taskfile.specs.File.{past, among, lineRow, orderRow, countLineRow, twiceLineRow, lineOutcome, headerAt, maskedAt, fileHeader, taskAt, interruptAt}
+use Rattle.taskfile.specs.File.{past, among, lineRow, orderRow, countLineRow, twiceLineRow, lineOutcome, headerAt, maskedAt, fileHeader, taskFormed, taskKind, cacheAt, taskAt, interruptAt}
 use Rattle.taskread.specs.Read.{fileSet, readOutcome, readOf}
 use Rattle.framelines.specs.Each.{eachLine}
 use Rattle.optionallines.specs.Lines.{maskedLine}
@@ -28,7 +28,7 @@ pub use Rattle.quoted.specs.Quoted.{bytesOf}
 
 -- what reading computes with, and writing: to unfold one of these is to unfold what its line names
 unfoldable reading : Unit {0}
-unfolding legal valueOf allLegal numberFrom kindOf widthsOf sum line after closed same formed fieldOf setOf interruptsWith firstFrom boardRow rangeRow interruptRow figuresOutcome some till past among lineRow orderRow countLineRow twiceLineRow lineOutcome headerAt maskedAt fileHeader taskAt interruptAt fileSet readOutcome readOf
+unfolding legal valueOf allLegal numberFrom kindOf widthsOf sum line after closed same formed fieldOf setOf interruptsWith firstFrom boardRow rangeRow interruptRow figuresOutcome some till past among lineRow orderRow countLineRow twiceLineRow lineOutcome headerAt maskedAt fileHeader taskFormed taskKind cacheAt taskAt interruptAt fileSet readOutcome readOf
 reading = tt
 
 unfoldable writing : Unit {0}
@@ -71,6 +71,16 @@ examples =
     ∷ record { file = "010200000A00000000000000000000\n050005\n050005\n020100000600000A00000A\n"; answer = Refused (Order 3) }
     -- nothing behind it
     ∷ record { file = "010200000A00000000000000000000\n050005\n"; answer = Refused (Count 3) }
+    -- 03 lines behind the header, before and behind 02 lines, one digit short, without its LF
+    ∷ record { file = "010200000A00000000000000000000\n030100000600000A00000A0005\n"; answer = Done }
+    ∷ record { file = "010200000A00000000000000000000\n050005\n030100000600000A00000A0005\n020200000600000A00000A\n030300000600000A00000A0000\n070100000100000A00000A0000\n"; answer = Done }
+    ∷ record { file = "010200000A00000000000000000000\n030100000600000A00000A005\n"; answer = Refused (Line 2) }
+    ∷ record { file = "010200000A00000000000000000000\n020100000600000A00000A\n030200000600000A00000A0005"; answer = Refused (Line 3) }
+    -- elsewhere than among the tasks, with the id of an 02 line, and with a cost above its deadline
+    ∷ record { file = "030100000600000A00000A0005\n010200000A00000000000000000000\n"; answer = Refused (Order 1) }
+    ∷ record { file = "010200000A00000000000000000000\n020100000600000A00000A\n070100000100000A00000A0000\n030200000600000A00000A0005\n"; answer = Refused (Order 4) }
+    ∷ record { file = "010200000A00000000000000000000\n020100000600000A00000A\n030100000500000A00000A0005\n"; answer = Refused (Twice 3) }
+    ∷ record { file = "010200000A00000000000000000000\n020100000600000A00000A\n030200000B00000A00000A0005\n"; answer = Refused (Range 2) }
     -- an 07 line behind the tasks, two of them, one digit short, without its LF
     ∷ record { file = "010200000A00000000000000000000\n020100000600000A00000A\n070100000100000A00000A0000\n"; answer = Done }
     ∷ record { file = "010200000A00000000000000000000\n020100000600000A00000A\n07020000020000050000140004\n070100000100000A00000A0000\n"; answer = Done }
@@ -100,28 +110,41 @@ pub examples-read : map (λ e. answers (e .file)) examples ≡ map (λ e. e .ans
 unfolding reading
 examples-read = refl
 
--- a file that is accepted, and what its set remembers of a 05 line and of 07 lines
+-- a file that is accepted, and what its set remembers of a 05 line, of 03 lines and of 07 lines
 pub record Kept : Type 0 where
   pub file : String
   pub masked : Optional
+  pub caches : List Optional
   pub interrupts : List Interrupt
 
 abbrev pub kept : List Kept
 kept =
-    record { file = "010200000A00000000000000000000\n020100000600000A00000A\n"; masked = Absent; interrupts = [] }
-    ∷ record { file = "010200000A00000000000000000000\n050005\n020100000600000A00000A\n"; masked = Given 5; interrupts = [] }
-    ∷ record { file = "010200000A00000000000000000000\n050000\n020100000600000A00000A\n"; masked = Given 0; interrupts = [] }
-    ∷ record { file = "010200000A00000000000000000000\n020100000600000A00000A\n070100000100000A00000A0000\n"; masked = Absent; interrupts = record { processor = 1; cost = 1; deadline = 10; period = 10; jitter = 0 } ∷ [] }
+    record { file = "010200000A00000000000000000000\n020100000600000A00000A\n"; masked = Absent; caches = Absent ∷ []; interrupts = [] }
+    ∷ record { file = "010200000A00000000000000000000\n050005\n020100000600000A00000A\n"; masked = Given 5; caches = Absent ∷ []; interrupts = [] }
+    ∷ record { file = "010200000A00000000000000000000\n050000\n020100000600000A00000A\n"; masked = Given 0; caches = Absent ∷ []; interrupts = [] }
+    ∷ record { file = "010200000A00000000000000000000\n020100000600000A00000A\n070100000100000A00000A0000\n"; masked = Absent; caches = Absent ∷ []; interrupts = record { processor = 1; cost = 1; deadline = 10; period = 10; jitter = 0 } ∷ [] }
     ∷ record {
       file = "010200000A00000000000000000000\n050005\n020100000600000A00000A\n07020000020000050000140004\n070100000100000A00000A0000\n";
       masked = Given 5;
+      caches = Absent ∷ [];
       interrupts = record { processor = 2; cost = 2; deadline = 5; period = 20; jitter = 4 } ∷ record { processor = 1; cost = 1; deadline = 10; period = 10; jitter = 0 } ∷ [];
+    }
+    ∷ record { file = "010200000A00000000000000000000\n030100000600000A00000A0000\n"; masked = Absent; caches = Given 0 ∷ []; interrupts = [] }
+    ∷ record {
+      file = "010200000A00000000000000000000\n050005\n030100000600000A00000A0005\n020200000600000A00000A\n030300000600000A00000AFFFF\n070100000100000A00000A0000\n";
+      masked = Given 5;
+      caches = Given 5 ∷ Absent ∷ Given 65535 ∷ [];
+      interrupts = record { processor = 1; cost = 1; deadline = 10; period = 10; jitter = 0 } ∷ [];
     }
     ∷ []
 
 pub kept-read : map (λ k. readOf (bytesOf (k .file)) .set .header .masked) kept ≡ map (λ k. k .masked) kept
 unfolding reading
 kept-read = refl
+
+pub kept-cached : map (λ k. map (λ t. t .cache) (members (readOf (bytesOf (k .file)) .set))) kept ≡ map (λ k. k .caches) kept
+unfolding reading
+kept-cached = refl
 
 pub kept-listed : map (λ k. interruptsIn (readOf (bytesOf (k .file)) .set)) kept ≡ map (λ k. k .interrupts) kept
 unfolding reading

@@ -11,12 +11,12 @@ use Rattle.frameread.specs.Line.{formed}
 use Rattle.frames.specs.declared.table.Frame.{Frame}
 use Rattle.refusals.specs.declared.Refusal.{Refusal}
 use Rattle.refusals.specs.declared.Refusal.the-variants.{Order, Count}
-use Rattle.refusals.specs.declared.Outcome.the-variants.{Done, Refused}
+use Rattle.refusals.specs.declared.Outcome.the-variants.{Refused}
 use Rattle.refusals.proofs.FirstLaws.{done-till}
 use Rattle.tasks.specs.declared.set.Interrupt.{Interrupt}
 use Rattle.tasks.specs.Set.{mostInterrupts, zeroInterrupt}
-use Rattle.taskfile.specs.File.{past, isTask, isInterrupt, interruptAt, interruptsAmong, lineOutcome}
-use Rattle.taskfile.proofs.AmongLaws.{among-here, among-more, among-whole}
+use Rattle.taskfile.specs.File.{past, interruptAt, interruptsAmong, lineOutcome}
+use Rattle.taskfile.proofs.AmongLaws.{among-here, among-more, all-interrupts}
 use Rattle.taskfile.proofs.Lines.{late-task, later-interrupt}
 use Rattle.taskread.specs.declared.read.ReadAnswer.{ReadAnswer}
 use Rattle.taskread.specs.Read.{readOf}
@@ -33,11 +33,11 @@ interrupts-remembered text done =
     let n = tasksIn text in
     let m = interruptCount text in
     let none : interruptsAmong text (linesTo text n 0) ≡ [] = tasks-first text n m s in
-    let all = sym (among-whole Frame.Interrupt interruptAt text (linesTo text n m) (taken .ended)) in
+    let all = sym (all-interrupts text (linesTo text n m) (taken .ended)) in
     record {
       told = taken .interrupts;
       line = s .interrupts;
-      figures = λ k lt. ap (λ (is : List Interrupt). getD is k zeroInterrupt) (taken .interrupts ∙ all) ∙ run-at Frame.Interrupt text (linesTo text n 0) interruptAt zeroInterrupt none m k (s .interrupts) lt;
+      figures = λ k lt. ap (λ (is : List Interrupt). getD is k zeroInterrupt) (taken .interrupts ∙ all) ∙ run-at (formed Frame.Interrupt) text (linesTo text n 0) interruptAt zeroInterrupt none m k (s .interrupts) lt;
     }
 
 -- a line that is refused behind clear lines answers for the text
@@ -49,8 +49,8 @@ line-answers text n r clear e =
 counts-behind : (text : List ℕ) (j n : ℕ) → j < n → formed Frame.Interrupt (past j text) ≡ true → 1 ≤ length (interruptsAmong text n)
 counts-behind text j n lt here =
     let split : suc j + (n - suc j) ≡ n = omega arith in
-    let more = subst (λ (k : ℕ). length (interruptsAmong text (suc j)) ≤ length (interruptsAmong text k)) split (among-more Frame.Interrupt interruptAt text (suc j) (n - suc j)) in
-    omega (arith, more, ap length (among-here Frame.Interrupt interruptAt text j here) ∙ length-append (interruptsAmong text j) (interruptAt (past j text) ∷ []))
+    let more = subst (λ (k : ℕ). length (interruptsAmong text (suc j)) ≤ length (interruptsAmong text k)) split (among-more (formed Frame.Interrupt) interruptAt text (suc j) (n - suc j)) in
+    omega (arith, more, ap length (among-here (formed Frame.Interrupt) interruptAt text j here) ∙ length-append (interruptsAmong text j) (interruptAt (past j text) ∷ []))
 
 pub task-too-late : TaskTooLate
 task-too-late text zero k one lt clear here task = absurd (omega arith)

@@ -4,6 +4,7 @@ pub mod ReachedLaws
 pub mod Exactly
 pub mod Accepted
 pub mod MaskedLaws
+pub mod TaskLineLaws
 pub mod InterruptLaws
 pub mod Prefix
 pub mod RoundTripSet

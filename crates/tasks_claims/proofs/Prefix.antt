@@ -3,7 +3,7 @@ use Prim.Native.Nat.{ℕ, zero, suc, _+_, _-_, _≤_, _<_}
 use native.Mathlib.Omega.{arith}
 use native.Mathlib.Decide.{decLt}
 use mathlib.Core.List.{List, [], _∷_, _++_}
-use mathlib.Core.Bool.{Bool, true, false, cond}
+use mathlib.Core.Bool.{Bool, true, false, cond, _||_}
 use mathlib.Core.Path.{_≡_, refl, sym, _∙_, ap, ap₂}
 use lib.ListN.{length, take, drop}
 use lib.Seq.{take-all, take-take, take-add, drop-at, length-take-le}
@@ -22,16 +22,17 @@ use Rattle.tasks.specs.declared.set.Task.{Task}
 use Rattle.refusals.specs.First.{firstOf, when, till}
 use Rattle.tasks.specs.Set.{mostTasks, mostInterrupts, hasId}
 use Rattle.tasks.specs.Search.{some}
-use Rattle.taskfile.specs.File.{past, empty, lineOutcome, openingLines, openingBytes, taskAt, interruptAt, among, tasksAmong, interruptsAmong}
+use Rattle.taskfile.specs.File.{past, empty, lineOutcome, openingLines, openingBytes, taskFormed, taskKind, cacheAt, taskAt, interruptAt, among, tasksAmong, interruptsAmong}
 use Rattle.readbytes.specs.Furthest.{furthest}
 use Rattle.taskread.specs.Read.{readOf}
 use Rattle.tasks_claims.specs.Claims.{Opened, linesTo, sizeOf, ReadLooksAt}
+use Rattle.taskfile.proofs.TaskLaws.{task-formed, kind-most}
 use Rattle.taskfile.proofs.AmongLaws.{among-here, among-other}
 use Rattle.taskfile.proofs.Past.{past-formed}
 use Rattle.taskread.proofs.Reading.{reads-refused}
 use Rattle.taskfile.proofs.Lines.{neither, line-other, first-header, first-task, first-masked, first-interrupt, first-other, later-header, later-masked, later-task, late-task, later-interrupt, clear-header}
 use Rattle.refusals.proofs.FirstLaws.{till-suc}
-use Rattle.tasks_claims.proofs.ShapedLaws.{opening-most, lines-in, lines-opened, lines-some, size-is, shaped-none, past-shaped}
+use Rattle.tasks_claims.proofs.ShapedLaws.{opening-most, lines-in, lines-opened, lines-some, size-most, size-task, shaped-none, past-shaped}
 use Rattle.tasks_claims.proofs.ReachedLaws.{Reached, Next, task, interrupt, reached-next}
 use Rattle.taskfile.proofs.Standing.{byte-there}
 use Rattle.taskfile.proofs.OpeningLaws.{past-header, taken-opening, among-opening, none-opening}
@@ -40,31 +41,19 @@ use Rattle.taskfile.proofs.OpeningLaws.{past-header, taken-opening, among-openi
 drop-take : (p m : ℕ) (text : List ℕ) → p ≤ length text → drop p (take (p + m) text) ≡ take m (drop p text)
 drop-take p m text h = rw (take-add p m text) (drop-at (take p text) (take m (drop p text)) p (length-take-le p text h))
 
--- what follows a formed line does not change its bytes, nor its fields
+-- what follows a formed line does not change its bytes, nor what it gives
 line-prefix : (frame : Frame) (n : ℕ) (text : List ℕ) → lengthOf frame + 1 ≤ n → formed frame text ≡ true → line (take n text) ≡ line text
 line-prefix frame n text h f =
     formed-line frame (take n text) (formed-prefix frame n text h ∙ f)
     ∙ (take-take (lengthOf frame) n text (omega arith) ∙ sym (formed-line frame text f))
 
-field-line : (frame : Frame) (k : ℕ) (a b : List ℕ) → line a ≡ line b → fieldOf frame k a ≡ fieldOf frame k b
-unfolding fieldOf
-field-line frame k a b e = rw e
-
-task-same : (a b : List ℕ) → line a ≡ line b → taskAt a ≡ taskAt b
-unfolding taskAt
-task-same a b e =
-    λ i. record { id = field-line Frame.Task 0 a b e i; cost = field-line Frame.Task 1 a b e i; deadline = field-line Frame.Task 2 a b e i; period = field-line Frame.Task 3 a b e i }
+task-same : (a b : List ℕ) → formed Frame.Cached a ≡ formed Frame.Cached b → line a ≡ line b → taskAt a ≡ taskAt b
+unfolding taskAt taskKind cacheAt fieldOf
+task-same a b kind e = rw (kind, e)
 
 interrupt-same : (a b : List ℕ) → line a ≡ line b → interruptAt a ≡ interruptAt b
-unfolding interruptAt
-interrupt-same a b e =
-    λ i. record {
-      processor = field-line Frame.Interrupt 0 a b e i;
-      cost = field-line Frame.Interrupt 1 a b e i;
-      deadline = field-line Frame.Interrupt 2 a b e i;
-      period = field-line Frame.Interrupt 3 a b e i;
-      jitter = field-line Frame.Interrupt 4 a b e i;
-    }
+unfolding interruptAt fieldOf
+interrupt-same a b e = rw e
 
 there-take : (n : ℕ) (rest : List ℕ) → 1 ≤ n → empty rest ≡ false → empty (take n rest) ≡ false
 there-take zero rest one e = absurd (omega arith)
@@ -137,7 +126,7 @@ module _ (N : ℕ) (text : List ℕ) (far : furthest ≤ N) (long : N < length t
     -- the next line is there, and the front has all of it
     fits : at + 31 ≤ N
     unfolding widthsOf sum
-    fits = omega (arith, size-is text n k, opening-most text, c .reached .most, c .reached .few)
+    fits = omega (arith, size-most text n k, opening-most text, c .reached .most, c .reached .few)
 
     ends-at : (past lines text ≡ drop at text) × (at ≤ length text)
     ends-at = past-shaped text n k (c .reached .shaped)
@@ -154,37 +143,54 @@ module _ (N : ℕ) (text : List ℕ) (far : furthest ≤ N) (long : N < length t
     kind-cut : (frame : Frame) → lengthOf frame + 1 ≤ 31 → formed frame (past lines cut) ≡ formed frame (past lines text)
     kind-cut frame short = ap (formed frame) same-rest ∙ formed-prefix frame (N - at) (past lines text) (omega (arith, fits, short))
 
-    figures-cut : {A : Type 0} (frame : Frame) (figures : List ℕ → A) → ((a b : List ℕ) → line a ≡ line b → figures a ≡ figures b) → lengthOf frame + 1 ≤ 31 → formed frame (past lines text) ≡ true → figures (past lines cut) ≡ figures (past lines text)
-    figures-cut frame figures by-line short here =
-        by-line (past lines cut) (past lines text) (ap line same-rest ∙ line-prefix frame (N - at) (past lines text) (omega (arith, fits, short)) here)
+    line-cut : (frame : Frame) → lengthOf frame + 1 ≤ 31 → formed frame (past lines text) ≡ true → line (past lines cut) ≡ line (past lines text)
+    line-cut frame short here = ap line same-rest ∙ line-prefix frame (N - at) (past lines text) (omega (arith, fits, short)) here
+
+    -- whether it is a task's, and the figures of one
+    task-cut : taskFormed (past lines cut) ≡ taskFormed (past lines text)
+    unfolding taskFormed widthsOf sum
+    task-cut = ap₂ _||_ (kind-cut Frame.Task (omega arith)) (kind-cut Frame.Cached (omega arith))
+
+    short-task : lengthOf (taskKind (past lines text)) + 1 ≤ 31
+    unfolding widthsOf sum
+    short-task = omega (arith, kind-most (past lines text))
+
+    figures-task : taskFormed (past lines text) ≡ true → taskAt (past lines cut) ≡ taskAt (past lines text)
+    unfolding widthsOf sum
+    figures-task here =
+        task-same (past lines cut) (past lines text) (kind-cut Frame.Cached (omega arith)) (line-cut (taskKind (past lines text)) short-task (task-formed (past lines text) here))
+
+    figures-interrupt : formed Frame.Interrupt (past lines text) ≡ true → interruptAt (past lines cut) ≡ interruptAt (past lines text)
+    unfolding widthsOf sum
+    figures-interrupt here = interrupt-same (past lines cut) (past lines text) (line-cut Frame.Interrupt (omega arith) here)
 
     -- what the lines hold with one more
-    among-cut : {A : Type 0} (frame : Frame) (figures : List ℕ → A) → ((a b : List ℕ) → line a ≡ line b → figures a ≡ figures b) → lengthOf frame + 1 ≤ 31 → among frame figures cut lines ≡ among frame figures text lines → among frame figures cut (suc lines) ≡ among frame figures text (suc lines)
-    among-cut {A = A} frame figures by-line short before = by-kind (formed frame (past lines text)) refl
+    among-cut : {A : Type 0} (test : List ℕ → Bool) (figures : List ℕ → A) → test (past lines cut) ≡ test (past lines text) → (test (past lines text) ≡ true → figures (past lines cut) ≡ figures (past lines text)) → among test figures cut lines ≡ among test figures text lines → among test figures cut (suc lines) ≡ among test figures text (suc lines)
+    among-cut {A = A} test figures same-test same-figures before = by-test (test (past lines text)) refl
       where
-        by-kind : (b : Bool) → formed frame (past lines text) ≡ b → among frame figures cut (suc lines) ≡ among frame figures text (suc lines)
-        by-kind true e =
-            among-here frame figures cut lines (kind-cut frame short ∙ e)
-            ∙ ap₂ (λ (xs : List A) (x : A). xs ++ (x ∷ [])) before (figures-cut frame figures by-line short e)
-            ∙ sym (among-here frame figures text lines e)
-        by-kind false e =
-            among-other frame figures cut lines (kind-cut frame short ∙ e) ∙ before ∙ sym (among-other frame figures text lines e)
+        by-test : (b : Bool) → test (past lines text) ≡ b → among test figures cut (suc lines) ≡ among test figures text (suc lines)
+        by-test true e =
+            among-here test figures cut lines (same-test ∙ e)
+            ∙ ap₂ (λ (xs : List A) (x : A). xs ++ (x ∷ [])) before (same-figures e)
+            ∙ sym (among-here test figures text lines e)
+        by-test false e =
+            among-other test figures cut lines (same-test ∙ e) ∙ before ∙ sym (among-other test figures text lines e)
 
     -- the line is answered the same
     same-line : lineOutcome cut (suc lines) ≡ lineOutcome text (suc lines)
     unfolding widthsOf sum
-    same-line = kinds (formed Frame.Header (past lines text)) (formed Frame.Task (past lines text)) (formed Frame.Masked (past lines text)) (formed Frame.Interrupt (past lines text)) refl refl refl refl
+    same-line = kinds (formed Frame.Header (past lines text)) (taskFormed (past lines text)) (formed Frame.Masked (past lines text)) (formed Frame.Interrupt (past lines text)) refl refl refl refl
       where
-        a-task : (is : List Interrupt) → interruptsAmong text lines ≡ is → formed Frame.Task (past lines text) ≡ true → lineOutcome cut (suc lines) ≡ lineOutcome text (suc lines)
+        a-task : (is : List Interrupt) → interruptsAmong text lines ≡ is → taskFormed (past lines text) ≡ true → lineOutcome cut (suc lines) ≡ lineOutcome text (suc lines)
         a-task [] none et =
-            later-task cut lines some-lines (c .interrupts ∙ none) (kind-cut Frame.Task (omega arith) ∙ et)
-            ∙ ap₂ (λ (u : Task) (ts : List Task). firstOf (when (eqb (length ts) mostTasks) (Count (suc lines))) (when (some (hasId (u .id)) ts) (Twice (suc lines)))) (figures-cut Frame.Task taskAt task-same (omega arith) et) (c .tasks)
+            later-task cut lines some-lines (c .interrupts ∙ none) (task-cut ∙ et)
+            ∙ ap₂ (λ (u : Task) (ts : List Task). firstOf (when (eqb (length ts) mostTasks) (Count (suc lines))) (when (some (hasId (u .id)) ts) (Twice (suc lines)))) (figures-task et) (c .tasks)
             ∙ sym (later-task text lines some-lines none et)
         a-task (i ∷ is) late et =
-            late-task cut lines some-lines (omega (arith, ap length (c .interrupts ∙ late))) (kind-cut Frame.Task (omega arith) ∙ et)
+            late-task cut lines some-lines (omega (arith, ap length (c .interrupts ∙ late))) (task-cut ∙ et)
             ∙ sym (late-task text lines some-lines (omega (arith, ap length late)) et)
 
-        kinds : (h t b i : Bool) → formed Frame.Header (past lines text) ≡ h → formed Frame.Task (past lines text) ≡ t → formed Frame.Masked (past lines text) ≡ b → formed Frame.Interrupt (past lines text) ≡ i → lineOutcome cut (suc lines) ≡ lineOutcome text (suc lines)
+        kinds : (h t b i : Bool) → formed Frame.Header (past lines text) ≡ h → taskFormed (past lines text) ≡ t → formed Frame.Masked (past lines text) ≡ b → formed Frame.Interrupt (past lines text) ≡ i → lineOutcome cut (suc lines) ≡ lineOutcome text (suc lines)
         kinds true t b i eh et eb ei =
             later-header cut lines some-lines (kind-cut Frame.Header (omega arith) ∙ eh) ∙ sym (later-header text lines some-lines eh)
         kinds false true b i eh et eb ei = a-task (interruptsAmong text lines) refl et
@@ -196,7 +202,7 @@ module _ (N : ℕ) (text : List ℕ) (far : furthest ≤ N) (long : N < length t
             ∙ ap (λ (is : List Interrupt). when (eqb (length is) mostInterrupts) (Count (suc lines))) (c .interrupts)
             ∙ sym (later-interrupt text lines some-lines ei)
         kinds false false false false eh et eb ei =
-            line-other cut lines there-cut (neither (past lines cut) (kind-cut Frame.Header (omega arith) ∙ eh) (kind-cut Frame.Task (omega arith) ∙ et) (kind-cut Frame.Masked (omega arith) ∙ eb) (kind-cut Frame.Interrupt (omega arith) ∙ ei))
+            line-other cut lines there-cut (neither (past lines cut) (kind-cut Frame.Header (omega arith) ∙ eh) (task-cut ∙ et) (kind-cut Frame.Masked (omega arith) ∙ eb) (kind-cut Frame.Interrupt (omega arith) ∙ ei))
             ∙ sym (line-other text lines there (neither (past lines text) eh et eb ei))
 
     -- one line more is taken in both
@@ -209,8 +215,8 @@ module _ (N : ℕ) (text : List ℕ) (far : furthest ≤ N) (long : N < length t
               ap (λ (k : ℕ). past k cut) on
               ∙ past-formed frame cut lines at (c .rest) (omega (arith, fits, cut-length)) (ap (formed frame) (sym (c .rest)) ∙ kind-cut frame short ∙ here) .0
               ∙ ap (λ (p : ℕ). drop p cut) (sym size);
-          tasks = ap (tasksAmong cut) on ∙ among-cut Frame.Task taskAt task-same (omega arith) (c .tasks) ∙ ap (tasksAmong text) (sym on);
-          interrupts = ap (interruptsAmong cut) on ∙ among-cut Frame.Interrupt interruptAt interrupt-same (omega arith) (c .interrupts) ∙ ap (interruptsAmong text) (sym on);
+          tasks = ap (tasksAmong cut) on ∙ among-cut taskFormed taskAt task-cut figures-task (c .tasks) ∙ ap (tasksAmong text) (sym on);
+          interrupts = ap (interruptsAmong cut) on ∙ among-cut (formed Frame.Interrupt) interruptAt (kind-cut Frame.Interrupt (omega arith)) figures-interrupt (c .interrupts) ∙ ap (interruptsAmong text) (sym on);
           clear = ap (till (lineOutcome text)) on ∙ till-suc (lineOutcome text) lines ∙ rw (c .clear, done);
           clear-cut = ap (till (lineOutcome cut)) on ∙ till-suc (lineOutcome cut) lines ∙ rw (c .clear-cut, same-line, done);
         }
@@ -226,8 +232,9 @@ module _ (N : ℕ) (text : List ℕ) (far : furthest ≤ N) (long : N < length t
     where
       next : lineOutcome text (suc (linesTo text n k)) ≡ Done → Next text n k → readOf cut ≡ readOf text
       next e (task none here more) =
+          let rest = past (linesTo text n k) text in
           taken (suc n) k
-          (same-next n k c (suc n) k Frame.Task more (omega (arith, lines-in text (suc n) k, lines-in text n k)) (omega (arith, size-is text (suc n) k, size-is text n k)) (omega arith) here e)
+          (same-next n k c (suc n) k (taskKind rest) more (omega (arith, lines-in text (suc n) k, lines-in text n k)) (size-task text n k none) (short-task n k c) (task-formed rest here) e)
           (omega arith)
       next e (interrupt here more) = taken n (suc k) (same-next n k c n (suc k) Frame.Interrupt more refl refl (omega arith) here e) (omega arith)
 
@@ -242,7 +249,7 @@ module _ (N : ℕ) (text : List ℕ) (far : furthest ≤ N) (long : N < length t
 
   -- line 1 is answered the same
   same-first : lineOutcome cut 1 ≡ lineOutcome text 1
-  unfolding widthsOf sum
+  unfolding taskFormed widthsOf sum
   same-first = header (formed Frame.Header text) refl
     where
       there-text : empty text ≡ false
@@ -254,17 +261,20 @@ module _ (N : ℕ) (text : List ℕ) (far : furthest ≤ N) (long : N < length t
       kind : (frame : Frame) → lengthOf frame + 1 ≤ 31 → formed frame cut ≡ formed frame text
       kind frame short = formed-prefix frame N text (omega (arith, short))
 
-      other : (t b i : Bool) → formed Frame.Header text ≡ false → formed Frame.Task text ≡ t → formed Frame.Masked text ≡ b → formed Frame.Interrupt text ≡ i → lineOutcome cut 1 ≡ lineOutcome text 1
-      other true b i eh et eb ei = first-task cut (kind Frame.Task (omega arith) ∙ et) ∙ sym (first-task text et)
+      task : taskFormed cut ≡ taskFormed text
+      task = ap₂ _||_ (kind Frame.Task (omega arith)) (kind Frame.Cached (omega arith))
+
+      other : (t b i : Bool) → formed Frame.Header text ≡ false → taskFormed text ≡ t → formed Frame.Masked text ≡ b → formed Frame.Interrupt text ≡ i → lineOutcome cut 1 ≡ lineOutcome text 1
+      other true b i eh et eb ei = first-task cut (task ∙ et) ∙ sym (first-task text et)
       other false true i eh et eb ei = first-masked cut (kind Frame.Masked (omega arith) ∙ eb) ∙ sym (first-masked text eb)
       other false false true eh et eb ei = first-interrupt cut (kind Frame.Interrupt (omega arith) ∙ ei) ∙ sym (first-interrupt text ei)
       other false false false eh et eb ei =
-          first-other cut there-front (neither cut (kind Frame.Header (omega arith) ∙ eh) (kind Frame.Task (omega arith) ∙ et) (kind Frame.Masked (omega arith) ∙ eb) (kind Frame.Interrupt (omega arith) ∙ ei))
+          first-other cut there-front (neither cut (kind Frame.Header (omega arith) ∙ eh) (task ∙ et) (kind Frame.Masked (omega arith) ∙ eb) (kind Frame.Interrupt (omega arith) ∙ ei))
           ∙ sym (first-other text there-text (neither text eh et eb ei))
 
       header : (h : Bool) → formed Frame.Header text ≡ h → lineOutcome cut 1 ≡ lineOutcome text 1
       header true e = first-header cut (kind Frame.Header (omega arith) ∙ e) ∙ sym (first-header text e)
-      header false e = other (formed Frame.Task text) (formed Frame.Masked text) (formed Frame.Interrupt text) e refl refl refl
+      header false e = other (taskFormed text) (formed Frame.Masked text) (formed Frame.Interrupt text) e refl refl refl
 
   pub long-prefix : readOf cut ≡ readOf text
   unfolding till
@@ -282,7 +292,7 @@ read-looks-at N text far =
       | no short ↦ ap readOf (take-all N text (omega (arith, short)))
     ]
 
--- in bytes: 31 + 7 + 64 · 23 + 32 · 27 + 31
-pub furthest-bytes : furthest ≡ 2405
+-- in bytes: 31 + 7 + 64 · 27 + 32 · 27 + 31
+pub furthest-bytes : furthest ≡ 2661
 unfolding widthsOf sum
 furthest-bytes = refl

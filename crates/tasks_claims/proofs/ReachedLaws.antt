@@ -11,7 +11,7 @@ use Rattle.frameread.specs.Line.{formed}
 use Rattle.frames.specs.declared.table.Frame.{Frame}
 use Rattle.refusals.specs.declared.Outcome.the-variants.{Done}
 use Rattle.tasks.specs.Set.{mostTasks, mostInterrupts}
-use Rattle.taskfile.specs.File.{past, empty, lineOutcome, openingLines, tasksAmong, interruptsAmong}
+use Rattle.taskfile.specs.File.{past, empty, lineOutcome, openingLines, taskFormed, tasksAmong, interruptsAmong}
 use Rattle.taskfile.proofs.Lines.{clear-header, clear-kind, clear-none, clear-room, clear-fewer}
 use Rattle.tasks_claims.specs.Claims.{linesTo, Shaped}
 use Rattle.tasks_claims.proofs.RunLaws.{run-more}
@@ -25,7 +25,7 @@ pub record Reached (text : List ℕ) (n k : ℕ) : Type 0 where
 
 -- the next line is a task, where no interrupt is taken yet, or an interrupt
 pub data Next (text : List ℕ) (n k : ℕ) : Type 0 where
-  task : k ≡ 0 → formed Frame.Task (past (linesTo text n k) text) ≡ true → Reached text (suc n) k → Next text n k
+  task : k ≡ 0 → taskFormed (past (linesTo text n k) text) ≡ true → Reached text (suc n) k → Next text n k
   interrupt : formed Frame.Interrupt (past (linesTo text n k) text) ≡ true → Reached text n (suc k) → Next text n k
 
 pub reached-next : (text : List ℕ) (n k : ℕ) → Reached text n k → empty (past (linesTo text n k) text) ≡ false → lineOutcome text (suc (linesTo text n k)) ≡ Done → Next text n k
@@ -34,7 +34,7 @@ reached-next text n k r there clear = ⊎-elim as-task as-interrupt (clear-kind 
     s : Shaped text n k
     s = r .shaped
 
-    as-task : formed Frame.Task (past (linesTo text n k) text) ≡ true → Next text n k
+    as-task : taskFormed (past (linesTo text n k) text) ≡ true → Next text n k
     as-task here =
         let none = clear-none text (linesTo text n k) (lines-some text n k) here clear in
         let first : k ≡ 0 = omega (arith, shaped-interrupts text n k s, ap length none) in
@@ -43,7 +43,7 @@ reached-next text n k r there clear = ⊎-elim as-task as-interrupt (clear-kind 
         (record {
           shaped = record {
             opened = s .opened;
-            tasks = run-more Frame.Task text (openingLines text) n (s .tasks) (subst (λ (m : ℕ). formed Frame.Task (past (linesTo text n m) text) ≡ true) first here);
+            tasks = run-more taskFormed text (openingLines text) n (s .tasks) (subst (λ (m : ℕ). taskFormed (past (linesTo text n m) text) ≡ true) first here);
             interrupts = λ j lt. absurd (omega (arith, first, lt));
           };
           most = omega (arith, r .most, room, shaped-tasks text n k s);
@@ -55,7 +55,7 @@ reached-next text n k r there clear = ⊎-elim as-task as-interrupt (clear-kind 
         let room : length (interruptsAmong text (linesTo text n k)) ≡ mostInterrupts → ⊥ = clear-fewer text (linesTo text n k) (lines-some text n k) here clear in
         interrupt here
         (record {
-          shaped = record { opened = s .opened; tasks = s .tasks; interrupts = run-more Frame.Interrupt text (linesTo text n 0) k (s .interrupts) here };
+          shaped = record { opened = s .opened; tasks = s .tasks; interrupts = run-more (formed Frame.Interrupt) text (linesTo text n 0) k (s .interrupts) here };
           most = r .most;
           few = omega (arith, r .few, room, shaped-interrupts text n k s);
         })

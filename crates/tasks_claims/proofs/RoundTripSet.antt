@@ -10,7 +10,7 @@ use native.Mathlib.Nat.{min-le-left}
 use lib.ListN.{length, take, drop, getD, replicate, length-append, length-replicate, length-take}
 use lib.Seq.{take-suc, take-length, drop-length, drop-cons, length-take-le}
 use borrow.Author.Tests.{ne-eqb, eqb-true, not-false}
-use Rattle.frames.specs.Table.{widthsOf, fieldsIn, indexOf}
+use Rattle.frames.specs.Table.{widthsOf, fieldsIn}
 use Rattle.frameread.specs.Line.{after, closed, formed, fieldOf}
 use Rattle.frameread.proofs.KindLaws.{not-formed}
 use Rattle.framewrite.specs.Line.{lineOf}
@@ -27,16 +27,17 @@ use Rattle.tasks.specs.declared.set.Header.{Header}
 use Rattle.tasks.specs.declared.set.Interrupt.{Interrupt}
 use Rattle.tasks.specs.declared.set.Task.{Task}
 use Rattle.tasks.specs.declared.set.TaskSet.{TaskSet}
-use Rattle.tasks.specs.Set.{mostTasks, mostInterrupts, zeroTask, zeroInterrupt, members, interruptsIn, interruptsWith, setOf, hasId}
+use Rattle.tasks.specs.Set.{mostTasks, mostInterrupts, zeroTask, zeroInterrupt, members, interruptsIn, interruptsWith, setOf, hasId, givenOr}
+use Rattle.taskframe.specs.Frames.{frameBy, taskFrame}
 use Rattle.refusals.specs.First.{firstOf, when, till}
 use Rattle.tasks.specs.Search.{some, atTask, firstTask}
 use Rattle.taskrows.specs.Rows.{rangeRow, interruptRow, rangeAt, figuresOutcome}
 use Rattle.taskask.specs.Ask.{headerOverflows, taskOverflows, maskedOverflows, interruptOverflows, askRow}
-use Rattle.taskfile.specs.File.{past, lineOutcome, headerAt, maskedAt, fileHeader, openingLines, taskAt, interruptAt, among, tasksAmong, interruptsAmong, fileTasks, fileInterrupts}
+use Rattle.taskfile.specs.File.{past, lineOutcome, headerAt, maskedAt, fileHeader, openingLines, taskFormed, taskKind, cacheAt, taskAt, interruptAt, among, tasksAmong, interruptsAmong, fileTasks, fileInterrupts}
 use Rattle.taskread.specs.Read.{fileSet, answer}
 use Rattle.tasks.specs.Values.{headerValues, taskValues, interruptValues}
-use Rattle.optionallines.specs.Lines.{maskedLine, interruptLines}
-use Rattle.tasktext.specs.Text.{taskLines, textOf}
+use Rattle.optionallines.specs.Lines.{maskedLine, interruptLine, interruptLines}
+use Rattle.tasktext.specs.Text.{taskLine, taskLines, textOf}
 use Rattle.taskwrite.specs.Write.{writerAsks}
 use Rattle.tasks_claims.specs.Claims.{linesWith, linesTo, Run, Shaped, Whole, ReadWritten, ReadWrittenSame}
 use Rattle.taskask.proofs.Carried.{count-within, interrupts-within, ask-count, ask-twice, ask-header, ask-tasks, ask-masked, ask-interrupts, header-fits, task-fits, masked-fits, interrupt-fits}
@@ -45,8 +46,9 @@ use Rattle.tasks.proofs.Firsts.{at-none}
 use Rattle.taskrows.proofs.FiguresLaws.{figures-interrupts}
 use Rattle.tasks.proofs.Some.{some-at}
 use Rattle.taskask.proofs.TwiceLaws.{twice-before}
-use Rattle.taskfile.proofs.AmongLaws.{among-here, among-all, among-whole}
-use Rattle.taskfile.proofs.Lines.{opening-one, opening-two, clear-past, later-task, later-interrupt}
+use Rattle.taskfile.proofs.AmongLaws.{among-here, among-all, all-interrupts}
+use Rattle.taskfile.proofs.TaskLaws.{task-plain, task-cached, kind-plain, kind-cached, cache-given, cache-absent}
+use Rattle.taskfile.proofs.Lines.{task-no-masked, task-no-interrupt, opening-one, opening-two, clear-past, later-task, later-interrupt}
 use Rattle.taskfile.proofs.OpeningLaws.{taken-opening, among-opening, none-opening}
 use Rattle.taskread.proofs.Reading.{reads-clear}
 use Rattle.refusals.proofs.FirstLaws.{till-suc}
@@ -73,20 +75,6 @@ header-back h rest o masked =
     back : (k : ℕ) → k < fieldsIn Frame.Header → fieldOf Frame.Header k (lineOf Frame.Header (headerValues h) ++ rest) ≡ getD (headerValues h) k 0
     back k lt = field-line Frame.Header (headerValues h) rest k (header-fits h o k lt)
 
--- and a task's
-task-back : (t : Task) (rest : List ℕ) → taskOverflows t ≡ false → taskAt (lineOf Frame.Task (taskValues t) ++ rest) ≡ t
-unfolding taskAt widthsOf
-task-back t rest o =
-    λ i. record {
-      id = back 0 (omega arith) i;
-      cost = back 1 (omega arith) i;
-      deadline = back 2 (omega arith) i;
-      period = back 3 (omega arith) i;
-    }
-  where
-    back : (k : ℕ) → k < fieldsIn Frame.Task → fieldOf Frame.Task k (lineOf Frame.Task (taskValues t) ++ rest) ≡ getD (taskValues t) k 0
-    back k lt = field-line Frame.Task (taskValues t) rest k (task-fits t o k lt)
-
 -- and an interrupt's
 interrupt-back : (i : Interrupt) (rest : List ℕ) → interruptOverflows i ≡ false → interruptAt (lineOf Frame.Interrupt (interruptValues i) ++ rest) ≡ i
 unfolding interruptAt widthsOf
@@ -102,56 +90,120 @@ interrupt-back x rest o =
     back : (k : ℕ) → k < fieldsIn Frame.Interrupt → fieldOf Frame.Interrupt k (lineOf Frame.Interrupt (interruptValues x) ++ rest) ≡ getD (interruptValues x) k 0
     back k lt = field-line Frame.Interrupt (interruptValues x) rest k (interrupt-fits x o k lt)
 
+-- ---- the line of a task, which has a cache cost of its own or none
+
+-- it is a task's, of the kind that the task remembers, and has the fields of 02 at least
+frame-task : (cache : Optional) (text : List ℕ) → formed (frameBy cache) text ≡ true → (taskFormed text ≡ true) × (taskKind text ≡ frameBy cache)
+frame-task Absent text f = (task-plain text f, kind-plain text f)
+frame-task (Given cost) text f = (task-cached text f, kind-cached text f)
+
+frame-fields : (cache : Optional) → 4 ≤ fieldsIn (frameBy cache)
+unfolding widthsOf
+frame-fields Absent = omega arith
+frame-fields (Given cost) = omega arith
+
+-- the cost comes back from the last field of an 03 line
+frame-cache : (cache : Optional) (text : List ℕ) → formed (frameBy cache) text ≡ true → (4 < fieldsIn (frameBy cache) → fieldOf (frameBy cache) 4 text ≡ givenOr cache 0) → cacheAt text ≡ cache
+unfolding widthsOf
+frame-cache Absent text f back = cache-absent text (not-formed Frame.Task Frame.Cached refl text f)
+frame-cache (Given cost) text f back = cache-given text f ∙ ap Given (back (omega arith))
+
+module _ (t : Task) (rest : List ℕ) where
+  abbrev line : List ℕ
+  line = taskLine t ++ rest
+
+  of-frame : formed (taskFrame t) line ≡ true
+  of-frame = line-formed (taskFrame t) (taskValues t) rest
+
+  -- its figures come back
+  task-back : taskOverflows t ≡ false → taskAt line ≡ t
+  unfolding taskAt
+  task-back o =
+      λ i. record {
+        id = figure 0 (omega arith) i;
+        cost = figure 1 (omega arith) i;
+        deadline = figure 2 (omega arith) i;
+        period = figure 3 (omega arith) i;
+        cache = frame-cache (t .cache) line of-frame (back 4) i;
+      }
+    where
+      back : (k : ℕ) → k < fieldsIn (taskFrame t) → fieldOf (taskFrame t) k line ≡ getD (taskValues t) k 0
+      back k lt = field-line (taskFrame t) (taskValues t) rest k (task-fits t o k lt)
+
+      figure : (k : ℕ) → k < 4 → fieldOf (taskKind line) k line ≡ getD (taskValues t) k 0
+      figure k lt =
+          ap (λ (f : Frame). fieldOf f k line) (frame-task (t .cache) line of-frame .1)
+          ∙ back k (omega (arith, frame-fields (t .cache)))
+
 -- ---- a text that has, behind so many lines, a line for each of a list
 
-module _ {A : Type 0} (kind : Frame) (values : A → List ℕ) (z : A) (text : List ℕ) (lines : ℕ) (xs : List A) (rest : List ℕ) (starts : past lines text ≡ eachLine kind values xs ++ rest) where
+-- the line of each passes a test, and ends where what follows starts
+record Lined {A : Type 0} (test : List ℕ → Bool) (line : A → List ℕ) : Type 0 where
+  passes : (x : A) (rest : List ℕ) → test (line x ++ rest) ≡ true
+  ends : (x : A) (rest : List ℕ) → after (line x ++ rest) ≡ rest
+
+task-lined : Lined taskFormed taskLine
+task-lined =
+    record {
+      passes = λ t rest. frame-task (t .cache) (taskLine t ++ rest) (of-frame t rest) .0;
+      ends = λ t rest. line-after (taskFrame t) (taskValues t) rest;
+    }
+
+interrupt-lined : Lined (formed Frame.Interrupt) interruptLine
+interrupt-lined =
+    record {
+      passes = λ i rest. line-formed Frame.Interrupt (interruptValues i) rest;
+      ends = λ i rest. line-after Frame.Interrupt (interruptValues i) rest;
+    }
+
+module _ {A : Type 0} {test : List ℕ → Bool} {line : A → List ℕ} (lined : Lined test line) (z : A) (text : List ℕ) (lines : ℕ) (xs : List A) (rest : List ℕ) (starts : past lines text ≡ eachLine line xs ++ rest) where
   -- the lines from place i on start with that of place i
-  each-first : (i : ℕ) → i < length xs → eachLine kind values (drop i xs) ++ rest ≡ lineOf kind (values (getD xs i z)) ++ (eachLine kind values (drop (suc i) xs) ++ rest)
+  each-first : (i : ℕ) → i < length xs → eachLine line (drop i xs) ++ rest ≡ line (getD xs i z) ++ (eachLine line (drop (suc i) xs) ++ rest)
   each-first i h =
-      ap (λ (ys : List A). eachLine kind values ys ++ rest) (drop-cons xs i z h)
-      ∙ ap (λ (l : List ℕ). l ++ rest) (each-cons kind values (getD xs i z) (drop (suc i) xs))
-      ∙ append-assoc (lineOf kind (values (getD xs i z))) (eachLine kind values (drop (suc i) xs)) rest
+      ap (λ (ys : List A). eachLine line ys ++ rest) (drop-cons xs i z h)
+      ∙ ap (λ (l : List ℕ). l ++ rest) (each-cons line (getD xs i z) (drop (suc i) xs))
+      ∙ append-assoc (line (getD xs i z)) (eachLine line (drop (suc i) xs)) rest
 
   -- past i of them stand the lines of those left
-  past-each : (i : ℕ) → i ≤ length xs → past (linesWith lines i) text ≡ eachLine kind values (drop i xs) ++ rest
+  past-each : (i : ℕ) → i ≤ length xs → past (linesWith lines i) text ≡ eachLine line (drop i xs) ++ rest
   past-each zero h = starts
   past-each (suc i) h =
       past-next text (linesWith lines i)
       ∙ ap after (past-each i (omega arith) ∙ each-first i (omega arith))
-      ∙ line-after kind (values (getD xs i z)) (eachLine kind values (drop (suc i) xs) ++ rest)
+      ∙ lined .ends (getD xs i z) (eachLine line (drop (suc i) xs) ++ rest)
 
-  each-at : (i : ℕ) → i < length xs → past (linesWith lines i) text ≡ lineOf kind (values (getD xs i z)) ++ (eachLine kind values (drop (suc i) xs) ++ rest)
+  each-at : (i : ℕ) → i < length xs → past (linesWith lines i) text ≡ line (getD xs i z) ++ (eachLine line (drop (suc i) xs) ++ rest)
   each-at i h = past-each i (omega arith) ∙ each-first i h
 
-  -- each is a line of the kind, and behind them stands the rest
-  run-each : Run kind text lines (length xs)
-  run-each i h = ap (formed kind) (each-at i h) ∙ line-formed kind (values (getD xs i z)) (eachLine kind values (drop (suc i) xs) ++ rest)
+  -- each passes the test, and behind them stands the rest
+  run-each : Run test text lines (length xs)
+  run-each i h = ap test (each-at i h) ∙ lined .passes (getD xs i z) (eachLine line (drop (suc i) xs) ++ rest)
 
   each-ended : past (linesWith lines (length xs)) text ≡ rest
   each-ended =
       past-each (length xs) (omega arith)
-      ∙ ap (λ (ys : List A). eachLine kind values ys ++ rest) (drop-length xs)
-      ∙ ap (λ (l : List ℕ). l ++ rest) (each-nil kind values)
+      ∙ ap (λ (ys : List A). eachLine line ys ++ rest) (drop-length xs)
+      ∙ ap (λ (l : List ℕ). l ++ rest) (each-nil line)
 
   -- where no figure is too large the lines hold the list
-  module _ (figures : List ℕ → A) (overflows : A → Bool) (back : (x : A) (rest : List ℕ) → overflows x ≡ false → figures (lineOf kind (values x) ++ rest) ≡ x) (fit : some overflows xs ≡ false) where
+  module _ (figures : List ℕ → A) (overflows : A → Bool) (back : (x : A) (rest : List ℕ) → overflows x ≡ false → figures (line x ++ rest) ≡ x) (fit : some overflows xs ≡ false) where
     figures-back : (i : ℕ) → i < length xs → figures (past (linesWith lines i) text) ≡ getD xs i z
     figures-back i h =
-        ap figures (each-at i h) ∙ back (getD xs i z) (eachLine kind values (drop (suc i) xs) ++ rest) (some-at overflows xs i z fit h)
+        ap figures (each-at i h) ∙ back (getD xs i z) (eachLine line (drop (suc i) xs) ++ rest) (some-at overflows xs i z fit h)
 
-    each-back : among kind figures text lines ≡ [] → (i : ℕ) → i ≤ length xs → among kind figures text (linesWith lines i) ≡ take i xs
+    each-back : among test figures text lines ≡ [] → (i : ℕ) → i ≤ length xs → among test figures text (linesWith lines i) ≡ take i xs
     each-back none zero h = none
     each-back none (suc i) h =
-        among-here kind figures text (linesWith lines i) (run-each i (omega arith))
+        among-here test figures text (linesWith lines i) (run-each i (omega arith))
         ∙ ap₂ (λ (ys : List A) (y : A). ys ++ (y ∷ [])) (each-back none i (omega arith)) (figures-back i (omega arith))
         ∙ sym (take-suc xs i z (omega arith))
 
--- such lines start with no line of another kind, if what follows does not
-each-apart : {A : Type 0} (kind other : Frame) (values : A → List ℕ) (xs : List A) (rest : List ℕ) → eqb (indexOf kind) (indexOf other) ≡ false → formed other rest ≡ false → formed other (eachLine kind values xs ++ rest) ≡ false
-each-apart kind other values [] rest apart none = ap (λ (l : List ℕ). formed other (l ++ rest)) (each-nil kind values) ∙ none
-each-apart kind other values (x ∷ xs) rest apart none =
-    ap (formed other) (ap (λ (l : List ℕ). l ++ rest) (each-cons kind values x xs) ∙ append-assoc (lineOf kind (values x)) (eachLine kind values xs) rest)
-    ∙ not-formed kind other apart (lineOf kind (values x) ++ (eachLine kind values xs ++ rest)) (line-formed kind (values x) (eachLine kind values xs ++ rest))
+-- such lines start with none that passes a test that they do not, if what follows does not
+each-apart : {A : Type 0} {test : List ℕ → Bool} {line : A → List ℕ} (lined : Lined test line) (other : List ℕ → Bool) → ((rest : List ℕ) → test rest ≡ true → other rest ≡ false) → (xs : List A) (rest : List ℕ) → other rest ≡ false → other (eachLine line xs ++ rest) ≡ false
+each-apart {line = line} lined other apart [] rest none = ap (λ (l : List ℕ). other (l ++ rest)) (each-nil line) ∙ none
+each-apart {line = line} lined other apart (x ∷ xs) rest none =
+    ap other (ap (λ (l : List ℕ). l ++ rest) (each-cons line x xs) ∙ append-assoc (line x) (eachLine line xs) rest)
+    ∙ apart (line x ++ (eachLine line xs ++ rest)) (lined .passes x (eachLine line xs ++ rest))
 
 -- ---- line 2
 
@@ -202,10 +254,10 @@ module _ (set : TaskSet) where
 
   interrupts-apart : formed Frame.Masked (interruptLines is) ≡ false
   unfolding formed closed
-  interrupts-apart = ap (formed Frame.Masked) (sym (append-nil (interruptLines is))) ∙ each-apart Frame.Interrupt Frame.Masked interruptValues is [] refl refl
+  interrupts-apart = ap (formed Frame.Masked) (sym (append-nil (interruptLines is))) ∙ each-apart interrupt-lined (formed Frame.Masked) (not-formed Frame.Interrupt Frame.Masked refl) is [] refl
 
   lists-apart : formed Frame.Masked lists ≡ false
-  lists-apart = each-apart Frame.Task Frame.Masked taskValues ts (interruptLines is) refl interrupts-apart
+  lists-apart = each-apart task-lined (formed Frame.Masked) task-no-masked ts (interruptLines is) interrupts-apart
 
   second-text : past 1 text ≡ maskedLine (set .header .masked) ++ lists
   unfolding past textOf
@@ -216,7 +268,7 @@ module _ (set : TaskSet) where
 
   interrupts-start : past (linesTo text (length ts) 0) text ≡ interruptLines is ++ []
   interrupts-start =
-      each-ended Frame.Task taskValues zeroTask text (openingLines text) ts (interruptLines is) tasks-start ∙ sym (append-nil (interruptLines is))
+      each-ended task-lined zeroTask text (openingLines text) ts (interruptLines is) tasks-start ∙ sym (append-nil (interruptLines is))
 
   -- it has the shape of a file, and ends there
   shaped : Shaped text (length ts) (length is)
@@ -224,12 +276,12 @@ module _ (set : TaskSet) where
   shaped =
       record {
         opened = line-formed Frame.Header (headerValues (set .header)) (maskedLine (set .header .masked) ++ lists);
-        tasks = run-each Frame.Task taskValues zeroTask text (openingLines text) ts (interruptLines is) tasks-start;
-        interrupts = run-each Frame.Interrupt interruptValues zeroInterrupt text (linesTo text (length ts) 0) is [] interrupts-start;
+        tasks = run-each task-lined zeroTask text (openingLines text) ts (interruptLines is) tasks-start;
+        interrupts = run-each interrupt-lined zeroInterrupt text (linesTo text (length ts) 0) is [] interrupts-start;
       }
 
   ended : past (linesTo text (length ts) (length is)) text ≡ []
-  ended = each-ended Frame.Interrupt interruptValues zeroInterrupt text (linesTo text (length ts) 0) is [] interrupts-start
+  ended = each-ended interrupt-lined zeroInterrupt text (linesTo text (length ts) 0) is [] interrupts-start
 
   -- it holds the set's tasks and interrupts
   module _ (ok : writerAsks set ≡ false) where
@@ -237,20 +289,20 @@ module _ (set : TaskSet) where
     ask = writer-ask set ok
 
     task-there : (i : ℕ) → i < length ts → taskAt (past (linesTo text i 0) text) ≡ getD ts i zeroTask
-    task-there = figures-back Frame.Task taskValues zeroTask text (openingLines text) ts (interruptLines is) tasks-start taskAt taskOverflows task-back (ask-tasks set ask)
+    task-there = figures-back task-lined zeroTask text (openingLines text) ts (interruptLines is) tasks-start taskAt taskOverflows task-back (ask-tasks set ask)
 
     tasks-back : (i : ℕ) → i ≤ length ts → tasksAmong text (linesTo text i 0) ≡ take i ts
-    tasks-back = each-back Frame.Task taskValues zeroTask text (openingLines text) ts (interruptLines is) tasks-start taskAt taskOverflows task-back (ask-tasks set ask) (among-opening text (shaped .opened))
+    tasks-back = each-back task-lined zeroTask text (openingLines text) ts (interruptLines is) tasks-start taskAt taskOverflows task-back (ask-tasks set ask) (among-opening text (shaped .opened))
 
     interrupts-back : (i : ℕ) → i ≤ length is → interruptsAmong text (linesTo text (length ts) i) ≡ take i is
-    interrupts-back = each-back Frame.Interrupt interruptValues zeroInterrupt text (linesTo text (length ts) 0) is [] interrupts-start interruptAt interruptOverflows interrupt-back (ask-interrupts set ask) (tasks-first text (length ts) (length is) shaped)
+    interrupts-back = each-back interrupt-lined zeroInterrupt text (linesTo text (length ts) 0) is [] interrupts-start interruptAt interruptOverflows interrupt-back (ask-interrupts set ask) (tasks-first text (length ts) (length is) shaped)
 
     -- each of its lines is clear
     module _ (most : length ts ≤ mostTasks) (few : length is ≤ mostInterrupts) where
       task-clear : (i : ℕ) → i < length ts → lineOutcome text (suc (linesTo text i 0)) ≡ Done
       task-clear i h =
           let k = linesTo text i 0 in
-          let none : interruptsAmong text k ≡ [] = run-other Frame.Task text (openingLines text) Frame.Interrupt interruptAt refl i (run-less Frame.Task text (openingLines text) i (length ts) (omega arith) (shaped .tasks)) ∙ none-opening text (shaped .opened) in
+          let none : interruptsAmong text k ≡ [] = run-other taskFormed text (openingLines text) (formed Frame.Interrupt) interruptAt task-no-interrupt i (run-less taskFormed text (openingLines text) i (length ts) (omega arith) (shaped .tasks)) ∙ none-opening text (shaped .opened) in
           let seen : some (hasId (taskAt (past k text) .id)) (tasksAmong text k) ≡ false =
           ap₂ (λ (u : Task) (us : List Task). some (hasId (u .id)) us) (task-there i h) (tasks-back i (omega arith)) ∙ twice-before ts i zeroTask (ask-twice set ask) h in
           let count : length (tasksAmong text k) ≡ i = ap length (tasks-back i (omega arith)) ∙ length-take-le i ts (omega arith) in
@@ -296,7 +348,7 @@ module _ (set : TaskSet) where
 
     interrupts-text : fileInterrupts text ≡ is
     interrupts-text =
-        sym (among-whole Frame.Interrupt interruptAt text (linesTo text (length ts) (length is)) ended) ∙ interrupts-back (length is) (omega arith) ∙ take-length is
+        sym (all-interrupts text (linesTo text (length ts) (length is)) ended) ∙ interrupts-back (length is) (omega arith) ∙ take-length is
 
     file-back : fileSet text ≡ setOf (set .header) ts is
     unfolding fileSet

@@ -4,14 +4,15 @@ use Prim.Native.Nat.{ℕ, zero, suc, _^_, _≤_}
 use mathlib.Core.Path.{_≡_, refl, sym, _∙_, ap, ap₂}
 use mathlib.Core.Bool.{Bool, true, false}
 use mathlib.Core.List.{List, [], _∷_, _++_, append-assoc, append-nil}
+use mathlib.Core.Logic.{⊎-elim}
 use native.Mathlib.Omega.{arith}
 use lib.Dec.{leb, eqb}
 use lib.ListN.{length}
 use borrow.Author.Tests.{lt-leb}
-use Rattle.laws.proofs.Tests.{or-neither}
+use Rattle.laws.proofs.Tests.{or-either, or-neither}
 use Rattle.frames.specs.Table.{widthsOf}
 use Rattle.frameread.specs.Line.{after, formed, fieldOf}
-use Rattle.framewrite.specs.Line.{lineOf}
+use Rattle.framewrite.specs.Line.{lineOf, fields}
 use Rattle.framelines.specs.Each.{eachLine}
 use Rattle.framelines.proofs.EachLaws.{each-nil, each-one, each-append}
 use Rattle.framesizes.specs.Overflow.{lineOverflows, someTooLarge}
@@ -19,6 +20,7 @@ use Rattle.frames.specs.declared.table.Frame.{Frame}
 use Rattle.refusals.specs.declared.Refusal.the-variants.{Count, Twice}
 use Rattle.refusals.specs.declared.Outcome.the-variants.{Done}
 use Rattle.frameread.proofs.Formed.{field-below}
+use Rattle.frameread.proofs.KindLaws.{not-formed}
 use Rattle.frames_claims.specs.Values.{fieldsFrom, fieldsOf}
 use Rattle.frames_claims.proofs.LineLaws.{line-fields}
 use Rattle.tasks.specs.declared.set.Optional.{Optional}
@@ -31,12 +33,12 @@ use Rattle.refusals.specs.First.{when}
 use Rattle.tasks.specs.Search.{some}
 use Rattle.taskask.specs.Ask.{twiceRow, headerOverflows, taskOverflows, maskedOverflows, interruptOverflows}
 use Rattle.taskrows.specs.Rows.{boardRow, rangeRow, interruptRow}
-use Rattle.taskfile.specs.File.{past, lineOutcome, headerAt, maskedAt, fileHeader, openingLines, taskAt, interruptAt, among, tasksAmong, interruptsAmong, fileTasks, fileInterrupts}
+use Rattle.taskfile.specs.File.{past, lineOutcome, headerAt, maskedAt, fileHeader, openingLines, taskFormed, taskKind, cacheAt, taskAt, interruptAt, among, tasksAmong, interruptsAmong, fileTasks, fileInterrupts}
 use Rattle.taskread.specs.Read.{readOf}
 use Rattle.tasks_claims.specs.Claims.{Opened, linesWith, linesTo, Run, Shaped, tasksIn, interruptCount, AcceptedFile, NoRow, WrittenRead}
-use Rattle.tasks.specs.Values.{headerValues, taskValues, interruptValues}
-use Rattle.optionallines.specs.Lines.{maskedLine, interruptLines}
-use Rattle.tasktext.specs.Text.{taskLines, textOf}
+use Rattle.tasks.specs.Values.{headerValues, interruptValues}
+use Rattle.optionallines.specs.Lines.{maskedLine, interruptLine, interruptLines}
+use Rattle.tasktext.specs.Text.{taskLine, taskLines, textOf}
 use Rattle.taskwrite.specs.Write.{writerAsks}
 use Rattle.refusals.proofs.FirstLaws.{first-done, when-done}
 use Rattle.taskask.proofs.Carried.{count-right, ask-rows}
@@ -47,7 +49,7 @@ use Rattle.taskask.proofs.TwiceLaws.{twice-nil, twice-more}
 use Rattle.tasks.proofs.SearchLaws.{some-nowhere}
 use Rattle.taskfile.proofs.Lines.{opening-one, opening-two, later-task, clear-none}
 use Rattle.taskfile.proofs.OpeningLaws.{among-opening}
-use Rattle.taskfile.proofs.AmongLaws.{among-here, among-task, among-all, among-whole}
+use Rattle.taskfile.proofs.AmongLaws.{among-here, among-task, among-all, all-interrupts}
 use Rattle.tasks_claims.proofs.RunLaws.{run-less}
 use Rattle.tasks_claims.proofs.ShapedLaws.{past-next, masked-there, masked-absent, file-masked, lines-some, tasks-first, tasks-last}
 use Rattle.taskwrite.proofs.WriteAsks.{writer-rows}
@@ -66,39 +68,48 @@ interrupt-again : (rest : List ℕ) → formed Frame.Interrupt rest ≡ true →
 unfolding interruptAt fieldsFrom fieldsOf widthsOf
 interrupt-again rest f = line-fields Frame.Interrupt rest f
 
-task-again : (rest : List ℕ) → formed Frame.Task rest ≡ true → rest ≡ lineOf Frame.Task (taskValues (taskAt rest)) ++ after rest
-unfolding taskAt fieldsFrom fieldsOf widthsOf
-task-again rest f = line-fields Frame.Task rest f
+-- a task's of either kind
+plain-again : (rest : List ℕ) → formed Frame.Task rest ≡ true → rest ≡ taskLine (taskAt rest) ++ after rest
+unfolding taskAt taskKind cacheAt fieldsFrom fieldsOf widthsOf lineOf fields
+plain-again rest f = rw (not-formed Frame.Task Frame.Cached refl rest f) (line-fields Frame.Task rest f)
+
+cached-again : (rest : List ℕ) → formed Frame.Cached rest ≡ true → rest ≡ taskLine (taskAt rest) ++ after rest
+unfolding taskAt taskKind cacheAt fieldsFrom fieldsOf widthsOf
+cached-again rest f = rw f (line-fields Frame.Cached rest f)
+
+task-again : (rest : List ℕ) → taskFormed rest ≡ true → rest ≡ taskLine (taskAt rest) ++ after rest
+unfolding taskFormed
+task-again rest f = ⊎-elim (plain-again rest) (cached-again rest) (or-either (formed Frame.Task rest) (formed Frame.Cached rest) f)
 
 past-one : (text : List ℕ) → past 1 text ≡ after text
 unfolding past
 past-one text = refl
 
--- lines of one kind behind so many, of which none before is of the kind: each is the line of its own figures
-module _ {A : Type 0} (kind : Frame) (figures : List ℕ → A) (text : List ℕ) (lines : ℕ) (none : among kind figures text lines ≡ []) where
+-- lines that pass a test behind so many, of which none before does: each is the line of its own figures
+module _ {A : Type 0} (test : List ℕ → Bool) (figures : List ℕ → A) (text : List ℕ) (lines : ℕ) (none : among test figures text lines ≡ []) where
   -- what follows is the lines of those so far, and the rest
-  lines-again : (values : A → List ℕ) → ((rest : List ℕ) → formed kind rest ≡ true → rest ≡ lineOf kind (values (figures rest)) ++ after rest)
-      → (n : ℕ) → Run kind text lines n → past lines text ≡ eachLine kind values (among kind figures text (linesWith lines n)) ++ past (linesWith lines n) text
-  lines-again values again zero run = ap (λ (l : List ℕ). l ++ past lines text) (sym (ap (eachLine kind values) none ∙ each-nil kind values))
-  lines-again values again (suc n) run =
+  lines-again : (line : A → List ℕ) → ((rest : List ℕ) → test rest ≡ true → rest ≡ line (figures rest) ++ after rest)
+      → (n : ℕ) → Run test text lines n → past lines text ≡ eachLine line (among test figures text (linesWith lines n)) ++ past (linesWith lines n) text
+  lines-again line again zero run = ap (λ (l : List ℕ). l ++ past lines text) (sym (ap (eachLine line) none ∙ each-nil line))
+  lines-again line again (suc n) run =
       let k = linesWith lines n in
       let rest = past k text in
-      let held = among kind figures text k in
+      let held = among test figures text k in
       let x = figures rest in
-      let next : rest ≡ lineOf kind (values x) ++ past (suc k) text = again rest (run n (omega arith)) ∙ ap (λ (l : List ℕ). lineOf kind (values x) ++ l) (sym (past-next text k)) in
-      lines-again values again n (run-less kind text lines n (suc n) (omega arith) run)
-      ∙ ap (λ (l : List ℕ). eachLine kind values held ++ l) (next ∙ ap (λ (l : List ℕ). l ++ past (suc k) text) (sym (each-one kind values x)))
-      ∙ sym (append-assoc (eachLine kind values held) (eachLine kind values (x ∷ [])) (past (suc k) text))
-      ∙ ap (λ (l : List ℕ). l ++ past (suc k) text) (sym (each-append kind values held (x ∷ [])) ∙ ap (eachLine kind values) (sym (among-here kind figures text k (run n (omega arith)))))
+      let next : rest ≡ line x ++ past (suc k) text = again rest (run n (omega arith)) ∙ ap (λ (l : List ℕ). line x ++ l) (sym (past-next text k)) in
+      lines-again line again n (run-less test text lines n (suc n) (omega arith) run)
+      ∙ ap (λ (l : List ℕ). eachLine line held ++ l) (next ∙ ap (λ (l : List ℕ). l ++ past (suc k) text) (sym (each-one line x)))
+      ∙ sym (append-assoc (eachLine line held) (eachLine line (x ∷ [])) (past (suc k) text))
+      ∙ ap (λ (l : List ℕ). l ++ past (suc k) text) (sym (each-append line held (x ∷ [])) ∙ ap (eachLine line) (sym (among-here test figures text k (run n (omega arith)))))
 
   -- and where no line's figures are too large, none of them is
-  lines-fit : (overflows : A → Bool) → ((rest : List ℕ) → formed kind rest ≡ true → overflows (figures rest) ≡ false)
-      → (n : ℕ) → Run kind text lines n → some overflows (among kind figures text (linesWith lines n)) ≡ false
+  lines-fit : (overflows : A → Bool) → ((rest : List ℕ) → test rest ≡ true → overflows (figures rest) ≡ false)
+      → (n : ℕ) → Run test text lines n → some overflows (among test figures text (linesWith lines n)) ≡ false
   lines-fit overflows fit zero run = ap (some overflows) none ∙ some-nil overflows
   lines-fit overflows fit (suc n) run =
       let k = linesWith lines n in
-      ap (some overflows) (among-here kind figures text k (run n (omega arith)))
-      ∙ some-more overflows (among kind figures text k) (figures (past k text)) (lines-fit overflows fit n (run-less kind text lines n (suc n) (omega arith) run)) (fit (past k text) (run n (omega arith)))
+      ap (some overflows) (among-here test figures text k (run n (omega arith)))
+      ∙ some-more overflows (among test figures text k) (figures (past k text)) (lines-fit overflows fit n (run-less test text lines n (suc n) (omega arith) run)) (fit (past k text) (run n (omega arith)))
 
 -- line 2 is the 05 line of what it gives, or the lines before the tasks end before it
 second-again : (text : List ℕ) → past 1 text ≡ maskedLine (maskedAt text) ++ past (openingLines text) text
@@ -116,13 +127,13 @@ module _ (text : List ℕ) (n k : ℕ) (s : Shaped text n k) (end : past (linesT
   tasks-all = sym (tasks-last text n k s) ∙ among-all text (linesTo text n k) end
 
   interrupts-all : interruptsAmong text (linesTo text n k) ≡ fileInterrupts text
-  interrupts-all = among-whole Frame.Interrupt interruptAt text (linesTo text n k) end
+  interrupts-all = all-interrupts text (linesTo text n k) end
 
   rest-again : past (openingLines text) text ≡ taskLines (fileTasks text) ++ interruptLines (fileInterrupts text)
   rest-again =
-      lines-again Frame.Task taskAt text (openingLines text) (among-opening text (s .opened)) taskValues task-again n (s .tasks)
+      lines-again taskFormed taskAt text (openingLines text) (among-opening text (s .opened)) taskLine task-again n (s .tasks)
       ∙ ap₂ (λ (ts : List Task) (l : List ℕ). taskLines ts ++ l) tasks-all
-      (lines-again Frame.Interrupt interruptAt text (linesTo text n 0) (tasks-first text n k s) interruptValues interrupt-again k (s .interrupts)
+      (lines-again (formed Frame.Interrupt) interruptAt text (linesTo text n 0) (tasks-first text n k s) interruptLine interrupt-again k (s .interrupts)
       ∙ ap₂ (λ (is : List Interrupt) (l : List ℕ). interruptLines is ++ l) interrupts-all end
       ∙ append-nil (interruptLines (fileInterrupts text)))
 
@@ -157,27 +168,40 @@ interrupt-fits rest f = or-neither (fits 0) (or-neither (fits 1) (or-neither (fi
     fits : (k : ℕ) → leb (16 ^ lib.ListN.getD (widthsOf Frame.Interrupt) k 0) (fieldOf Frame.Interrupt k rest) ≡ false
     fits k = lt-leb _ _ (field-below Frame.Interrupt rest f k)
 
-task-fits : (rest : List ℕ) → formed Frame.Task rest ≡ true → taskOverflows (taskAt rest) ≡ false
-unfolding taskOverflows lineOverflows someTooLarge taskAt widthsOf
-task-fits rest f = or-neither (fits 0) (or-neither (fits 1) (or-neither (fits 2) (or-neither (fits 3) refl)))
+plain-fits : (rest : List ℕ) → formed Frame.Task rest ≡ true → taskOverflows (taskAt rest) ≡ false
+unfolding taskOverflows lineOverflows someTooLarge taskAt taskKind cacheAt widthsOf
+plain-fits rest f =
+    rw (not-formed Frame.Task Frame.Cached refl rest f) (or-neither (fits 0) (or-neither (fits 1) (or-neither (fits 2) (or-neither (fits 3) refl))))
   where
     fits : (k : ℕ) → leb (16 ^ lib.ListN.getD (widthsOf Frame.Task) k 0) (fieldOf Frame.Task k rest) ≡ false
     fits k = lt-leb _ _ (field-below Frame.Task rest f k)
 
--- an 02 line that is clear has an id that none before it has
-id-new : (text : List ℕ) (k : ℕ) → 1 ≤ k → formed Frame.Task (past k text) ≡ true → lineOutcome text (suc k) ≡ Done → some (hasId (taskAt (past k text) .id)) (tasksAmong text k) ≡ false
+cached-fits : (rest : List ℕ) → formed Frame.Cached rest ≡ true → taskOverflows (taskAt rest) ≡ false
+unfolding taskOverflows lineOverflows someTooLarge taskAt taskKind cacheAt widthsOf
+cached-fits rest f =
+    rw f (or-neither (fits 0) (or-neither (fits 1) (or-neither (fits 2) (or-neither (fits 3) (or-neither (fits 4) refl)))))
+  where
+    fits : (k : ℕ) → leb (16 ^ lib.ListN.getD (widthsOf Frame.Cached) k 0) (fieldOf Frame.Cached k rest) ≡ false
+    fits k = lt-leb _ _ (field-below Frame.Cached rest f k)
+
+task-fits : (rest : List ℕ) → taskFormed rest ≡ true → taskOverflows (taskAt rest) ≡ false
+unfolding taskFormed
+task-fits rest f = ⊎-elim (plain-fits rest) (cached-fits rest) (or-either (formed Frame.Task rest) (formed Frame.Cached rest) f)
+
+-- a task's line that is clear has an id that none before it has
+id-new : (text : List ℕ) (k : ℕ) → 1 ≤ k → taskFormed (past k text) ≡ true → lineOutcome text (suc k) ≡ Done → some (hasId (taskAt (past k text) .id)) (tasksAmong text k) ≡ false
 id-new text k one task clear =
     let b = some (hasId (taskAt (past k text) .id)) (tasksAmong text k) in
     when-done b (Twice (suc k))
     (first-done (when (eqb (length (tasksAmong text k)) mostTasks) (Count (suc k))) (when b (Twice (suc k))) (sym (later-task text k one (clear-none text k one task clear) task) ∙ clear) .1)
 
-ids-new : (text : List ℕ) (i : ℕ) → Opened text → Run Frame.Task text (openingLines text) i → ((j : ℕ) → 1 ≤ j → lineOutcome text j ≡ Done) → twiceRow (tasksAmong text (linesTo text i 0)) ≡ false
+ids-new : (text : List ℕ) (i : ℕ) → Opened text → Run taskFormed text (openingLines text) i → ((j : ℕ) → 1 ≤ j → lineOutcome text j ≡ Done) → twiceRow (tasksAmong text (linesTo text i 0)) ≡ false
 ids-new text zero opened run clear = ap twiceRow (among-opening text opened) ∙ twice-nil
 ids-new text (suc i) opened run clear =
     let k = linesTo text i 0 in
     let task = run i (omega arith) in
     ap twiceRow (among-task text k task)
-    ∙ twice-more (tasksAmong text k) (taskAt (past k text)) (ids-new text i opened (run-less Frame.Task text (openingLines text) i (suc i) (omega arith) run) clear)
+    ∙ twice-more (tasksAmong text k) (taskAt (past k text)) (ids-new text i opened (run-less taskFormed text (openingLines text) i (suc i) (omega arith) run) clear)
     (id-new text k (lines-some text i 0) task (clear (suc k) (omega arith)))
 
 -- what an accepted file gives can be written, and the text is the file's
@@ -201,9 +225,9 @@ module _ (text : List ℕ) (taken : AcceptedFile text) (none : NoRow text) where
       (ask-rows set (count-right set (omega (arith, taken .count, taken .any)) (omega (arith, taken .count, taken .most)) (omega (arith, taken .counted, taken .few)))
       (ap twiceRow all ∙ ids-new text (tasksIn text) (s .opened) (s .tasks) (none .clear))
       (ap headerOverflows (taken .header) ∙ header-fits text (s .opened))
-      (ap (some taskOverflows) all ∙ lines-fit Frame.Task taskAt text (openingLines text) (among-opening text (s .opened)) taskOverflows task-fits (tasksIn text) (s .tasks))
+      (ap (some taskOverflows) all ∙ lines-fit taskFormed taskAt text (openingLines text) (among-opening text (s .opened)) taskOverflows task-fits (tasksIn text) (s .tasks))
       (ap (λ (h : Header). maskedOverflows (h .masked)) (taken .header) ∙ ap maskedOverflows (file-masked text) ∙ masked-fits text)
-      (ap (some interruptOverflows) listed ∙ lines-fit Frame.Interrupt interruptAt text (linesTo text (tasksIn text) 0) (tasks-first text (tasksIn text) (interruptCount text) s) interruptOverflows interrupt-fits (interruptCount text) (s .interrupts)))
+      (ap (some interruptOverflows) listed ∙ lines-fit (formed Frame.Interrupt) interruptAt text (linesTo text (tasksIn text) 0) (tasks-first text (tasksIn text) (interruptCount text) s) interruptOverflows interrupt-fits (interruptCount text) (s .interrupts)))
       (ap boardRow (taken .header) ∙ none .board)
       (ap (some rangeRow) (taken .tasks) ∙ some-nowhere rangeRow zeroTask (fileTasks text) (λ j lt. none .range (suc j) (omega arith) (omega arith)))
       (ap₂ (λ (h : Header) (is : List Interrupt). some (interruptRow (h .processors)) is) (taken .header) (taken .interrupts) ∙ some-nowhere (interruptRow (fileHeader text .processors)) zeroInterrupt (fileInterrupts text) (λ j lt. none .interrupts (suc j) (omega arith) (omega arith)))

@@ -4,18 +4,19 @@ use Prim.Native.Nat.{ℕ, suc, _+_, _*_, _≤_}
 use native.Mathlib.Omega.{arith}
 use mathlib.Core.List.{List, []}
 use mathlib.Core.Bool.{Bool, true, false}
-use mathlib.Core.Path.{_≡_, refl, ap, sym, _∙_}
+use mathlib.Core.Path.{_≡_, refl, ap, sym, _∙_, subst}
 use lib.ListN.{length, drop}
 use Rattle.frameread.specs.Line.{after, formed, fieldOf}
 use Rattle.frames.specs.Table.{lengthOf}
 use Rattle.frames.specs.declared.table.Frame.{Frame}
 use Rattle.tasks.specs.declared.set.Optional.the-variants.{Absent, Given}
-use Rattle.taskfile.specs.File.{past, maskedAt, fileHeader, openingLines, openingBytes, tasksAmong, interruptsAmong, taskAt, interruptAt}
-use Rattle.taskfile.proofs.AmongLaws.{among-all, among-whole}
-use Rattle.taskfile.proofs.Lines.{some-opening, opening-one, opening-two}
+use Rattle.taskfile.specs.File.{past, maskedAt, fileHeader, openingLines, openingBytes, tasksAmong, interruptsAmong, taskFormed, taskKind, taskAt, interruptAt}
+use Rattle.taskfile.proofs.AmongLaws.{among-all, all-interrupts}
+use Rattle.taskfile.proofs.TaskLaws.{task-formed, kind-most}
+use Rattle.taskfile.proofs.Lines.{task-no-interrupt, interrupt-no-task, some-opening, opening-one, opening-two}
 use Rattle.taskfile.proofs.OpeningLaws.{opening-bytes, taken-opening, among-opening, none-opening}
 use Rattle.tasks_claims.specs.Claims.{Opened, linesTo, sizeOf, Shaped, tasksIn, interruptCount}
-use Rattle.tasks_claims.proofs.RunLaws.{lines-is, bytes-is, past-run, run-count, run-other}
+use Rattle.tasks_claims.proofs.RunLaws.{lines-is, bytes-most, past-run, run-count, run-other}
 
 -- the text past one line more
 pub past-next : (text : List ℕ) (i : ℕ) → past (suc i) text ≡ after (past i text)
@@ -56,7 +57,7 @@ file-masked text = refl
 
 -- ---- the tasks and the interrupts behind them
 
--- their lines and their bytes, in figures
+-- their lines in figures, and the most that their bytes are
 module _ (text : List ℕ) (n k : ℕ) where
   pub lines-in : linesTo text n k ≡ openingLines text + n + k
   lines-in = omega (arith, lines-is (openingLines text) n, lines-is (linesTo text n 0) k)
@@ -67,8 +68,15 @@ module _ (text : List ℕ) (n k : ℕ) where
   pub lines-some : 1 ≤ linesTo text n k
   lines-some = omega (arith, some-opening text, lines-opened)
 
-  pub size-is : sizeOf text n k ≡ openingBytes text + (lengthOf Frame.Task + 1) * n + (lengthOf Frame.Interrupt + 1) * k
-  size-is = omega (arith, bytes-is Frame.Task (openingBytes text) n, bytes-is Frame.Interrupt (sizeOf text n 0) k)
+  pub size-most : sizeOf text n k ≤ openingBytes text + (lengthOf Frame.Cached + 1) * n + (lengthOf Frame.Interrupt + 1) * k
+  size-most =
+      let tasks = bytes-most taskKind text (openingLines text) (lengthOf Frame.Cached) kind-most (openingBytes text) n in
+      let interrupts = bytes-most (λ rest. Frame.Interrupt) text (linesTo text n 0) (lengthOf Frame.Interrupt) (λ rest. omega arith) (sizeOf text n 0) k in
+      omega (arith, tasks, interrupts)
+
+  -- a task more, before any interrupt
+  pub size-task : k ≡ 0 → sizeOf text (suc n) k ≡ sizeOf text n k + (lengthOf (taskKind (past (linesTo text n k) text)) + 1)
+  size-task none = subst (λ (k : ℕ). sizeOf text (suc n) k ≡ sizeOf text n k + (lengthOf (taskKind (past (linesTo text n k) text)) + 1)) (sym none) refl
 
 -- none taken yet
 pub shaped-none : (text : List ℕ) → Opened text → Shaped text 0 0
@@ -79,26 +87,26 @@ module _ (text : List ℕ) (n k : ℕ) (s : Shaped text n k) where
   pub past-shaped : (past (linesTo text n k) text ≡ drop (sizeOf text n k) text) × (sizeOf text n k ≤ length text)
   past-shaped =
       let taken = taken-opening text (s .opened) in
-      let tasks = past-run Frame.Task text (openingLines text) (openingBytes text) n (taken .rest) (taken .within) (s .tasks) in
-      past-run Frame.Interrupt text (linesTo text n 0) (sizeOf text n 0) k (tasks .0) (tasks .1) (s .interrupts)
+      let tasks = past-run taskFormed text (openingLines text) taskKind task-formed (openingBytes text) n (taken .rest) (taken .within) (s .tasks) in
+      past-run (formed Frame.Interrupt) text (linesTo text n 0) (λ rest. Frame.Interrupt) (λ rest f. f) (sizeOf text n 0) k (tasks .0) (tasks .1) (s .interrupts)
 
   -- no interrupt stands before the tasks' end, and no task behind it
   pub tasks-first : interruptsAmong text (linesTo text n 0) ≡ []
-  tasks-first = run-other Frame.Task text (openingLines text) Frame.Interrupt interruptAt refl n (s .tasks) ∙ none-opening text (s .opened)
+  tasks-first = run-other taskFormed text (openingLines text) (formed Frame.Interrupt) interruptAt task-no-interrupt n (s .tasks) ∙ none-opening text (s .opened)
 
   pub tasks-last : tasksAmong text (linesTo text n k) ≡ tasksAmong text (linesTo text n 0)
-  tasks-last = run-other Frame.Interrupt text (linesTo text n 0) Frame.Task taskAt refl k (s .interrupts)
+  tasks-last = run-other (formed Frame.Interrupt) text (linesTo text n 0) taskFormed taskAt interrupt-no-task k (s .interrupts)
 
   -- each of the lines behind the opening holds a task or an interrupt
   pub shaped-tasks : length (tasksAmong text (linesTo text n k)) ≡ n
-  shaped-tasks = ap length tasks-last ∙ run-count Frame.Task text (openingLines text) taskAt (among-opening text (s .opened)) n (s .tasks)
+  shaped-tasks = ap length tasks-last ∙ run-count taskFormed text (openingLines text) taskAt (among-opening text (s .opened)) n (s .tasks)
 
   pub shaped-interrupts : length (interruptsAmong text (linesTo text n k)) ≡ k
-  shaped-interrupts = run-count Frame.Interrupt text (linesTo text n 0) interruptAt tasks-first k (s .interrupts)
+  shaped-interrupts = run-count (formed Frame.Interrupt) text (linesTo text n 0) interruptAt tasks-first k (s .interrupts)
 
   -- and so a file that ends there holds as many as its shape says
   pub shaped-all : past (linesTo text n k) text ≡ [] → (tasksIn text ≡ n) × (interruptCount text ≡ k)
   shaped-all e = (
     ap length (sym (among-all text (linesTo text n k) e)) ∙ shaped-tasks,
-    ap length (sym (among-whole Frame.Interrupt interruptAt text (linesTo text n k) e)) ∙ shaped-interrupts,
+    ap length (sym (all-interrupts text (linesTo text n k) e)) ∙ shaped-interrupts,
   )

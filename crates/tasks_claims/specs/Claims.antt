@@ -1,6 +1,6 @@
 -- What is claimed of task files: each refusal of reading exactly when its row says, what an accepted file is,
 -- what a write answers and leaves, and that reading and writing undo each other.
--- Document 01, "Refusal numbers and their order" (RULES 6) and "How tight each promise is"; document 02, Req 04 and Req 08.
+-- Document 01, "Refusal numbers and their order" (RULES 6) and "How tight each promise is"; document 02, Req 04, 07 and 08.
 use Prim.Native.Nat.{ℕ, zero, suc, pred, _+_, _<_, _≤_}
 use mathlib.Core.List.{List, []}
 use mathlib.Core.Bool.{Bool, true, false}
@@ -18,7 +18,7 @@ use Rattle.taskread.specs.declared.read.ReadAnswer.{ReadAnswer}
 use Rattle.tasks.specs.Set.{mostTasks, mostInterrupts, zeroTask, zeroInterrupt, zeroSet, members, interruptsIn, setOf}
 use Rattle.taskrows.specs.Rows.{boardRow, rangeRow, interruptRow}
 use Rattle.tasks.specs.declared.set.Optional.the-variants.{Absent, Given}
-use Rattle.taskfile.specs.File.{past, from, present, isHeader, isTask, isMasked, isInterrupt, maskedAt, interruptAt, interruptsAmong, lineRow, orderRow, countLineRow, twiceLineRow, lineOutcome, fileHeader, openingLines, openingBytes, fileTasks, fileInterrupts}
+use Rattle.taskfile.specs.File.{past, from, present, isHeader, isTask, isMasked, isInterrupt, taskFormed, taskKind, taskAt, maskedAt, interruptAt, interruptsAmong, lineRow, orderRow, countLineRow, twiceLineRow, lineOutcome, fileHeader, openingLines, openingBytes, fileTasks, fileInterrupts}
 use Rattle.readbytes.specs.Furthest.{furthest}
 use Rattle.taskread.specs.Read.{readOf, answer}
 use Rattle.refusals.specs.declared.Written.{Written}
@@ -127,31 +127,32 @@ ReadDetermined = (text : List ℕ) (a b : ReadAnswer) → a ≡ readOf text → 
 abbrev pub Opened : List ℕ → Type 0
 Opened text = formed Frame.Header text ≡ true
 
--- so many lines, or bytes, and behind them n lines of a kind
+-- so many lines, and behind them n more
 abbrev pub linesWith : (lines n : ℕ) → ℕ
 linesWith lines zero = lines
 linesWith lines (suc n) = suc (linesWith lines n)
 
-abbrev pub bytesWith : Frame → (bytes n : ℕ) → ℕ
-bytesWith kind bytes zero = bytes
-bytesWith kind bytes (suc n) = bytesWith kind bytes n + (lengthOf kind + 1)
+-- so many bytes, and behind them those of these n lines, each as long as its kind
+abbrev pub bytesWith : (List ℕ → Frame) → List ℕ → (lines bytes n : ℕ) → ℕ
+bytesWith kind text lines bytes zero = bytes
+bytesWith kind text lines bytes (suc n) = bytesWith kind text lines bytes n + (lengthOf (kind (past (linesWith lines n) text)) + 1)
 
 -- the lines of a file that has n tasks and k interrupts, and their bytes
 abbrev pub linesTo : List ℕ → (n k : ℕ) → ℕ
 linesTo text n k = linesWith (linesWith (openingLines text) n) k
 
 abbrev pub sizeOf : List ℕ → (n k : ℕ) → ℕ
-sizeOf text n k = bytesWith Frame.Interrupt (bytesWith Frame.Task (openingBytes text) n) k
+sizeOf text n k = bytesWith (λ rest. Frame.Interrupt) text (linesTo text n 0) (bytesWith taskKind text (openingLines text) (openingBytes text) n) k
 
--- the n lines behind so many are of a kind
-abbrev pub Run : Frame → List ℕ → (lines n : ℕ) → Type 0
-Run kind text lines n = (j : ℕ) → j < n → formed kind (past (linesWith lines j) text) ≡ true
+-- the n lines behind so many pass a test
+abbrev pub Run : (List ℕ → Bool) → List ℕ → (lines n : ℕ) → Type 0
+Run test text lines n = (j : ℕ) → j < n → test (past (linesWith lines j) text) ≡ true
 
--- the file is opened, the n lines behind that are 02 lines, and the k lines behind these are 07 lines
+-- the file is opened, the n lines behind that are 02 or 03 lines, and the k lines behind these are 07 lines
 pub record Shaped (text : List ℕ) (n k : ℕ) : Type 0 where
   pub opened : Opened text
-  pub tasks : Run Frame.Task text (openingLines text) n
-  pub interrupts : Run Frame.Interrupt text (linesTo text n 0) k
+  pub tasks : Run taskFormed text (openingLines text) n
+  pub interrupts : Run (formed Frame.Interrupt) text (linesTo text n 0) k
 
 -- reading looks no further than that
 abbrev pub ReadLooksAt : Type 0
@@ -196,6 +197,19 @@ pub record Listed (text : List ℕ) : Type 0 where
 
 abbrev pub InterruptsRemembered : Type 0
 InterruptsRemembered = (text : List ℕ) → readOf text .outcome ≡ Done → Listed text
+
+-- a task that the set keeps of a line: it has the line's figures, a cache cost of its own exactly where that is an 03 line with that
+-- figure, and none exactly where it is an 02 line
+pub record TaskKept (rest : List ℕ) (t : Task) : Type 0 where
+  pub line : taskFormed rest ≡ true
+  pub figures : t ≡ taskAt rest
+  pub given : (cost : ℕ) → (t .cache ≡ Given cost) ↔ ((formed Frame.Cached rest ≡ true) × (fieldOf Frame.Cached 4 rest ≡ cost))
+  pub absent : (t .cache ≡ Absent) ↔ (formed Frame.Task rest ≡ true)
+
+-- the set of an accepted file remembers its tasks' lines in their order, however 02 and 03 lines alternate
+abbrev pub TasksRemembered : Type 0
+TasksRemembered =
+    (text : List ℕ) (k : ℕ) → readOf text .outcome ≡ Done → k < tasksIn text → TaskKept (from text (suc (linesTo text k 0))) (getD (members (readOf text .set)) k zeroTask)
 
 -- a task line behind an 07 line is ORDER there, and a 33rd 07 line COUNT, where no row holds at any line before
 abbrev pub TaskTooLate : Type 0

@@ -1,29 +1,33 @@
-// What the text of a task set is, and the figures of its 02 lines.
-use framelines::figures::put_figures;
+// What the text of a task set is, and the lines of its tasks, each an 02 or an 03 line, written one behind the other.
+use frames::table::row_of;
+use framewrite::put_row;
+use taskframe::task_frame;
 use tasks::set::TaskSet;
 use tasks::values::task_values;
 ghost use mathlib.Core.Path.{_≡_};
-ghost use Prim.Native.Nat.{_≤_};
-ghost use Rattle.framelines.specs.Figures.{filled};
-ghost use Rattle.tasks.specs.Set.{mostTasks};
-ghost use Rattle.tasktext.specs.Text.{mostFigures, taskFigures};
+ghost use Prim.Native.Nat.{_+_, _≤_};
+ghost use lib.ListN.{length as bytes};
+ghost use Rattle.digits.specs.Stored.{stored};
+ghost use Rattle.tasks.specs.Set.{mostTasks, members};
+ghost use Rattle.tasktext.specs.Text.{taskLines};
 
-// The figures of as many 02 lines as a set has room for.
-const MOST_FIGURES: usize = 4 * TaskSet::MOST_TASKS;
-
-// The figures of the 02 lines, in file order.
-pub fn task_figures(set: TaskSet) -> [u64; MOST_FIGURES]
+// Writes the lines of the tasks, in file order, and says where they end.
+pub fn put_tasks(out: &mut [u8], at: usize, set: TaskSet) -> usize
     requires { ⌜ set .count ≤ mostTasks ⌝ }
-    ensures { λ r. ⌜ r ≡ filled mostFigures (taskFigures (set .tasks)) (set .count) ⌝ }
+    requires { ⌜ at + bytes (taskLines (members set)) ≤ bytes (now out) ⌝ }
+    ensures { λ r. ⌜ r ≡ at + bytes (taskLines (members set)) ⌝ }
+    ensures { λ r. ⌜ now (out .exit) ≡ stored (now (out .entry)) at (taskLines (members set)) ⌝ }
 {
-    let mut values = [0; MOST_FIGURES];
     let n = set.count;
+    let mut next = at;
     let mut i = 0;
     while i < n {
         let task = set.tasks[i];
-        let figures = task_values(task);
-        put_figures(&mut values, 4 * i, &figures);
+        let frame = task_frame(task);
+        let row = row_of(frame);
+        let values = task_values(task);
+        next = put_row(out, next, row, &values);
         i += 1;
     }
-    values
+    next
 }

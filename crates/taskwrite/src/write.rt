@@ -38,9 +38,7 @@ pub fn write(set: TaskSet, out: &mut [u8]) -> Written
     if writer_asks(set) {
         return Written::Refused(Refusal::Ask);
     }
-    let count = set.count;
-    let interrupts = set.interrupts;
-    let needed = text_length(set.header, count, interrupts.count);
+    let needed = text_length(set);
     if out.len() < needed {
         return Written::Refused(Refusal::Room);
     }

@@ -1,25 +1,34 @@
-// The length of a task set's text: one 01 line, the 05 line where the set has one, then the 02 lines and the 07 lines.
+// The length of a task set's text: one 01 line, the 05 line where the set has one, then the lines of the tasks and the 07 lines.
 use framelines::lines_length;
 use frames::table::Frame;
 use optionallines::masked_length;
-use tasks::set::Header;
+use taskframe::task_frame;
+use tasks::set::TaskSet;
 ghost use mathlib.Core.Path.{_≡_};
-ghost use Prim.Native.Nat.{_+_, _*_, _≤_};
+ghost use Prim.Native.Nat.{_≤_};
 ghost use lib.ListN.{length as bytes};
-ghost use Rattle.frames.specs.Table.{lengthOf};
 ghost use Rattle.tasks.specs.Set.{mostTasks, mostInterrupts};
-ghost use Rattle.optionallines.specs.Lines.{maskedLine};
+ghost use Rattle.tasktext.specs.Text.{textOf};
 
-// The bytes of a set's text.
-pub fn text_length(header: Header, count: usize, interrupts: usize) -> usize
-    requires { ⌜ count ≤ mostTasks ⌝ }
-    requires { ⌜ interrupts ≤ mostInterrupts ⌝ }
-    ensures { λ r. ⌜ r ≡ lengthOf Frame.Header + 1 + bytes (maskedLine (header .masked)) + count * (lengthOf Frame.Task + 1) + interrupts * (lengthOf Frame.Interrupt + 1) ⌝ }
+// The bytes of a set's text. An 03 line is longer than an 02 line, so each task's line is counted by its own kind.
+pub fn text_length(set: TaskSet) -> usize
+    requires { ⌜ set .count ≤ mostTasks ⌝ }
+    requires { ⌜ set .interrupts .count ≤ mostInterrupts ⌝ }
+    ensures { λ r. ⌜ r ≡ bytes (textOf set) ⌝ }
 {
     let first = lines_length(Frame::Header, 1);
+    let header = set.header;
     let line = header.masked;
     let masked = masked_length(line);
-    let tasks = lines_length(Frame::Task, count);
-    let last = lines_length(Frame::Interrupt, interrupts);
+    let n = set.count;
+    let mut tasks = 0;
+    let mut i = 0;
+    while i < n {
+        let task = set.tasks[i];
+        let frame = task_frame(task);
+        tasks += lines_length(frame, 1);
+        i += 1;
+    }
+    let last = lines_length(Frame::Interrupt, set.interrupts.count);
     first + masked + tasks + last
 }

@@ -1,6 +1,5 @@
-// The text of a task set: one 01 line, the 05 line where the set has one, then the 02 lines and the 07 lines, each in file order.
+// The text of a task set: one 01 line, the 05 line where the set has one, then the lines of the tasks and the 07 lines, each in file order.
 use framelines::lines_length;
-use framelines::put_lines;
 use frames::table::Frame;
 use framewrite::put_line;
 use optionallines::masked_length;
@@ -8,7 +7,7 @@ use optionallines::put_interrupts;
 use optionallines::put_masked;
 use tasks::set::TaskSet;
 use tasks::values::header_values;
-use tasktext::task_figures;
+use tasktext::put_tasks;
 ghost use mathlib.Core.Path.{_≡_};
 ghost use Prim.Native.Nat.{_≤_};
 ghost use lib.ListN.{length as bytes};
@@ -30,9 +29,6 @@ pub fn put_text(out: &mut [u8], set: TaskSet)
     let masked = header.masked;
     put_masked(out, second, masked);
     let at = second + masked_length(masked);
-    let values = task_figures(set);
-    let count = set.count;
-    put_lines(out, at, Frame::Task, &values, count);
-    let behind = at + lines_length(Frame::Task, count);
+    let behind = put_tasks(out, at, set);
     put_interrupts(out, behind, set.interrupts);
 }

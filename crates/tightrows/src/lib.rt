@@ -1,4 +1,4 @@
-// Rows 7 and 8 of the refusals, each over all tasks of a set.
+// Rows 7 and 8 of the refusals, each over all tasks of a set; row 8 by each task's own cache cost.
 // What they mean stands in specs/Rows.antt.
 use tasks::set::Header;
 use tasks::set::Task;
@@ -28,7 +28,7 @@ fn breaks_tight(header: Header, task: Task) -> bool
         task.cost as u64,
         header.relo as u64,
         header.ctswo as u64,
-        header.cpmdo as u64,
+        task.cache_cost(header) as u64,
     );
     due < cost
 }

@@ -2,7 +2,6 @@
 -- Assumes nothing.
 use Prim.Native.Nat.{_+_, _-_, _<_}
 use mathlib.Core.Path.{_≡_, sym, _∙_}
-use borrow.Author.Needs.{needs}
 use borrow.Author.Tests.{not-true, not-false}
 use native.Mathlib.Omega.{arith}
 use lib.ListN.{length}
@@ -26,7 +25,7 @@ returns c =
     none-first-alone (s .args .interrupts .now) (s .pre .0) (s .pre .1 .1) bare
 
 loop-holds : tie.Need-loop-holds Inv-loop μ-loop
-loop-holds c = tried-none _ _ _
+loop-holds c = tried-none _ (c .before .before .before .args .figures .now) _
 
 alone-requires : tie.Need-alone-requires Inv-loop μ-loop
 alone-requires c κs =
@@ -47,7 +46,7 @@ add-result c = omega (arith, small (c .before))
 returns-2 : tie.Need-returns-2 Inv-loop μ-loop
 returns-2 c =
     let d = c .before in
-    tried-found _ _ _ (at d .loop .inv) (d .before .loop-test .taken) (sym (d .alone .ensures) ∙ not-true _ (c .if2 .taken))
+    tried-found _ (at d .before .before .before .before .args .figures .now) _ (at d .loop .inv) (d .before .loop-test .taken) (sym (d .alone .ensures) ∙ not-true _ (c .if2 .taken))
 
 add-i : tie.Need-add-i Inv-loop μ-loop
 add-i c = omega (arith, small (c .before))
@@ -58,10 +57,10 @@ loop-less c = omega (arith, c .before .before .loop-test .taken)
 loop-again : tie.Need-loop-again Inv-loop μ-loop
 loop-again c =
     let d = c .before in
-    tried-next _ _ _ (at d .loop .inv) (d .before .loop-test .taken) (sym (d .alone .ensures) ∙ not-false _ (c .if2 .left))
+    tried-next _ (at d .before .before .before .before .args .figures .now) _ (at d .loop .inv) (d .before .loop-test .taken) (sym (d .alone .ensures) ∙ not-false _ (c .if2 .left))
 
 returns-3 : tie.Need-returns-3 Inv-loop μ-loop
-returns-3 c = tried-all _ _ _ (c .before .loop .inv) (c .loop-test .left)
+returns-3 c = tried-all _ (c .before .before .before .before .before .args .figures .now) _ (c .before .loop .inv) (c .loop-test .left)
 
 pub first-alone-spec : {M : Type 1} → statement M
 first-alone-spec =

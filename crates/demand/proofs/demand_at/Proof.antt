@@ -4,7 +4,7 @@ use Prim.Native.Nat.{ℕ, _+_, _*_, _-_, _^_, _≤_, _<_}
 use mathlib.Core.Path.{_≡_, refl, ap, _∙_}
 use borrow.Author.Needs.{needs}
 use native.Mathlib.Omega.{arith}
-use Rattle.demand.specs.Load.{Sound, loadAt, loadsOf}
+use Rattle.demand.specs.Load.{each, Sound, loadAt, loadsOf}
 use Rattle.demand.specs.Demand.{jobs, demand}
 use Rattle.demand.proofs.Demand.{every-at, demand-next, demand-room}
 use Rattle.demand.proofs.demand_at.Statement.{statement}
@@ -23,7 +23,7 @@ start c = c .before .before .before
 here : (c : tie.In-loop Inv-loop μ-loop) → Sound (loadAt (start c .args .loads .now) (c .before .loop .i))
 here c =
     let s = start c in
-    every-at (s .args .loads .now) Sound (s .args .n) (c .loop-test .taken) (s .pre .0 .sound)
+    every-at (loadAt (s .args .loads .now)) Sound (s .args .n) (c .loop-test .taken) (s .pre .0 .sound)
 
 room : (c : tie.In-loop Inv-loop μ-loop) →
     let l = loadAt (start c .args .loads .now) (c .before .loop .i) in
@@ -40,7 +40,7 @@ room c =
     )
 
 loop-holds : tie.Need-loop-holds Inv-loop μ-loop
-unfolding loadsOf demand
+unfolding each demand
 loop-holds c = (omega arith, refl)
 
 mul-at : tie.Need-mul-at Inv-loop μ-loop

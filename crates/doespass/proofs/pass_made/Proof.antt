@@ -4,9 +4,11 @@ use borrow.Author.Needs.{needs}
 use borrow.Author.Tests.{not-true, not-false}
 use mathlib.Core.Path.{_≡_, sym, _∙_}
 use mathlib.Core.Bool.{true}
+use native.Mathlib.Omega.{arith}
 use lib.ListN.{length, length-map}
 use Rattle.tasks.specs.Set.{mostTasks}
 use Rattle.named.specs.Named.{isServer}
+use Rattle.named.proofs.NamedLaws.{server-within}
 use Rattle.plancheck.proofs.Checked.{of-set}
 use Rattle.planserver.proofs.Judging.{own-recorded}
 use Rattle.doespass.proofs.PassLaws.{pass-absent, pass-there}
@@ -38,7 +40,9 @@ pass-own-requires : tie.Need-pass-own-requires
 pass-own-requires c κs =
     let e = c .before in
     let a = start e .args in
-    own-recorded (a .set) (full e) (of-set (a .set) (full e) (a .plan) (start e .pre) .clear) (a .server) (c .record-of .ensures)
+    let own = of-set (a .set) (full e) (a .plan) (start e .pre) in
+    let within = server-within (a .plan) (a .server) (there e) in
+    own-recorded (a .set) (full e) (own .clear) (a .server) (c .record-of .ensures) (within .0) (omega (arith, within .1, own .servers))
 
 returns-2 : tie.Need-returns-2
 returns-2 c =

@@ -13,7 +13,7 @@ returns c =
       c .before .before .before .number-at5 .ensures,
       c .before .before .number-at6 .ensures,
       c .before .number-at7 .ensures,
-      c .masked-from .ensures,
+      c .optional-from .ensures,
     )
 
 pub header-from-spec : {M : Type 1} → statement M

@@ -4,7 +4,8 @@ use Rattle.handedset.proofs.task_from.Statement.{statement}
 use Rattle.handedset.proofs.task_from.Tie as tie
 
 returns : tie.Need-returns
-returns c = rw (c .before .before .before .number-at .ensures, c .before .before .number-at2 .ensures, c .before .number-at3 .ensures, c .number-at4 .ensures)
+returns c =
+    rw (c .before .before .before .before .number-at .ensures, c .before .before .before .number-at2 .ensures, c .before .before .number-at3 .ensures, c .before .number-at4 .ensures, c .optional-from .ensures)
 
 pub task-from-spec : {M : Type 1} → statement M
 task-from-spec =
@@ -21,4 +22,6 @@ task-from-spec =
     (λ c. search needs)
     (λ c κs. search needs)
     (λ c. search needs)
+    (λ c. search needs)
+    (λ c κs. search needs)
     returns)

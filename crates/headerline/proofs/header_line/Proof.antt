@@ -1,5 +1,5 @@
 -- `header_line` meets its contract: what line 1 is, and what it then answers.
-use mathlib.Core.Logic.{⊎-elim}
+use mathlib.Core.Logic.{inl, inr, ⊎-elim}
 use mathlib.Core.Path.{_≡_, sym, ap, _∙_}
 use mathlib.Core.Bool.{true, false}
 use mathlib.Core.List.{List}
@@ -18,7 +18,7 @@ use Rattle.headerline.specs.Answer.{headerOr}
 use Rattle.frameread.proofs.KindLaws.{kind-formed, kind-none}
 use Rattle.taskfile.proofs.Past.{nothing-left}
 use Rattle.taskfile.proofs.Lines.{admits-none, first-missing, first-header, first-task, first-masked, first-interrupt, first-other}
-use Rattle.taskfile.proofs.Standing.{byte-there, tag-formed, other-frame}
+use Rattle.taskfile.proofs.Standing.{byte-there, tag-formed, tag-task, other-frame}
 use borrow.Author.Needs.{needs}
 use Rattle.headerline.proofs.header_line.Statement.{statement}
 use Rattle.headerline.proofs.header_line.Tie as tie
@@ -63,10 +63,12 @@ returns-4 c =
     sym
     (ap (given text)
     (⊎-elim
-    (λ (task : tagOf the-type frame ≡ 1). first-task text (tag-formed frame Frame.Task text task (is-formed (c .before))))
+    (λ (task : tagOf the-type frame ≡ 1). first-task text (tag-task frame text (inl task) (is-formed (c .before)) .0))
     (⊎-elim
-    (λ (masked : tagOf the-type frame ≡ 2). first-masked text (tag-formed frame Frame.Masked text masked (is-formed (c .before))))
-    (λ (interrupt : tagOf the-type frame ≡ 3). first-interrupt text (tag-formed frame Frame.Interrupt text interrupt (is-formed (c .before)))))
+    (λ (task : tagOf the-type frame ≡ 2). first-task text (tag-task frame text (inr task) (is-formed (c .before)) .0))
+    (⊎-elim
+    (λ (masked : tagOf the-type frame ≡ 3). first-masked text (tag-formed frame Frame.Masked text masked (is-formed (c .before))))
+    (λ (interrupt : tagOf the-type frame ≡ 4). first-interrupt text (tag-formed frame Frame.Interrupt text interrupt (is-formed (c .before))))))
     (c .match2 .keys2)))
 
 returns-5 : tie.Need-returns-5

@@ -1,5 +1,5 @@
 -- `interrupt_row` meets its contract: what a line behind the tasks is, and what it then answers.
-use mathlib.Core.Logic.{⊎-elim}
+use mathlib.Core.Logic.{inl, inr, ⊎-elim}
 use mathlib.Core.Path.{_≡_, sym, ap, _∙_}
 use mathlib.Core.Bool.{true}
 use mathlib.Core.List.{List}
@@ -15,7 +15,7 @@ use Rattle.frameread.specs.declared.Found.{Found}
 use Rattle.frameread.proofs.KindLaws.{kind-formed, kind-none}
 use Rattle.tasks.specs.Set.{mostInterrupts}
 use Rattle.taskfile.proofs.Lines.{admits-none}
-use Rattle.taskfile.proofs.Standing.{tag-formed, other-frame, said-line, said-order, said-masked, said-late, said-full, said-done}
+use Rattle.taskfile.proofs.Standing.{tag-formed, tag-task, other-frame, said-line, said-order, said-masked, said-late, said-full, said-done}
 use borrow.Author.Needs.{needs}
 use Rattle.interruptline.proofs.interrupt_row.Statement.{statement}
 use Rattle.interruptline.proofs.interrupt_row.Tie as tie
@@ -54,8 +54,10 @@ returns-3 c =
     (⊎-elim
     (λ (header : tagOf the-type frame ≡ 0). said-order (s .pre .0 .taken) (tag-formed frame Frame.Header (rest s) header (is-formed (c .before))))
     (⊎-elim
-    (λ (task : tagOf the-type frame ≡ 1). said-late (s .pre .0) (tag-formed frame Frame.Task (rest s) task (is-formed (c .before))))
-    (λ (masked : tagOf the-type frame ≡ 2). said-masked (s .pre .0 .taken) (tag-formed frame Frame.Masked (rest s) masked (is-formed (c .before)))))
+    (λ (task : tagOf the-type frame ≡ 1). said-late (s .pre .0) (tag-task frame (rest s) (inl task) (is-formed (c .before)) .0))
+    (⊎-elim
+    (λ (task : tagOf the-type frame ≡ 2). said-late (s .pre .0) (tag-task frame (rest s) (inr task) (is-formed (c .before)) .0))
+    (λ (masked : tagOf the-type frame ≡ 3). said-masked (s .pre .0 .taken) (tag-formed frame Frame.Masked (rest s) masked (is-formed (c .before))))))
     (c .match2 .keys1))
 
 returns-4 : tie.Need-returns-4

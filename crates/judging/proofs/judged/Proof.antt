@@ -7,9 +7,9 @@ use borrow.Author.Needs.{needs}
 use native.Mathlib.Omega.{arith}
 use lib.ListN.{length, take}
 use lib.Seq.{length-take-le}
-use Rattle.demand.specs.Load.{Load}
 use Rattle.verdict.specs.Verdict.{verdictOf}
-use Rattle.loads.specs.Charge.{numbersOf, serverLoads, serverLoss, membersAt, Overheads}
+use Rattle.loads.specs.Charge.{numbersOf, serverLoads, serverLoss, Overheads}
+use Rattle.loads.specs.Figures.{Figures, membersAt}
 use Rattle.members.specs.Server.{Board, boardOf, serverDemand, verdictFor}
 use Rattle.served.proofs.ServedLaws.{small-cache, own-loss, own-room, may-test, front-within, front-is, front-interrupted, front-maskable, front-asked}
 use Rattle.judging.proofs.judged.Statement.{statement}
@@ -17,10 +17,10 @@ use Rattle.judging.proofs.judged.Tie as tie
 
 -- the header's overheads are numbers of two bytes
 overheads : (s : tie.Start) → Overheads (s .args .header)
-overheads s = record { release = search needs; switch = search needs; delay = search needs; cache = search needs }
+overheads s = record { release = search needs; switch = search needs; delay = search needs }
 
 -- the members of the server
-abbrev members : (s : tie.Start) → List Load
+abbrev members : (s : tie.Start) → List Figures
 members s = membersAt (s .args .figures .now) (take (s .args .k) (s .args .places .now))
 
 -- the board
@@ -53,7 +53,7 @@ charge-server-requires c κs =
 loss-requires : tie.Need-loss-requires
 loss-requires c κs =
     let s = start (c .before .before .before) in
-    omega (arith, small-cache (s .pre .0) (overheads s))
+    omega (arith, small-cache (s .pre .0))
 
 -- the entry loss is the server's
 lost : (c : tie.After-loss) → c .loss .result ≡ serverLoss (start (c .before .before .before .before) .args .header) (members (start (c .before .before .before .before)))

@@ -16,16 +16,20 @@ use Rattle.layout.proofs.lay_out.Statement.{statement}
 use Rattle.layout.proofs.lay_out.Tie as tie
 
 abbrev Inv-loop : tie.InvT-loop
-Inv-loop tasks slot cache n reserve placement whole ring idle plan₀ i₀ plan i =
-    (i ≤ n) × FilledWith zeroServer (serverOf slot cache (take tasks placement) (take n reserve)) i (plan .server)
+Inv-loop tasks slot n reserve placement cache whole ring idle plan₀ i₀ plan i =
+    (i ≤ n) × FilledWith zeroServer (serverOf slot (take n cache) (take tasks placement) (take n reserve)) i (plan .server)
     × (plan ≡ with-servers plan₀ (plan .server))
 
 abbrev μ-loop : tie.MeasureT-loop
-μ-loop tasks slot cache n reserve placement whole ring idle plan₀ i₀ plan i = n - i
+μ-loop tasks slot n reserve placement cache whole ring idle plan₀ i₀ plan i = n - i
 
 -- the placement has a place for each task
 full : (c : tie.Start Inv-loop μ-loop) → length (c .args .served .placement) ≡ mostTasks
 full c = sym (length-map (c .args .served .placement) _) ∙ c .good .0 .1 .1 .1 .0 .1 .0 .1
+
+-- and the cache costs one for each server
+costed : (c : tie.Start Inv-loop μ-loop) → length (c .args .served .cache) ≡ mostTasks
+costed c = sym (length-map (c .args .served .cache) _) ∙ c .good .0 .1 .1 .1 .1 .0 .1 .0 .1
 
 -- where the sums are known
 module _ (c : tie.After-ring-ticks Inv-loop μ-loop) where
@@ -36,14 +40,14 @@ module _ (c : tie.After-ring-ticks Inv-loop μ-loop) where
   whole = ring .before .before
 
   abbrev start : tie.Start Inv-loop μ-loop
-  start = whole .before .before .before .before
+  start = whole .before .before .before .before .before
 
   -- there are no more processors than servers
   few : ring .ring-processors .result + whole .whole-count .result ≤ start .args .served .count
   few = sum-few (start .pre .laid) (ring .ring-processors .ensures) (whole .whole-count .ensures)
 
 mul-idle : tie.Need-mul-idle Inv-loop μ-loop
-mul-idle c = omega (arith, ring-fits (c .before .before .before .before .before .before .pre .laid) (c .ring-processors .ensures))
+mul-idle c = omega (arith, ring-fits (c .before .before .before .before .before .before .before .pre .laid) (c .ring-processors .ensures))
 
 sub-idle : tie.Need-sub-idle Inv-loop μ-loop
 sub-idle c = ring-covers (start c .pre .laid) (ring c .ring-processors .ensures) (c .ring-ticks .ensures)
@@ -66,21 +70,21 @@ began l = start (l .before .before .before)
 
 server-of-requires : tie.Need-server-of-requires Inv-loop μ-loop
 server-of-requires c κs =
-    let s = began (c .before .before .before) in
-    ((omega (arith, full s, s .pre .tasks-few), s .pre .tasks-few), (s .pre .laid, omega arith, omega arith))
+    let s = began (c .before .before .before .before) in
+    ((omega (arith, full s, s .pre .tasks-few), s .pre .tasks-few), ((s .pre .laid, omega arith, omega arith), omega (arith, costed s, s .pre .servers-few)))
 
-mul-t37 : tie.Need-mul-t37 Inv-loop μ-loop
-mul-t37 c = omega (arith, began (c .before .before .before .before) .pre .servers-few)
+mul-t39 : tie.Need-mul-t39 Inv-loop μ-loop
+mul-t39 c = omega (arith, began (c .before .before .before .before .before) .pre .servers-few)
 
 element-set-from-plan : tie.Need-element-set-from-plan Inv-loop μ-loop
-element-set-from-plan c = omega (arith, began (c .before .before .before .before) .pre .servers-few)
+element-set-from-plan c = omega (arith, began (c .before .before .before .before .before) .pre .servers-few)
 
 add-i : tie.Need-add-i Inv-loop μ-loop
-add-i c = omega (arith, began (c .before .before .before .before) .pre .servers-few)
+add-i c = omega (arith, began (c .before .before .before .before .before) .pre .servers-few)
 
 loop-again : tie.Need-loop-again Inv-loop μ-loop
 loop-again c =
-    let l = c .before .before .before .before in
+    let l = c .before .before .before .before .before in
     let inv = l .loop .inv in (
       omega arith,
       filled-next (inv .1) refl (omega (arith, began l .pre .servers-few)) (c .server-of .ensures),
@@ -94,7 +98,7 @@ returns c =
     let t = first .before .before in
     let s = start t in
     l .loop .inv .2
-    ∙ laid-made (s .pre) (s .args .cache) (whole t .whole-count .ensures) (ring t .ring-processors .ensures) (t .ring-ticks .ensures)
+    ∙ laid-made (s .pre) (take (s .args .served .count) (s .args .served .cache)) (whole t .whole-count .ensures) (ring t .ring-processors .ensures) (t .ring-ticks .ensures)
     (filled-all (l .loop .inv .1) (omega arith)) (first .first-reserves .ensures)
 
 pub lay-out-spec : {M : Type 1} → statement M
@@ -118,8 +122,9 @@ lay-out-spec =
     (λ c. search needs)
     (λ c. search needs)
     (λ c. search needs)
+    (λ c. search needs)
     server-of-requires
-    mul-t37
+    mul-t39
     element-set-from-plan
     add-i
     (λ c. search needs)

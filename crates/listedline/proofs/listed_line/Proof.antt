@@ -1,4 +1,4 @@
--- `listed_line` meets its contract: rows 3 and 4 at an 02 line, in their order.
+-- `listed_line` meets its contract: rows 3 and 4 at a task's line, in their order.
 use Prim.Native.Nat.{_+_}
 use mathlib.Core.Path.{_≡_, sym, ap, _∙_}
 use mathlib.Core.Bool.{Bool, true, false}
@@ -25,13 +25,13 @@ given s o = taskOr o (taskAt (drop (s .args .at) (now (s .args .text))))
 returns : tie.Need-returns
 returns c =
     let s = c .before .before .before in
-    sym (ap (given s) (said-count (s .pre .0) (s .pre .1 .1) (now (s .args .ids)) (s .pre .1 .0) (c .if1 .taken)))
+    sym (ap (given s) (said-count (s .pre .0) (s .pre .1 .1 .0) (now (s .args .ids)) (s .pre .1 .0) (c .if1 .taken)))
 
 -- what the search for the id says of the line
 by-id : (c : tie.After-holds-id) (b : Bool) → c .holds-id .result ≡ b → lineOutcome (now (c .before .before .before .before .before .args .text)) (c .before .before .before .before .before .args .lines + 1) ≡ when b (Twice (c .before .before .before .before .before .args .lines + 1))
 by-id c b e =
     let s = c .before .before .before .before .before in
-    said-twice (s .pre .0) (s .pre .1 .1) (now (s .args .ids)) (s .pre .1 .0) (c .before .before .if1 .left) b
+    said-twice (s .pre .0) (s .pre .1 .1 .0) (now (s .args .ids)) (s .pre .1 .0) (c .before .before .if1 .left) b
     (ap (λ (t : Task). some (λ i. eqb i (t .id)) (now (s .args .ids))) (sym (c .before .task-at .ensures)) ∙ (sym (c .holds-id .ensures) ∙ e))
 
 returns-2 : tie.Need-returns-2

@@ -7,8 +7,8 @@ use native.Mathlib.Omega.{arith}
 use lib.ListN.{length, getD, length-set}
 use Rattle.digits.specs.Stored.{stored}
 use Rattle.digits.proofs.Stored.{stored-nil}
-use Rattle.demand.specs.Load.{loadAt}
 use Rattle.loads.specs.Charge.{numbersOf, Member}
+use Rattle.loads.specs.Figures.{figuresAt}
 use Rattle.loads.proofs.ChargeLaws.{chargedTo, charge-step}
 use Rattle.loads.proofs.charge.Statement.{statement}
 use Rattle.loads.proofs.charge.Tie as tie
@@ -25,10 +25,10 @@ module _ (c : tie.After-shared-slice-known3 Inv-loop μ-loop) where
   abbrev start : tie.Start Inv-loop μ-loop
   start = c .before .before .before .before .before .before
 
-  there : 3 * getD (start .args .places .now) (c .before .before .loop .i) 0 + 2 < length (start .args .figures .now)
+  there : 4 * getD (start .args .places .now) (c .before .before .loop .i) 0 + 3 < length (start .args .figures .now)
   there = start .pre .there (c .before .before .loop .i) (c .before .loop-test .taken)
 
-  member : Member (start .args .header) (loadAt (start .args .figures .now) (getD (start .args .places .now) (c .before .before .loop .i) 0))
+  member : Member (start .args .header) (figuresAt (start .args .figures .now) (getD (start .args .places .now) (c .before .before .loop .i) 0))
   member = start .pre .members (c .before .before .loop .i) (c .before .loop-test .taken)
 
   room : 3 * c .before .before .loop .i + 3 ≤ length (start .args .loads .now)

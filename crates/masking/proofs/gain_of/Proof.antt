@@ -6,8 +6,8 @@ use mathlib.Core.Logic.{⊎-elim}
 use borrow.Author.Needs.{needs}
 use native.Mathlib.Omega.{arith}
 use Rattle.laws.proofs.Orders.{eq-or-ne}
-use Rattle.demand.specs.Load.{loadAt, loadsOf}
-use Rattle.demand.proofs.Demand.{loads-next, loads-length}
+use Rattle.demand.specs.Load.{each, loadAt, loadsOf}
+use Rattle.demand.proofs.Demand.{each-next, each-length}
 use Rattle.masking.specs.Masking.{soonest, latest, gainOf}
 use Rattle.masking.proofs.EndsLaws.{soonest-alone, soonest-more, latest-next}
 use Rattle.masking.proofs.gain_of.Statement.{statement}
@@ -21,7 +21,7 @@ abbrev μ-loop : tie.MeasureT-loop
 μ-loop loads n masked from₀ until₀ i₀ from until i = n - i
 
 loop-holds : tie.Need-loop-holds Inv-loop μ-loop
-unfolding loadsOf soonest latest
+unfolding each soonest latest
 loop-holds c = (omega arith, (refl, refl))
 
 mul-d : tie.Need-mul-d Inv-loop μ-loop
@@ -42,17 +42,17 @@ from-next c =
     let numbers = s .before .args .loads .now in
     let i = s .loop .i in
     let l = loadAt numbers i in
-    rw (loads-next numbers i)
+    rw (each-next (loadAt numbers) i)
     (⊎-elim
     (λ (e : i ≡ 0).
     let one : c .before .if1 .from ≡ l .deadline = ⊎-elim (λ w. w .1) (λ w. absurd (w .0 .left e)) (c .before .if1 .came) in
     ⊎-elim
     (λ w. omega (arith, w .0 .taken, w .1))
-    (λ w. omega (arith, w .1, one, soonest-alone (loadsOf numbers i) l (omega (arith, loads-length numbers i))))
+    (λ w. omega (arith, w .1, one, soonest-alone (loadsOf numbers i) l (omega (arith, each-length (loadAt numbers) i))))
     (c .if2 .came))
     (λ (n : i ≡ 0 → ⊥).
     let same : c .before .if1 .from ≡ s .loop .from = ⊎-elim (λ w. absurd (n (w .0 .taken))) (λ w. w .1) (c .before .if1 .came) in
-    let next = soonest-more (loadsOf numbers i) l (omega (arith, loads-length numbers i)) in
+    let next = soonest-more (loadsOf numbers i) l (omega (arith, each-length (loadAt numbers) i)) in
     ⊎-elim
     (λ w. omega (arith, w .0 .taken, w .1, same, next))
     (λ w. omega (arith, w .0 .left, w .1, same, next))
@@ -68,7 +68,7 @@ until-next c =
     let numbers = s .before .args .loads .now in
     let i = s .loop .i in
     let next = latest-next (loadsOf numbers i) (loadAt numbers i) in
-    rw (loads-next numbers i)
+    rw (each-next (loadAt numbers) i)
     (⊎-elim (λ w. omega (arith, w .0 .taken, w .1, next)) (λ w. omega (arith, w .0 .left, w .1, next)) (c .if3 .came))
 
 loop-again : tie.Need-loop-again Inv-loop μ-loop

@@ -1,27 +1,30 @@
--- `task_overflows` meets its contract: the line's values are tested.
+-- `task_overflows` meets its contract: the values of the task's line are tested.
 -- Assumes nothing.
-use Prim.Native.Nat.{ℕ, _≤_}
 use native.Mathlib.Omega.{arith}
-use mathlib.Core.List.{List}
-use mathlib.Core.Path.{_≡_, sym, _∙_, ap}
+use mathlib.Core.Path.{_∙_, ap}
 use lib.ListN.{length}
 use borrow.Author.Needs.{needs}
 use Rattle.framesizes.specs.Overflow.{lineOverflows}
 use Rattle.frames.specs.Table.{widthsOf, fieldsIn}
-use Rattle.frames.specs.declared.table.Frame.{Frame}
+use Rattle.taskframe.proofs.FrameLaws.{task-fields}
 use Rattle.taskask.specs.Ask.{taskOverflows}
 use Rattle.overflowing.proofs.task_overflows.Statement.{statement}
 use Rattle.overflowing.proofs.task_overflows.Tie as tie
 
 overflows-requires : tie.Need-overflows-requires
 unfolding widthsOf
-overflows-requires c κs = omega (arith, ap length (c .before .task-values .ensures))
+overflows-requires c κs =
+    let v = c .before .before in
+    omega (arith, ap fieldsIn (c .before .task-frame .ensures), ap length (v .task-values .ensures), task-fields (v .before .args .task))
 
 returns : tie.Need-returns
 unfolding taskOverflows
-returns c = c .overflows .ensures ∙ ap (lineOverflows Frame.Task) (c .before .before .task-values .ensures)
+returns c =
+    let f = c .before .before in
+    c .overflows .ensures
+    ∙ (λ i. lineOverflows (f .task-frame .ensures i) (f .before .task-values .ensures i))
 
 pub task-overflows-spec : {M : Type 1} → statement M
 task-overflows-spec =
     tie.close
-    (tie.spec (λ c κs. search needs) (λ c. search needs) overflows-requires returns)
+    (tie.spec (λ c κs. search needs) (λ c κs. search needs) (λ c. search needs) overflows-requires returns)

@@ -45,13 +45,13 @@ returns c =
 
 lay-out-requires : tie.Need-lay-out-requires
 lay-out-requires c κs =
-    let at = c .before .before .before in
+    let at = c .before .before in
     let s = start at in
     set-layable (s .args .set) (full s) (s .pre .0) (s .pre .1)
 
 returns-2 : tie.Need-returns-2
 returns-2 c =
-    let left = c .before .before in
+    let left = c .before in
     let at = left .before .before in
     let s = start at in
     let within : at .processors-of .result ≤ s .args .set .header .processors = omega (arith, left .if1 .left) in
@@ -68,6 +68,5 @@ planned-spec =
     cast-t9
     (λ c κs. search needs)
     returns
-    (λ c. search needs)
     lay-out-requires
     returns-2)

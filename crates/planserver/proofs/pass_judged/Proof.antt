@@ -10,7 +10,7 @@ use lib.Seq.{length-take-le}
 use Rattle.interrupting.specs.Interrupts.{boundNumbers}
 use Rattle.tasks.specs.declared.set.TaskSet.{TaskSet}
 use Rattle.tasks.specs.Set.{mostTasks}
-use Rattle.loads.specs.Charge.{membersAt}
+use Rattle.loads.specs.Figures.{membersAt}
 use Rattle.members.specs.Server.{Board, boardOf, verdictFor}
 use Rattle.setfigures.specs.Figures.{figureNumbers}
 use Rattle.setfigures.specs.Board.{setInterrupts}

@@ -1,4 +1,4 @@
--- `record_of` meets its contract: the plan's placement and reserves are the set's.
+-- `record_of` meets its contract: the plan's placement, reserves and cache costs are the set's.
 -- Assumes nothing.
 use borrow.Author.Needs.{needs}
 use native.Mathlib.Omega.{arith}
@@ -28,26 +28,28 @@ slice-aggregate-server-of c = sym (placed (c .before .before .before .before))
 
 server-of-requires : tie.Need-server-of-requires
 server-of-requires c κs =
-    let rows = c .before .before in
-    let s = rows .before .before .before in
-    let a = s .args in
-    let few = count-most (a .set) (full s) (of-set (a .set) (full s) (a .plan) (s .pre .0) .clear) in
-    ((omega (arith, few, placed s), few), row-laid (a .set) (full s) (a .plan) (s .pre .0) (a .server) (s .pre .1) (room s) (rows .reserves .ensures))
-
-returns : tie.Need-returns
-returns c =
     let rows = c .before .before .before in
     let s = rows .before .before .before in
     let a = s .args in
-    c .server-of .ensures ∙ row-server (a .set) (full s) (a .plan) (s .pre .0) (a .server) (s .pre .1) (rows .reserves .ensures)
+    let few = count-most (a .set) (full s) (of-set (a .set) (full s) (a .plan) (s .pre .0) .clear) in
+    let laid = row-laid (a .set) (full s) (a .plan) (s .pre .0) (a .server) (s .pre .1) (room s) (rows .before .reserves .ensures) in
+    ((omega (arith, few, placed s), few), (laid, omega (arith, laid .0 .few, rows .caches .ok)))
+
+returns : tie.Need-returns
+returns c =
+    let rows = c .before .before .before .before in
+    let s = rows .before .before .before in
+    let a = s .args in
+    c .server-of .ensures ∙ row-server (a .set) (full s) (a .plan) (s .pre .0) (a .server) (s .pre .1) (rows .caches .ensures) (rows .before .reserves .ensures)
 
 pub record-of-spec : {M : Type 1} → statement M
 record-of-spec =
     tie.close
     (tie.spec
-    (λ c. search needs)
+    (λ c κs. search needs)
     (λ c κs. search needs)
     slice-aggregate-server-of
+    (λ c. search needs)
     (λ c. search needs)
     server-of-requires
     returns)

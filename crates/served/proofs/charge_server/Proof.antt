@@ -7,14 +7,11 @@ use borrow.Author.Needs.{needs}
 use native.Mathlib.Omega.{arith}
 use lib.ListN.{take}
 use Rattle.digits.specs.Stored.{stored}
-use Rattle.loads.specs.Charge.{numbersOf, serverLoads, membersAt, Overheads}
+use Rattle.loads.specs.Charge.{numbersOf, serverLoads}
+use Rattle.loads.specs.Figures.{membersAt}
 use Rattle.served.proofs.ServedLaws.{small-cache, may-charge, charged-room, put-behind, left-timed, horizon-found, horizon-not-past}
 use Rattle.served.proofs.charge_server.Statement.{statement}
 use Rattle.served.proofs.charge_server.Tie as tie
-
--- the header's overheads are numbers of two bytes
-overheads : (s : tie.Start) → Overheads (s .args .header)
-overheads s = record { release = search needs; switch = search needs; delay = search needs; cache = search needs }
 
 -- once the interrupts' numbers stand behind the members', charged
 module _ (c : tie.After-put-figures) where
@@ -31,7 +28,7 @@ module _ (c : tie.After-put-figures) where
 charge-requires : tie.Need-charge-requires
 charge-requires c κs =
     let s = c .before .before .before .before .before in
-    may-charge (s .pre .0) _ _ (omega (arith, small-cache (s .pre .0) (overheads s))) (omega (arith, s .pre .1 .1))
+    may-charge (s .pre .0) _ _ (omega (arith, small-cache (s .pre .0))) (omega (arith, s .pre .1 .1))
 
 mul-put-figures : tie.Need-mul-put-figures
 mul-put-figures c = omega (arith, c .before .before .before .before .before .before .before .before .before .pre .0 .few)

@@ -7,22 +7,22 @@ use native.Mathlib.Omega.{arith}
 use lib.ListN.{length, length-map}
 use Rattle.digits.proofs.Stored.{stored-nil}
 use Rattle.tasks.specs.Set.{mostTasks}
-use Rattle.loads.specs.Charge.{numbersOf}
+use Rattle.loads.specs.Figures.{ownNumbers}
 use Rattle.setfigures.specs.Figures.{setFigures, figureNumbers}
-use Rattle.setfigures.proofs.FigureLaws.{figuresTo, figures-next}
+use Rattle.setfigures.proofs.FigureLaws.{numbersTo, numbers-next}
 use Rattle.setfigures.proofs.figures.Statement.{statement}
 use Rattle.setfigures.proofs.figures.Tie as tie
 
 abbrev Inv-loop : tie.InvT-loop
-Inv-loop set count numbers₀ i₀ numbers i = (i ≤ count) × (numbers ≡ figuresTo (set .tasks) i)
+Inv-loop set header count numbers₀ i₀ numbers i = (i ≤ count) × (numbers ≡ numbersTo header (set .tasks) i)
 
 abbrev μ-loop : tie.MeasureT-loop
-μ-loop set count numbers₀ i₀ numbers i = count - i
+μ-loop set header count numbers₀ i₀ numbers i = count - i
 
 -- the task that was read is one of few
 module _ (c : tie.After-task Inv-loop μ-loop) where
   abbrev start : tie.Start Inv-loop μ-loop
-  start = c .before .before .before
+  start = c .before .before .before .before
 
   few : c .before .before .loop .i < mostTasks
   few = omega (arith, start .pre, c .before .loop-test .taken)
@@ -31,7 +31,7 @@ module _ (c : tie.After-task Inv-loop μ-loop) where
   there = omega (arith, few, sym (length-map (start .args .t1 .tasks) _) ∙ start .good .0 .1 .1 .1 .1 .0 .1 .0 .1)
 
 loop-holds : tie.Need-loop-holds Inv-loop μ-loop
-unfolding numbersOf
+unfolding ownNumbers
 loop-holds c = (omega arith, sym (stored-nil _ _))
 
 mul-task : tie.Need-mul-task Inv-loop μ-loop
@@ -67,6 +67,15 @@ mul-numbers-3 c = omega (arith, few (c .before .before .before))
 array-write-numbers-3 : tie.Need-array-write-numbers-3 Inv-loop μ-loop
 array-write-numbers-3 c = omega (arith, few (c .before .before .before))
 
+add-numbers-3 : tie.Need-add-numbers-3 Inv-loop μ-loop
+add-numbers-3 c = omega (arith, few (c .before .before .before .before))
+
+mul-numbers-4 : tie.Need-mul-numbers-4 Inv-loop μ-loop
+mul-numbers-4 c = omega (arith, few (c .before .before .before .before))
+
+array-write-numbers-4 : tie.Need-array-write-numbers-4 Inv-loop μ-loop
+array-write-numbers-4 c = omega (arith, few (c .before .before .before .before))
+
 add-i : tie.Need-add-i Inv-loop μ-loop
 add-i c = omega arith
 
@@ -75,16 +84,16 @@ loop-less c = omega arith
 
 loop-again : tie.Need-loop-again Inv-loop μ-loop
 loop-again c =
-    let k = c .before .before .before in
+    let k = c .before .before .before .before in
     let l = k .before .before .loop in
-    (omega arith, figures-next (start k .args .t1 .tasks) (l .i) (there k) (few k) (l .inv .1))
+    (omega arith, numbers-next (start k .args .t1 .header) (start k .args .t1 .tasks) (l .i) (there k) (few k) (l .inv .1) (c .cache-cost .ensures))
 
 returns : tie.Need-returns Inv-loop μ-loop
 unfolding figureNumbers setFigures
 returns c =
     let l = c .before .loop in
-    let s = c .before .before in
-    l .inv .1 ∙ ap (figuresTo (s .args .t1 .tasks)) (let all : l .i ≡ s .args .t1 .count = omega (arith, l .inv .0, c .loop-test .left) in all)
+    let s = c .before .before .before in
+    l .inv .1 ∙ ap (numbersTo (s .args .t1 .header) (s .args .t1 .tasks)) (let all : l .i ≡ s .args .t1 .count = omega (arith, l .inv .0, c .loop-test .left) in all)
 
 pub figures-spec : {M : Type 1} → statement M
 figures-spec =
@@ -107,6 +116,11 @@ figures-spec =
     add-numbers-2
     mul-numbers-3
     array-write-numbers-3
+    (λ c κs. search needs)
+    (λ c. search needs)
+    add-numbers-3
+    mul-numbers-4
+    array-write-numbers-4
     add-i
     loop-less
     loop-again

@@ -6,22 +6,22 @@ use borrow.Author.Needs.{needs}
 use native.Mathlib.Omega.{arith}
 use lib.ListN.{length, take}
 use lib.Seq.{length-take-le}
-use Rattle.charging.specs.Charging.{entryLoss}
-use Rattle.demand.specs.Load.{Load, loadsOf}
 use Rattle.verdict.specs.Reserve.{smallestReserve}
 use Rattle.tasks.specs.Set.{mostTasks, mostInterrupts}
 use Rattle.places.specs.Places.{chosen}
-use Rattle.loads.specs.Charge.{numbersOf, serverLoads, membersAt, Overheads}
+use Rattle.loads.specs.Charge.{numbersOf, serverLoads, Overheads}
+use Rattle.loads.specs.Figures.{Figures, figuresTo, membersAt}
+use Rattle.charging.specs.Charging.{entryLoss}
 use Rattle.members.specs.Server.{Board, boardOf, serverDemand, serverHorizon, reserveFor}
 use Rattle.served.specs.Served.{Served}
-use Rattle.served.proofs.ServedLaws.{own-loss, own-room, may-test, front-within, front-is, front-interrupted, front-maskable, front-asked}
+use Rattle.served.proofs.ServedLaws.{small-cache, own-loss, own-room, may-test, front-within, front-is, front-interrupted, front-maskable, front-asked}
 use Rattle.taking.proofs.ChargedLaws.{Standing, standing-found, standing-served}
 use Rattle.sizing.proofs.reserve_of.Statement.{statement}
 use Rattle.sizing.proofs.reserve_of.Tie as tie
 
 -- the header's overheads are numbers of two bytes
 overheads : (s : tie.Start) → Overheads (s .args .header)
-overheads s = record { release = search needs; switch = search needs; delay = search needs; cache = search needs }
+overheads s = record { release = search needs; switch = search needs; delay = search needs }
 
 -- the board
 abbrev board : (s : tie.Start) → Board
@@ -30,19 +30,19 @@ board s = boardOf (s .args .header) (s .args .interrupts .now)
 -- once the members' places are found
 module _ (c : tie.After-places-of) where
   abbrev start : tie.Start
-  start = c .before .before .before .before .before .before
+  start = c .before .before .before .before .before
 
   abbrev found : List ℕ
   found = c .places-of .last .1 .1 .1 .0
 
   standing : Standing (start .args .figures .now) (start .args .n)
-      (chosen (loadsOf (start .args .figures .now) (start .args .n)) (take (start .args .n) (start .args .placement .now)) (start .args .q)) found (c .places-of .result)
+      (chosen (figuresTo (start .args .figures .now) (start .args .n)) (take (start .args .n) (start .args .placement .now)) (start .args .q)) found (c .places-of .result)
   standing =
-      standing-found (start .args .figures .now) (start .args .placement .now) _ (start .args .n) (start .args .q) (start .pre .1 .1) refl
+      standing-found (start .args .figures .now) (start .args .placement .now) _ (start .args .n) (start .args .q) (start .pre .1 .1 .0) refl
       (c .places-of .ensures .0) (c .places-of .ensures .1) (start .pre .0 .few)
 
-  served : Served (start .args .header) (start .args .header .cpmdo) (start .args .figures .now) found (c .places-of .result) (start .args .horizon)
-  served = standing-served (start .pre .0) standing
+  served : Served (start .args .header) (start .args .cache) (start .args .figures .now) found (c .places-of .result) (start .args .horizon)
+  served = standing-served (start .args .cache) (start .pre .0) standing (start .pre .1 .1 .1)
 
 -- once they are charged
 module _ (c : tie.After-charge-server) where
@@ -55,7 +55,7 @@ module _ (c : tie.After-charge-server) where
   abbrev loads : List ℕ
   loads = c .charge-server .last .1 .1 .1 .1 .1 .1 .1 .0
 
-  abbrev members : List Load
+  abbrev members : List Figures
   members = membersAt (from .args .figures .now) (take (at-places .places-of .result) (found at-places))
 
   -- how far their numbers and the interrupts' go
@@ -89,6 +89,9 @@ array-share-prefix-loads c = omega (arith, end-small (c .before .before .before)
 slice-aggregate-smallest-reserve : tie.Need-slice-aggregate-smallest-reserve
 slice-aggregate-smallest-reserve c = sym (length-take-le _ _ (omega (arith, inside (c .before .before .before .before))))
 
+loss-requires : tie.Need-loss-requires
+loss-requires c κs = omega (arith, small-cache (served (at-places (c .before .before .before .before))))
+
 smallest-reserve-requires : tie.Need-smallest-reserve-requires
 unfolding entryLoss
 smallest-reserve-requires c κs =
@@ -102,7 +105,7 @@ smallest-reserve-requires c κs =
         record {
           slot-some = t .slot-some;
           slot-small = t .slot-small;
-          loss-small = omega (arith, c .loss .ensures, o .delay, o .cache, s .pre .0 .short);
+          loss-small = omega (arith, c .loss .ensures, o .delay, small-cache w, s .pre .0 .short);
           horizon-small = omega (arith, t .slot-small, t .horizon-small);
         },
         front-maskable w (s .pre .1 .0) (front at) _ (at .charge-server .ensures .0) (omega (arith, c .before .before .before .masked-ticks .ok)),
@@ -129,7 +132,6 @@ reserve-of-spec =
     tie.close
     (tie.spec
     (λ c. search needs)
-    (λ c. search needs)
     (λ c κs. search needs)
     (λ c. search needs)
     (λ c. search needs)
@@ -141,6 +143,6 @@ reserve-of-spec =
     add-end
     array-share-prefix-loads
     slice-aggregate-smallest-reserve
-    (λ c κs. search needs)
+    loss-requires
     smallest-reserve-requires
     returns)

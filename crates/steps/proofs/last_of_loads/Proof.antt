@@ -5,9 +5,9 @@ use mathlib.Core.Path.{_≡_, ap, ap₂, sym, _∙_}
 use mathlib.Core.List.{List, []}
 use borrow.Author.Needs.{needs}
 use native.Mathlib.Omega.{arith}
-use Rattle.demand.specs.Load.{Load, Sound, loadAt, loadsOf}
+use Rattle.demand.specs.Load.{each, Load, Sound, loadAt, loadsOf}
 use Rattle.demand.specs.Demand.{demand}
-use Rattle.demand.proofs.Demand.{demand-nil, every-first, every-at, loads-next}
+use Rattle.demand.proofs.Demand.{demand-nil, every-first, every-at, each-next}
 use Rattle.steps.proofs.RisenLaws.{lastOf, last-nothing, last-snoc}
 use Rattle.steps.proofs.last_of_loads.Statement.{statement}
 use Rattle.steps.proofs.last_of_loads.Tie as tie
@@ -25,10 +25,10 @@ start c = c .before .before .before
 here : (c : tie.In-loop Inv-loop μ-loop) → Sound (loadAt (start c .args .loads .now) (c .before .loop .i))
 here c =
     let s = start c in
-    every-at (s .args .loads .now) Sound (s .args .n) (c .loop-test .taken) (s .pre .sound)
+    every-at (loadAt (s .args .loads .now)) Sound (s .args .n) (c .loop-test .taken) (s .pre .sound)
 
 loop-holds : tie.Need-loop-holds Inv-loop μ-loop
-unfolding loadsOf
+unfolding each
 loop-holds c = (omega arith, sym (last-nothing (demand []) (c .before .args .hi) demand-nil))
 
 mul-at : tie.Need-mul-at Inv-loop μ-loop
@@ -49,11 +49,11 @@ loop-again c =
     let s = start turn in
     let a = s .args in
     let i = turn .before .loop .i in
-    let sound = every-first (a .loads .now) Sound (a .n) (turn .before .loop .inv .0) (s .pre .sound) in (
+    let sound = every-first (loadAt (a .loads .now)) Sound (a .n) (turn .before .loop .inv .0) (s .pre .sound) in (
       omega arith,
       c .larger .ensures ∙ ap₂ max (turn .before .loop .inv .1) (c .before .last-due .ensures) ∙
           sym
-          (ap (λ (ls : List Load). lastOf (demand ls) (a .hi)) (loads-next (a .loads .now) i) ∙
+          (ap (λ (ls : List Load). lastOf (demand ls) (a .hi)) (each-next (loadAt (a .loads .now)) i) ∙
           last-snoc (loadsOf (a .loads .now) i) (loadAt (a .loads .now) i) (a .hi) sound (here turn)),
     )
 

@@ -7,9 +7,9 @@ use borrow.Author.Needs.{needs}
 use native.Mathlib.Omega.{arith}
 use lib.ListN.{length, take}
 use lib.Seq.{length-take-le}
-use Rattle.demand.specs.Load.{Load}
 use Rattle.verdict.specs.Verdict.{passing}
-use Rattle.loads.specs.Charge.{numbersOf, serverLoads, membersAt, Overheads}
+use Rattle.loads.specs.Charge.{numbersOf, serverLoads, Overheads}
+use Rattle.loads.specs.Figures.{Figures, membersAt}
 use Rattle.members.specs.Server.{Board, boardOf, serverDemand}
 use Rattle.members.proofs.BoundedLaws.{bounded-sound}
 use Rattle.served.proofs.ServedLaws.{own-room, may-test, front-within, front-is, front-interrupted, front-maskable, front-asked}
@@ -19,10 +19,10 @@ use Rattle.taking.proofs.passes_whole.Tie as tie
 
 -- the header's overheads are numbers of two bytes
 overheads : (s : tie.Start) → Overheads (s .args .header)
-overheads s = record { release = search needs; switch = search needs; delay = search needs; cache = search needs }
+overheads s = record { release = search needs; switch = search needs; delay = search needs }
 
 -- the members
-abbrev members : (s : tie.Start) → List Load
+abbrev members : (s : tie.Start) → List Figures
 members s = membersAt (s .args .figures .now) (take (s .args .n) (s .args .places .now))
 
 -- the board
@@ -32,7 +32,7 @@ board s = boardOf (s .args .header) (s .args .interrupts .now)
 -- once they are charged
 module _ (c : tie.After-charge-server) where
   abbrev start : tie.Start
-  start = c .before .before .before .before .before .before
+  start = c .before .before .before .before .before
 
   abbrev loads : List ℕ
   loads = c .charge-server .last .1 .1 .1 .1 .1 .1 .1 .0
@@ -49,7 +49,7 @@ module _ (c : tie.After-charge-server) where
 
 charge-server-requires : tie.Need-charge-server-requires
 charge-server-requires c κs =
-    let s = c .before .before .before .before .before in
+    let s = c .before .before .before .before in
     (s .pre .0, (s .pre .1, own-room (s .pre .0) (s .pre .1) refl))
 
 slice-aggregate-passes : tie.Need-slice-aggregate-passes
@@ -89,7 +89,6 @@ pub passes-whole-spec : {M : Type 1} → statement M
 passes-whole-spec =
     tie.close
     (tie.spec
-    (λ c. search needs)
     (λ c. search needs)
     charge-server-requires
     (λ c κs. search needs)

@@ -1,15 +1,14 @@
 -- `takes_task` meets its contract: the members of the server and the task behind them are all that is charged. Assumes nothing.
 use Prim.Native.Nat.{ℕ, _+_, _<_}
 use mathlib.Core.Path.{refl, ap, _∙_}
-use mathlib.Core.List.{List, [], _∷_, _++_}
+use mathlib.Core.List.{List}
 use borrow.Author.Needs.{needs}
 use native.Mathlib.Omega.{arith}
 use lib.ListN.{take, set}
-use Rattle.demand.specs.Load.{loadAt, loadsOf}
 use Rattle.tasks.specs.Set.{mostTasks}
-use Rattle.places.specs.Places.{chosen}
+use Rattle.loads.specs.Figures.{figuresAt, figuresTo}
 use Rattle.members.specs.Server.{boardOf, fits}
-use Rattle.taking.specs.Takes.{takes}
+use Rattle.taking.specs.Takes.{withTask, takes}
 use Rattle.taking.proofs.ChargedLaws.{Standing, standing-joined, standing-served, place-free}
 use Rattle.taking.proofs.takes_task.Statement.{statement}
 use Rattle.taking.proofs.takes_task.Tie as tie
@@ -34,14 +33,14 @@ module _ (c : tie.After-places2) where
 
   free : c .before .places-of .result < mostTasks
   free =
-      place-free (start .args .figures .now) (start .args .placement .now) _ (start .args .i) _ (start .pre .1 .1) refl
+      place-free (start .args .figures .now) (start .args .placement .now) _ (start .args .i) _ (start .pre .1 .1 .0) refl
       (c .before .places-of .ensures .0) (c .before .places-of .ensures .1) below
 
   standing : Standing (start .args .figures .now) (start .args .i + 1)
-      (chosen (loadsOf (start .args .figures .now) (start .args .i)) (take (start .args .i) (start .args .placement .now)) (start .args .q) ++ (loadAt (start .args .figures .now) (start .args .i) ∷ []))
+      (withTask (figuresTo (start .args .figures .now) (start .args .i)) (take (start .args .i) (start .args .placement .now)) (figuresAt (start .args .figures .now) (start .args .i)) (start .args .q))
       joined count
   standing =
-      standing-joined (start .args .figures .now) (start .args .placement .now) _ (start .args .i) (start .args .q) (start .pre .1 .1) refl
+      standing-joined (start .args .figures .now) (start .args .placement .now) _ (start .args .i) (start .args .q) (start .pre .1 .1 .0) refl
       (c .before .places-of .ensures .0) (c .before .places-of .ensures .1) below
 
 array-write-places : tie.Need-array-write-places
@@ -53,7 +52,7 @@ add-passes-whole c = omega (arith, free (c .before))
 passes-whole-requires : tie.Need-passes-whole-requires
 passes-whole-requires c κs =
     let at = c .before in
-    (standing-served (start at .pre .0) (standing at), start at .pre .1 .0)
+    (standing-served _ (start at .pre .0) (standing at) (start at .pre .1 .1 .1), start at .pre .1 .0)
 
 returns : tie.Need-returns
 unfolding takes

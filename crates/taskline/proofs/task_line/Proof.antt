@@ -17,7 +17,7 @@ use Rattle.taskfile.specs.File.{taskAt}
 use Rattle.listedline.specs.Answer.{taskOr}
 use Rattle.frameread.proofs.KindLaws.{kind-formed, kind-none}
 use Rattle.taskfile.proofs.Lines.{admits-none}
-use Rattle.taskfile.proofs.Standing.{tag-formed, other-task, said-line, said-order, said-masked}
+use Rattle.taskfile.proofs.Standing.{tag-formed, tag-task, other-task, said-line, said-order, said-masked}
 use borrow.Author.Needs.{needs}
 use Rattle.taskline.proofs.task_line.Statement.{statement}
 use Rattle.taskline.proofs.task_line.Tie as tie
@@ -42,8 +42,8 @@ is-formed c =
 
 listed-line-requires : tie.Need-listed-line-requires
 listed-line-requires c κs =
-    let s = c .before .before .before .before .before .before .before .before in
-    (s .pre .0, (s .pre .1 .1 .0, ap (λ (f : Frame). formed f (rest s)) (sym (c .enum-told2 .given .1)) ∙ is-formed (c .before .before)))
+    let s = c .before .before .before .before .before .before .before in
+    (s .pre .0, (s .pre .1 .1 .0, tag-task (c .before .before .found .given .0 .0) (rest s) (c .match2 .keys2) (is-formed (c .before))))
 
 returns-2 : tie.Need-returns-2
 returns-2 c =
@@ -53,7 +53,7 @@ returns-2 c =
     (ap (given s)
     (⊎-elim
     (λ (header : tagOf the-type frame ≡ 0). said-order (s .pre .0 .taken) (tag-formed frame Frame.Header (rest s) header (is-formed (c .before))))
-    (λ (masked : tagOf the-type frame ≡ 2). said-masked (s .pre .0 .taken) (tag-formed frame Frame.Masked (rest s) masked (is-formed (c .before))))
+    (λ (masked : tagOf the-type frame ≡ 3). said-masked (s .pre .0 .taken) (tag-formed frame Frame.Masked (rest s) masked (is-formed (c .before))))
     (c .match2 .keys1)))
 
 returns-4 : tie.Need-returns-4
@@ -72,7 +72,6 @@ task-line-spec =
     (λ c. search needs)
     (λ c. search needs)
     returns
-    (λ c. search needs)
     listed-line-requires
     returns-2
     (λ c. search needs)

@@ -4,7 +4,7 @@ use Prim.Native.Nat.{ℕ, _+_, _-_, _≤_, _<_}
 use native.Mathlib.Omega.{arith}
 use mathlib.Core.Bool.{false}
 use mathlib.Core.List.{List}
-use mathlib.Core.Path.{_≡_, refl, sym, _∙_}
+use mathlib.Core.Path.{_≡_, refl, sym, _∙_, ap}
 use borrow.Author.Needs.{needs}
 use borrow.Author.Tests.{not-true, not-false}
 use denote.Ref.{now}
@@ -12,10 +12,11 @@ use lib.ListN.{length, drop}
 use lib.Seq.{length-take-le}
 use Rattle.frameread.specs.Line.{formed}
 use Rattle.frames.specs.declared.table.Frame.{Frame}
-use Rattle.frames.specs.Table.{mostDigits}
+use Rattle.frames.specs.Table.{mostDigits, lengthOf}
 use Rattle.frames.proofs.Tables.{length-most}
 use Rattle.tasks.specs.declared.set.Task.{Task}
 use Rattle.tasks.specs.Set.{mostTasks}
+use Rattle.taskframe.specs.Frames.{taskFrame}
 use Rattle.taskfile.specs.File.{lineOutcome, taskAt}
 use Rattle.listedline.specs.declared.TaskLine.{TaskLine}
 use Rattle.listedline.specs.Answer.{taskOr}
@@ -95,23 +96,24 @@ add-at c = omega (arith, small c)
 
 add-at-2 : tie.Need-add-at-2 Inv-loop μ-loop
 add-at-2 c =
-    let at = turn (c .before) .before in
+    let at = turn (c .before .before) .before in
     let s = at .before .before .before .before in
     omega (arith, small c, at .loop .inv .tasked .taken .within, s .good)
 
 add-lines : tie.Need-add-lines Inv-loop μ-loop
 add-lines c =
-    let taken = turn (c .before) .before .loop .inv .tasked .taken in
+    let taken = turn (c .before .before) .before .loop .inv .tasked .taken in
     omega (arith, taken .lines, taken .few, taken .fewer)
 
 loop-less : tie.Need-loop-less Inv-loop μ-loop
-loop-less c = omega (arith, c .length .ensures, turn (c .before) .loop-test .taken)
+loop-less c = omega (arith, c .length .ensures, turn (c .before .before) .loop-test .taken)
 
 loop-again : tie.Need-loop-again Inv-loop μ-loop
 loop-again c =
-    let k = c .before in
+    let k = c .before .before in
     let task : Task = k .before .line .given .0 .0 in
-    rw (c .length .ensures)
+    let size : c .length .result ≡ lengthOf (taskFrame task) = c .length .ensures ∙ ap lengthOf (c .before .task-frame .ensures) in
+    rw size
     (held-task task (turn k .before .loop .inv) (turn k .loop-test .taken) (other (k .before .before .before .before .before)) (gives k))
 
 returns-2 : tie.Need-returns-2 Inv-loop μ-loop
@@ -142,6 +144,7 @@ task-lines-spec =
     element-set-from-task
     add-set
     array-write-ids
+    (λ c κs. search needs)
     (λ c κs. search needs)
     add-at
     add-at-2

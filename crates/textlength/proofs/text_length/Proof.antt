@@ -1,64 +1,130 @@
--- The bytes of the 01 line, of the 05 line where there is one, of the 02 lines and of the 07 lines, by the table's lengths.
+-- The bytes of the 01 line, of the 05 line where there is one, of the tasks' lines and of the 07 lines, by the table's lengths. The loop's
+-- invariant: the lines of the first `i` tasks are counted.
 -- Assumes nothing.
-use Prim.Native.Nat.{_*_, _≤_}
+use Prim.Native.Nat.{ℕ, _+_, _*_, _-_, _≤_}
+use mathlib.Core.Path.{_≡_, sym, _∙_, ap}
 use native.Mathlib.Omega.{arith}
 use borrow.Author.Needs.{needs}
-use Rattle.frames.specs.Table.{widthsOf, sum}
+use lib.ListN.{length, length-map, take, getD}
+use Rattle.frames.specs.Table.{widthsOf, sum, lengthOf}
+use Rattle.frames.specs.declared.table.Frame.{Frame}
+use Rattle.frames.proofs.Tables.{length-most}
+use Rattle.framelines.proofs.EachLaws.{each-nil}
+use Rattle.tasks.specs.Set.{mostTasks, mostInterrupts, members, zeroTask}
+use Rattle.taskframe.specs.Frames.{taskFrame}
 use Rattle.optionallines.specs.Lines.{maskedLine}
 use Rattle.optionallines.proofs.OptionalLaws.{masked-most}
+use Rattle.tasktext.specs.Text.{taskLine, taskLines}
+use Rattle.tasktext.proofs.TextLaws.{tasks-most, tasks-more, text-bytes}
 use Rattle.textlength.proofs.text_length.Statement.{statement}
 use Rattle.textlength.proofs.text_length.Tie as tie
 
-lines-length-requires : tie.Need-lines-length-requires
+abbrev Inv-loop : tie.InvT-loop
+Inv-loop set first masked n tasks₀ i₀ tasks i = (i ≤ n) × (tasks ≡ length (taskLines (take i (set .tasks))))
+
+abbrev μ-loop : tie.MeasureT-loop
+μ-loop set first masked n tasks₀ i₀ tasks i = n - i
+
+full : (s : tie.Start Inv-loop μ-loop) → length (s .args .t1 .tasks) ≡ mostTasks
+full s = sym (length-map (s .args .t1 .tasks) _) ∙ s .good .0 .1 .1 .1 .1 .0 .1 .0 .1
+
+lines-length-requires : tie.Need-lines-length-requires Inv-loop μ-loop
 lines-length-requires c κs = omega arith
 
-lines-length-requires-2 : tie.Need-lines-length-requires-2
-lines-length-requires-2 c κs = omega (arith, c .before .before .pre .0)
+loop-holds : tie.Need-loop-holds Inv-loop μ-loop
+loop-holds c = (omega arith, sym (ap length (each-nil taskLine)))
 
-lines-length-requires-3 : tie.Need-lines-length-requires-3
-lines-length-requires-3 c κs = omega (arith, c .before .before .before .pre .1)
+element-copy-out-task : tie.Need-element-copy-out-task Inv-loop μ-loop
+element-copy-out-task c = omega (arith, c .before .before .before .before .before .pre .0)
 
-module _ (c : tie.After-lines-length3) where
-  abbrev start : tie.Start
-  start = c .before .before .before .before
+lines-length-requires-2 : tie.Need-lines-length-requires-2 Inv-loop μ-loop
+lines-length-requires-2 c κs = omega arith
 
-  first-most : c .before .before .before .lines-length .result ≤ 31
-  unfolding widthsOf sum
-  first-most = omega (arith, c .before .before .before .lines-length .ensures)
+-- the line of the next task
+module _ (c : tie.After-lines-length2 Inv-loop μ-loop) where
+  abbrev turn : tie.In-loop Inv-loop μ-loop
+  turn = c .before .before .before
 
-  masked-within : c .before .before .masked-length .result ≤ 7
+  abbrev start : tie.Start Inv-loop μ-loop
+  start = turn .before .before .before .before .before
+
+  counted : c .lines-length2 .result ≡ lengthOf (taskFrame (getD (start .args .t1 .tasks) (turn .before .loop .i) zeroTask)) + 1
+  counted = c .lines-length2 .ensures ∙ omega arith ∙ ap (λ (f : Frame). lengthOf f + 1) (c .before .task-frame .ensures)
+
+add-tasks : tie.Need-add-tasks Inv-loop μ-loop
+add-tasks c =
+    let l = turn c .before .loop in
+    let s = start c in
+    omega (arith, counted c, length-most (taskFrame (getD (s .args .t1 .tasks) (l .i) zeroTask)), l .inv .1, tasks-most (s .args .t1 .tasks) (l .i), turn c .loop-test .taken, s .pre .0)
+
+add-i : tie.Need-add-i Inv-loop μ-loop
+add-i c = omega arith
+
+loop-less : tie.Need-loop-less Inv-loop μ-loop
+loop-less c = omega arith
+
+loop-again : tie.Need-loop-again Inv-loop μ-loop
+loop-again c =
+    let l = turn c .before .loop in
+    let s = start c in
+    let next = tasks-more (s .args .t1 .tasks) (l .i) (omega (arith, full s, turn c .loop-test .taken, s .pre .0)) in
+    (omega arith, omega (arith, l .inv .1, counted c, next))
+
+lines-length-requires-3 : tie.Need-lines-length-requires-3 Inv-loop μ-loop
+lines-length-requires-3 c κs = omega (arith, c .before .before .before .before .before .pre .1)
+
+module _ (c : tie.After-lines-length3 Inv-loop μ-loop) where
+  abbrev loop : tie.At-loop Inv-loop μ-loop
+  loop = c .before .before
+
+  abbrev begin : tie.Start Inv-loop μ-loop
+  begin = loop .before .before .before .before
+
+  first-bytes : loop .before .before .before .lines-length .result ≡ lengthOf Frame.Header + 1
+  first-bytes = loop .before .before .before .lines-length .ensures ∙ omega arith
+
+  tasks-all : loop .loop .tasks ≡ length (taskLines (members (begin .args .t1)))
+  tasks-all =
+      let all : loop .loop .i ≡ begin .args .t1 .count = omega (arith, loop .loop .inv .0, c .before .loop-test .left) in
+      loop .loop .inv .1 ∙ ap (λ (k : ℕ). length (taskLines (take k (begin .args .t1 .tasks)))) all
+
+  few : loop .before .before .before .lines-length .result + loop .before .masked-length .result + loop .loop .tasks + c .lines-length3 .result ≤ 65 * 99
   unfolding widthsOf sum maskedLine
-  masked-within = omega (arith, c .before .before .masked-length .ensures, masked-most (start .args .header .masked))
+  few =
+      omega (arith, first-bytes, loop .before .masked-length .ensures, masked-most (begin .args .t1 .header .masked), tasks-all, tasks-most (begin .args .t1 .tasks) (begin .args .t1 .count), begin .pre .0, c .lines-length3 .ensures, begin .pre .1)
 
-  tasks-most : c .before .lines-length2 .result ≤ 64 * 23
-  unfolding widthsOf sum
-  tasks-most = omega (arith, c .before .lines-length2 .ensures, start .pre .0)
+add-result : tie.Need-add-result Inv-loop μ-loop
+add-result c = omega (arith, few c)
 
-  last-most : c .lines-length3 .result ≤ 32 * 27
-  unfolding widthsOf sum
-  last-most = omega (arith, c .lines-length3 .ensures, start .pre .1)
+add-result-2 : tie.Need-add-result-2 Inv-loop μ-loop
+add-result-2 c = omega (arith, few c)
 
-add-result : tie.Need-add-result
-add-result c = omega (arith, first-most c, masked-within c)
+add-result-3 : tie.Need-add-result-3 Inv-loop μ-loop
+add-result-3 c = omega (arith, few c)
 
-add-result-2 : tie.Need-add-result-2
-add-result-2 c = omega (arith, first-most c, masked-within c, tasks-most c)
-
-add-result-3 : tie.Need-add-result-3
-add-result-3 c = omega (arith, first-most c, masked-within c, tasks-most c, last-most c)
-
-returns : tie.Need-returns
-unfolding widthsOf sum
+returns : tie.Need-returns Inv-loop μ-loop
 returns c =
-    omega (arith, c .before .before .before .lines-length .ensures, c .before .before .masked-length .ensures, c .before .lines-length2 .ensures, c .lines-length3 .ensures)
+    let set = begin c .args .t1 in
+    let interrupts : length (set .interrupts .each) ≡ mostInterrupts = sym (length-map (set .interrupts .each) _) ∙ begin c .good .0 .1 .1 .1 .1 .1 .0 .1 .1 .1 .0 .1 .0 .1 in
+    omega (arith, first-bytes c, loop c .before .masked-length .ensures, tasks-all c, c .lines-length3 .ensures, text-bytes set (omega (arith, interrupts, begin c .pre .1)))
 
 pub text-length-spec : {M : Type 1} → statement M
 text-length-spec =
     tie.close
     (tie.spec
+    Inv-loop
+    μ-loop
     lines-length-requires
     (λ c κs. search needs)
+    loop-holds
+    (λ c. search needs)
+    element-copy-out-task
+    (λ c κs. search needs)
     lines-length-requires-2
+    add-tasks
+    add-i
+    loop-less
+    loop-again
     lines-length-requires-3
     add-result
     add-result-2

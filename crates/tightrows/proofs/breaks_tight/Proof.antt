@@ -15,7 +15,7 @@ returns-2 : tie.Need-returns-2
 unfolding tightRow chargedIn
 returns-2 c =
     let due = c .before .before .before .before .before in
-    rw (lt-leb _ _ (due .before .before .before .if1 .left), due .charged-deadline .ensures, c .charged-cost .ensures)
+    rw (lt-leb _ _ (due .before .before .before .if1 .left), due .charged-deadline .ensures, c .charged-cost .ensures, c .before .cache-cost .ensures)
 
 pub breaks-tight-spec : {M : Type 1} → statement M
 breaks-tight-spec =
@@ -29,6 +29,7 @@ breaks-tight-spec =
     (λ c. search needs)
     (λ c. search needs)
     (λ c. search needs)
+    (λ c κs. search needs)
     (λ c. search needs)
     (λ c κs. search needs)
     returns-2)

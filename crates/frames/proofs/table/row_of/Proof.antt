@@ -54,10 +54,15 @@ returns-12 : tie.Need-returns-12
 unfolding kindOf widthsOf sum front rowOf
 returns-12 c = sym (ap rowOf (c .enum-told12 .given .1))
 
+returns-13 : tie.Need-returns-13
+unfolding kindOf widthsOf sum front rowOf
+returns-13 c = sym (ap rowOf (c .enum-told13 .given .1))
+
 pub row-of-spec : {M : Type 1} → statement M
 row-of-spec =
     tie.close
     (tie.spec
+    (λ c. search needs)
     (λ c. search needs)
     (λ c. search needs)
     (λ c. search needs)
@@ -81,4 +86,5 @@ row-of-spec =
     returns-9
     returns-10
     returns-11
-    returns-12)
+    returns-12
+    returns-13)

@@ -8,8 +8,7 @@ use lib.ListN.{length, length-map}
 use Rattle.wholes.specs.Multiple.{leastMultipleOf}
 use Rattle.wholes.specs.declared.Multiple.the-variants.{Within}
 use Rattle.tasks.specs.declared.set.TaskSet.{TaskSet}
-use Rattle.setfigures.specs.Figures.{figureNumbers}
-use Rattle.members.specs.Server.{spaced}
+use Rattle.rows.proofs.Clears.{task-periods}
 use Rattle.rows.proofs.FileOrder.{tasks-apart, tasks-past, tasks-within, periods-apart, periods-passed}
 use Rattle.rows.proofs.rows.horizon_within.Statement.{statement}
 use Rattle.rows.proofs.rows.horizon_within.Tie as tie
@@ -33,7 +32,7 @@ module _ (c : tie.After-multiple-of) where
   abbrev start : tie.Start
   start = listed .before .before .before
 
-  within-is : {first : ℕ} → c .multiple-of .result ≡ Within first → first ≡ leastMultipleOf (own start .header .slot) (spaced (figureNumbers (own start)) 2 3 (own start .count))
+  within-is : {first : ℕ} → c .multiple-of .result ≡ Within first → first ≡ leastMultipleOf (own start .header .slot) (task-periods (own start))
   within-is e =
       tasks-within (own start) (room start) (interrupts-room start) (start .pre) (listed .before .figures .ensures) (sym (c .multiple-of .ensures) ∙ e)
 

@@ -5,7 +5,7 @@ use borrow.Author.Needs.{needs}
 use native.Mathlib.Omega.{arith}
 use mathlib.Core.Bool.{false}
 use mathlib.Core.Path.{_≡_, refl, sym, _∙_, ap}
-use lib.ListN.{length, length-map}
+use lib.ListN.{length}
 use Rattle.refusals.specs.declared.Refusal.the-variants.{Ask, Room}
 use Rattle.refusals.specs.declared.Written.the-variants.{Bytes, Refused}
 use Rattle.tasks.specs.Set.{mostTasks, mostInterrupts}
@@ -13,7 +13,6 @@ use Rattle.tasktext.specs.Text.{textOf}
 use Rattle.taskwrite.specs.Write.{writerAsks}
 use Rattle.taskask.proofs.Carried.{ask-count, count-within, interrupts-within}
 use Rattle.taskwrite.proofs.WriteAsks.{writer-ask, write-ask, write-room, write-bytes, answered}
-use Rattle.tasktext.proofs.TextLaws.{Within, text-bytes}
 use Rattle.taskwrite.proofs.write.write.Statement.{statement}
 use Rattle.taskwrite.proofs.write.write.Tie as tie
 
@@ -33,40 +32,33 @@ within d =
     (count-within set counts .1, interrupts-within set counts)
 
 text-length-requires : tie.Need-text-length-requires
-text-length-requires c κs = let counts = within (c .before) in (counts .0, omega (arith, counts .1))
+text-length-requires c κs = within c
 
 -- the length that is tested is the text's
-size : (d : tie.After-text-length) → d .text-length .result ≡ length (textOf (d .before .before .before .before .before .args .set))
-size d =
-    let s = d .before .before .before .before .before in
-    let set = s .args .set in
-    let counts = within (d .before .before) in
-    let tasks : length (set .tasks) ≡ mostTasks = sym (length-map (set .tasks) _) ∙ s .good .0 .1 .1 .1 .1 .0 .1 .0 .1 in
-    let interrupts : length (set .interrupts .each) ≡ mostInterrupts = sym (length-map (set .interrupts .each) _) ∙ s .good .0 .1 .1 .1 .1 .1 .0 .1 .1 .1 .0 .1 .0 .1 in
-    let fits : Within set = record { tasks = omega (arith, tasks, counts .0); interrupts = omega (arith, interrupts, counts .1) } in
-    d .text-length .ensures ∙ sym (text-bytes set fits)
+size : (d : tie.After-text-length) → d .text-length .result ≡ length (textOf (d .before .before .before .before .args .set))
+size d = d .text-length .ensures
 
 returns-2 : tie.Need-returns-2
 returns-2 c =
     let d = c .before in
-    let a = d .before .before .before .before .before .args in
+    let a = d .before .before .before .before .args in
     let short : length (a .out .now) < length (textOf (a .set)) = omega (arith, c .if2 .taken, size d) in
-    answered (a .set) (a .out .now) (Refused Room) (a .out .now) (write-room (a .set) (a .out .now) (taken (d .before .before)) short) refl
+    answered (a .set) (a .out .now) (Refused Room) (a .out .now) (write-room (a .set) (a .out .now) (taken (d .before)) short) refl
 
 put-text-requires : tie.Need-put-text-requires
 put-text-requires c κs =
     let d = c .before .before in
-    let counts = within (d .before .before) in
+    let counts = within (d .before) in
     (counts .0, (counts .1, omega (arith, c .before .if2 .left, size d)))
 
 returns-3 : tie.Need-returns-3
 returns-3 c =
     let e = c .before .before .before .before in
     let d = e .before in
-    let a = d .before .before .before .before .before .args in
+    let a = d .before .before .before .before .args in
     let room : length (textOf (a .set)) ≤ length (a .out .now) = omega (arith, e .if2 .left, size d) in
     answered (a .set) (a .out .now) (Bytes (d .text-length .result)) (c .before .before .put-text .last .0)
-    (write-bytes (a .set) (a .out .now) (taken (d .before .before)) room ∙ ap Bytes (sym (size d)))
+    (write-bytes (a .set) (a .out .now) (taken (d .before)) room ∙ ap Bytes (sym (size d)))
     (c .before .before .put-text .ensures)
 
 pub write-spec : {M : Type 1} → statement M

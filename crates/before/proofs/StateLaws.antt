@@ -1,0 +1,93 @@
+-- What each earlier state had is what there is now: before Req 07 for sets without cache costs of tasks, before Req 08 without interrupts
+-- either, before Req 04 without a 05 line either, where B is 0.
+-- Assumes nothing.
+use Prim.Native.Nat.{ℕ}
+use mathlib.Core.Bool.{Bool, _||_, or-false}
+use mathlib.Core.Path.{_≡_, refl, _∙_, ap, ap₂}
+use lib.Dec.{eqb, ltb}
+use lib.ListN.{take}
+use Rattle.laws.proofs.Tests.{true-false}
+use Rattle.frames.specs.Table.{widthsOf}
+use Rattle.framesizes.specs.Overflow.{lineOverflows, someTooLarge}
+use Rattle.masking.specs.Masking.{maskedDemand}
+use Rattle.masking.proofs.MaskedLaws.{masked-none}
+use Rattle.tasks.specs.declared.set.Optional.{Optional}
+use Rattle.tasks.specs.declared.set.Optional.the-variants.{Absent}
+use Rattle.tasks.specs.declared.set.Task.{Task}
+use Rattle.tasks.specs.declared.set.TaskSet.{TaskSet}
+use Rattle.tasks.specs.Set.{mostTasks, mostInterrupts, members, interruptsIn, givenOr}
+use Rattle.tasks.specs.Search.{some}
+use Rattle.taskask.specs.Ask.{countRow, twiceRow, headerOverflows, taskOverflows, maskedOverflows, interruptOverflows, askRow}
+use Rattle.before.specs.Earlier.{before04, before07, before08, tasksMiscount, plainOverflows}
+use Rattle.before.specs.Claims.{Uncached}
+use Rattle.before.proofs.AlikeLaws.{some-same}
+use Rattle.before.proofs.PlanningLaws.{AsNow}
+
+-- a task without a cost of its own stands in an 02 line
+plain-at : (t : Task) → t .cache ≡ Absent → taskOverflows t ≡ plainOverflows t
+unfolding taskOverflows plainOverflows lineOverflows someTooLarge widthsOf
+plain-at t none = rw none refl
+
+-- ---- row 11, request by request
+
+module _ (set : TaskSet) (none : Uncached set) where
+  pub ask-uncached : askRow set ≡ before07 .asks set
+  unfolding askRow
+  ask-uncached =
+      ap
+      (λ (wide : Bool).
+      countRow set ||
+      (twiceRow (members set) ||
+      (headerOverflows (set .header) || (wide || (maskedOverflows (set .header .masked) || some interruptOverflows (interruptsIn set))))))
+      (some-same (λ (t : Task). t .cache ≡ Absent) taskOverflows plainOverflows plain-at (members set) none)
+
+ask-uninterrupted : (set : TaskSet) → set .interrupts .count ≡ 0 → before07 .asks set ≡ before08 .asks set
+unfolding countRow tasksMiscount some
+ask-uninterrupted set none =
+    ap
+    (λ (n : ℕ).
+    (eqb (set .count) 0 || (ltb mostTasks (set .count) || ltb mostInterrupts n)) ||
+    (twiceRow (members set) ||
+    (headerOverflows (set .header) ||
+    (some plainOverflows (members set) || (maskedOverflows (set .header .masked) || some interruptOverflows (take n (set .interrupts .each)))))))
+    none
+    ∙ ap₂
+    (λ (many wide : Bool).
+    (eqb (set .count) 0 || many) || (twiceRow (members set) || (headerOverflows (set .header) || (some plainOverflows (members set) || wide))))
+    (or-false (ltb mostTasks (set .count)))
+    (or-false (maskedOverflows (set .header .masked)))
+
+ask-unmasked : (set : TaskSet) → set .header .masked ≡ Absent → before08 .asks set ≡ before04 .asks set
+unfolding maskedOverflows
+ask-unmasked set none =
+    ap
+    (λ (m : Optional). tasksMiscount set || (twiceRow (members set) || (headerOverflows (set .header) || (some plainOverflows (members set) || maskedOverflows m))))
+    none
+    ∙ ap
+    (λ (b : Bool). tasksMiscount set || (twiceRow (members set) || (headerOverflows (set .header) || b)))
+    (or-false (some plainOverflows (members set)))
+
+-- ---- the states
+
+module _ (set : TaskSet) (uncached : Uncached set) where
+  pub as-now07 : AsNow before07 set
+  as-now07 = record { uncached = uncached; interrupts = λ e. true-false e; demand = λ ls t. refl; ask = ask-uncached set uncached }
+
+  module _ (none : set .interrupts .count ≡ 0) where
+    pub as-now08 : AsNow before08 set
+    as-now08 =
+        record {
+          uncached = uncached;
+          interrupts = λ e. none;
+          demand = λ ls t. refl;
+          ask = ask-uncached set uncached ∙ ask-uninterrupted set none;
+        }
+
+    pub as-now04 : set .header .masked ≡ Absent → AsNow before04 set
+    as-now04 unmasked =
+        record {
+          uncached = uncached;
+          interrupts = λ e. none;
+          demand = λ ls t. ap (λ (m : Optional). maskedDemand (givenOr m 0) ls t) unmasked ∙ masked-none ls t;
+          ask = as-now08 .ask ∙ ask-unmasked set unmasked;
+        }

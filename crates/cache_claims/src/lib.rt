@@ -1,0 +1,1 @@
+// What is claimed of cache costs by task. No code.
