@@ -36,3 +36,11 @@ tools() {
   OBJDUMP=x86_64-linux-gnu-objdump
   OBJCOPY=x86_64-linux-gnu-objcopy
 }
+
+# What the tests of pictures need: a renderer, a checker of XML, and both awks that Debian has.
+drawing_tools() {
+  have rsvg-convert || install librsvg2-bin
+  have xmllint || install libxml2-utils
+  have mawk || install mawk
+  have gawk || install gawk
+}
