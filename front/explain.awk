@@ -35,18 +35,19 @@ function server_rows(q,  count, places, i, task) {
     row((i > 1 ? "||||||" : \
       q "|" grouped(reserve[q]) "|" share(reserve[q], slot) "|" standing(q) "|" grouped(loss[q] + 0) "|" grouped(spare[q]) "|" \
       grouped(closest[q])) \
-      "|" id[task] "|" grouped(cost[task]) "|" grouped(deadline[task]) "|" grouped(period[task]))
+      "|" id[task] "|" grouped(cost[task]) "|" grouped(deadline[task]) "|" grouped(period[task]) (own_costs ? "|" grouped(cache[task]) : ""))
   }
 }
 
 function server_table(  q, p) {
   for (p = ring + 1; p <= ring + wholes; p++) on[first[p]] = p
   print "\nServers, each with its tasks"
-  begin_table("server|reserve|of slot|<stands at|entry loss|to spare|at length|task|C|D|T")
+  begin_table("server|reserve|of slot|<stands at|entry loss|to spare|at length|task|C|D|T" (own_costs ? "|cache cost" : ""))
   for (q = 1; q <= servers; q++) server_rows(q)
   end_table()
   print "  to spare: supply less demand at the length where the server is closest to failing;"
   print "  a reserve of one tick less would fail or is not allowed"
+  if (own_costs) print "  cache cost: the task's own; its server is charged by the largest among its tasks"
 }
 
 function processor_table(  p, k, rest, entered) {

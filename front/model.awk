@@ -28,6 +28,7 @@ function counted(number, one, many) { return grouped(number) " " (number == 1 ? 
   tasks++
   id[tasks] = field(3, 2); cost[tasks] = field(5, 6); deadline[tasks] = field(11, 6); period[tasks] = field(17, 6)
   cache[tasks] = /^03/ ? field(23, 4) : caching
+  if (/^03/) own_costs = 1
   task_line[tasks] = FNR
 }
 /^07/ {
