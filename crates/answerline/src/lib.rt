@@ -1,10 +1,10 @@
 // The line that answers a question of a task file, or the 1F line of its refusal, in a lent buffer.
 // What the lines are stands in specs/Lines.antt.
-use answerwords::fit_stand;
-use answerwords::fit_verdict;
-use askfile::pass_in;
-use askfile::who_in;
-use planfit::fit_refusal;
+use answerwords_code::fit_verdict;
+use askfile_code::pass_in;
+use askfile_code::who_in;
+use fit_stand::fit_stand;
+use planfit_code::fit_refusal;
 use refusals::Outcome;
 use refusals::Written;
 use ring::clock::Tick;

@@ -1,18 +1,18 @@
 // The planner, the check and the two questions, called with a set and a plan as numbers (crate `handed`), for the outside tests.
 // Each answers every input, by numbers in lent memory: a status of 0 says that the answer stands there; any other is the refusal,
 // and the memory is as before. What is answered stands in specs/Called.antt.
-use doespass::pass;
+use doespass_code::pass;
 use handedplan::plan_from;
 use handedset::set_from;
 use numbered::put_plan;
-use plancheck::makes_plan;
-use planner::make;
+use plancheck_code::makes_plan;
+use planner_code::make;
 use refusals::Outcome;
 use ring::clock::Tick;
-use told::code;
-use told::numbers_of;
-use told::tell;
-use whoruns::who;
+use tell::tell;
+use told_code::code;
+use told_code::numbers_of;
+use whoruns_code::who;
 ghost use mathlib.Core.Path.{_≡_};
 ghost use Rattle.told.specs.Told.{statusOf, leavesNumbers};
 ghost use Rattle.plancheck.specs.Makes.{makes};

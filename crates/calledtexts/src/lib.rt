@@ -3,10 +3,10 @@
 // lent number; any other is the refusal, and both are as before. What is answered stands in specs/Texts.antt.
 use handedplan::plan_from;
 use handedset::set_from;
-use planfile::write::write_plan;
-use switchlist::write_switches;
-use taskwrite::write::write;
+use switchlist_code::write_switches;
+use taskwrite_code::write;
 use toldtext::tell;
+use write_plan::write_plan;
 ghost use mathlib.Core.Path.{_≡_};
 ghost use Rattle.refusals.specs.Leaves.{leaves};
 ghost use Rattle.tasktext.specs.Text.{textOf};

@@ -1,7 +1,7 @@
 // A line of a task file behind its tasks: the refusal of the lowest row that holds there, and the figures of an 07 line.
 use frameread::Found;
-use frameread::field;
-use frameread::kind_at;
+use frameread_code::field;
+use frameread_code::kind_at;
 use frames::table::Frame;
 use refusals::Outcome;
 use refusals::Refusal;

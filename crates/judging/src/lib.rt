@@ -1,9 +1,9 @@
 // Does a server pass with a reserve: its members, charged, by its own entry loss and its own horizon.
 // What it means stands in members, specs/Server.antt. The figures stand in one slice, four for each task, the interrupts in
 // another, four for each.
-use members::loss;
-use served::ROOM;
-use served::charge_server;
+use members_code::loss;
+use served_code::ROOM;
+use served_code::charge_server;
 use tasks::set::Header;
 use verdict::answer::Verdict;
 ghost use mathlib.Core.Path.{_≡_};

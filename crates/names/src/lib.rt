@@ -1,40 +1,8 @@
-// The names of a list that comes in parts: the name at hand, cut at the next LF. What it means stands in specs/Parts.antt.
-use bytes::scan::find;
-use fieldwrite::put_bytes;
-ghost use mathlib.Core.Path.{_≡_};
-ghost use Prim.Native.Nat.{_≤_};
-ghost use lib.ListN.{length, drop};
-ghost use Rattle.names.specs.Names.{longestName};
-ghost use Rattle.names.specs.Parts.{mostHeld, upToLF, nameWith, cutOf};
-
-// The most bytes of a name that is opened, and how many are held of a longer one.
-pub const LONGEST_NAME: usize = 255;
-
-const MOST_HELD: usize = LONGEST_NAME + 1;
+// The names of a list that comes in parts: the name at hand, cut at the next LF.
+// Types, definitions and laws; the code stands in names_code.
 
 // Where the name at hand ends in a part of the list, or else the part, and how many of its bytes are held.
 pub struct Cut {
     pub end: usize,
     pub held: usize,
-}
-
-// Cuts the name at hand at the next LF, and holds its bytes.
-pub fn cut_name(part: &[u8], from: usize, name: &mut [u8], held: usize) -> Cut
-    requires { ⌜ (from ≤ length (now part)) × (length (now name) ≡ longestName) × (held ≤ mostHeld) ⌝ }
-    ensures { λ r. ⌜ r ≡ cutOf (now (part .entry)) from held ⌝ }
-    ensures { λ r. ⌜ now (name .exit) ≡ nameWith (now (name .entry)) held (upToLF (drop from (now (part .entry)))) ⌝ }
-{
-    let end = find(part, from, part.len(), b'\n');
-    let more = end - from;
-    if LONGEST_NAME < held + more {
-        return Cut {
-            end,
-            held: MOST_HELD,
-        };
-    }
-    put_bytes(name, held, &part[from..end]);
-    Cut {
-        end,
-        held: held + more,
-    }
 }

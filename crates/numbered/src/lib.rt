@@ -1,13 +1,13 @@
 // A plan told in numbers, every field in its order, unused room too. What they are stands in specs/Numbered.antt.
-use framelines::figures::put_figures;
 use handed::FIRST;
 use handed::PLACEMENT;
 use numberedparts::put_first;
 use numberedparts::put_servers;
 use plan::plan::Plan;
+use put_figures::put_figures;
 use refusals::Refusal;
 use tasks::set::TaskSet;
-use told::code;
+use told_code::code;
 ghost use mathlib.Core.Path.{_≡_};
 ghost use Rattle.refusals.specs.declared.Outcome.the-variants.{Done};
 ghost use Rattle.told.specs.Told.{statusOf, toldOf, leavesNumbers};

@@ -1,10 +1,10 @@
 // All servers and all first reserves of a plan, told in numbers. What they are stands in specs/Parts.antt.
-use framelines::figures::put_figures;
 use handed::EACH;
 use handed::FIRST;
 use handed::SERVERS;
 use numberedserver::put_server;
 use plan::plan::Plan;
+use put_figures::put_figures;
 use tasks::set::TaskSet;
 ghost use mathlib.Core.Path.{_≡_};
 ghost use Prim.Native.Nat.{_+_, _*_, _≤_};

@@ -1,6 +1,6 @@
 // A server told in numbers. What they are stands in specs/Server.antt.
-use framelines::figures::put_figures;
 use plan::server::Server;
+use put_figures::put_figures;
 use tasks::set::TaskSet;
 ghost use mathlib.Core.Path.{_≡_};
 ghost use Prim.Native.Nat.{_+_, _≤_};

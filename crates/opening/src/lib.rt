@@ -1,40 +1,10 @@
 // The lines of a task file before its tasks: the 01 line, and a 05 line behind it, where there is one.
-use frameread::field;
-use frameread::is_line;
-use frames::table::Frame;
-use framesizes::length;
+// Types, definitions and laws; the code stands in opening_code.
 use tasks::set::Header;
-use tasks::set::Optional;
-ghost use mathlib.Core.Path.{_≡_};
-ghost use Rattle.refusals.specs.declared.Outcome.the-variants.{Done};
-ghost use Rattle.taskfile.specs.File.{lineOutcome, headerAt};
-ghost use Rattle.opening.specs.Opening.{openingOf};
 
 // The board's figures, the cursor behind the lines, and their number.
 pub struct Opening {
     pub header: Header,
     pub at: usize,
     pub lines: usize,
-}
-
-// What stands behind line 1, whose figures these are.
-pub fn opened(text: &[u8], header: Header) -> Opening
-    requires { ⌜ (lineOutcome (now text) 1 ≡ Done) × (header ≡ headerAt (now text)) ⌝ }
-    ensures { λ r. ⌜ r ≡ openingOf (now (text .entry)) ⌝ }
-{
-    let at = length(Frame::Header) + 1;
-    if !is_line(text, at, Frame::Masked) {
-        return Opening {
-            header,
-            at,
-            lines: 1,
-        };
-    }
-    let ticks = field(text, at, Frame::Masked, 0) as u16;
-    let behind = at + length(Frame::Masked) + 1;
-    Opening {
-        header: header.with_masked(Optional::Given(ticks)),
-        at: behind,
-        lines: 2,
-    }
 }

@@ -1,14 +1,14 @@
 // Figures that are too large for the fields of their lines, of the header, of a task, of the 05 line and of an interrupt.
 use frames::table::Frame;
-use framesizes::overflows;
+use overflows::overflows;
 use taskframe::task_frame;
 use tasks::set::Header;
 use tasks::set::Interrupt;
 use tasks::set::Optional;
 use tasks::set::Task;
-use tasks::values::header_values;
-use tasks::values::interrupt_values;
-use tasks::values::task_values;
+use taskvalues::header_values;
+use taskvalues::interrupt_values;
+use taskvalues::task_values;
 ghost use mathlib.Core.Path.{_≡_};
 ghost use Rattle.taskask.specs.Ask.{headerOverflows, taskOverflows, maskedOverflows, interruptOverflows};
 

@@ -5,8 +5,6 @@ use ring::clock::Position;
 use ring::cover::Stand;
 use tasks::set::TaskSet;
 ghost use mathlib.Core.Path.{_≡_};
-ghost use mathlib.Core.List.{map};
-ghost use Rattle.plan.specs.declared.server.Server.{Server};
 ghost use Rattle.plan.specs.Plan.{zeroPlan};
 
 pub struct Plan {
@@ -48,17 +46,4 @@ impl Plan {
             first: [stand; TaskSet::MOST_TASKS],
         }
     }
-}
-
-// The reserves of a plan's servers, in server order.
-pub fn reserves(plan: Plan) -> [u64; TaskSet::MOST_TASKS]
-    ensures { λ r. ⌜ r ≡ map (λ (s : Server). s .reserve) (plan .server) ⌝ }
-{
-    let mut row = [0u64; TaskSet::MOST_TASKS];
-    let mut i: usize = 0;
-    while i < TaskSet::MOST_TASKS {
-        row[i] = plan.server[i].reserve;
-        i += 1;
-    }
-    row
 }

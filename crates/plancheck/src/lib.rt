@@ -1,20 +1,2 @@
-// The check behind row 11: the planner makes this plan of this set. Unused room is not compared.
-// What it means stands in specs/Makes.antt.
-use plan::plan::Plan;
-use planagree::agree;
-use planner::make;
-use refusals::Outcome;
-use tasks::set::TaskSet;
-ghost use mathlib.Core.Path.{_≡_};
-ghost use Rattle.plancheck.specs.Makes.{makes};
-
-pub fn makes_plan(set: TaskSet, plan: Plan) -> bool
-    ensures { λ r. ⌜ r ≡ makes set plan ⌝ }
-{
-    let made = make(set);
-    let outcome = made.outcome;
-    let Outcome::Done = outcome else {
-        return false;
-    };
-    agree(set.count, plan, made.plan)
-}
+// The check behind row 11: the planner makes this plan of this set.
+// Definitions and laws; the code stands in plancheck_code.

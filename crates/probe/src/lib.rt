@@ -16,7 +16,7 @@ pub extern "C" fn probe_last_short(loads: &[u64], n: usize, slot: u64, gap: u64,
     requires { ⌜ Searched slot gap 0 hi ⌝ }
     ensures { λ r. ⌜ r ≡ lastUpTo (short (asked (now (loads .entry)) n) slot gap 0) hi ⌝ }
 {
-    search::last_short(loads, n, slot, gap, 0, hi)
+    last_short::last_short(loads, n, slot, gap, 0, hi)
 }
 
 #[no_mangle]
@@ -33,8 +33,8 @@ pub extern "C" fn probe_none_fails(
     requires { ⌜ Maskable masked (loadsOf (now loads) n) hi ⌝ }
     ensures { λ r. ⌜ r ≡ eqb (firstUpTo (short (gaining (gainOf masked (loadsOf (now (loads .entry)) n)) (asked (now (loads .entry)) n)) slot gap 0) hi) 0 ⌝ }
 {
-    let gain = masking::gain_of(loads, n, masked);
-    fails::none_fails(loads, n, gain, slot, gap, hi)
+    let gain = masking_code::gain_of(loads, n, masked);
+    none_fails::none_fails(loads, n, gain, slot, gap, hi)
 }
 
 #[no_mangle]
@@ -52,6 +52,6 @@ pub extern "C" fn probe_closest(
     requires { ⌜ NoneIn (short (gaining (gainOf masked (loadsOf (now loads) n)) (asked (now loads) n)) slot gap 0) 0 hi ⌝ }
     ensures { λ r. ⌜ r ≡ leastUpTo (steps (gaining (gainOf masked (loadsOf (now (loads .entry)) n)) (asked (now (loads .entry)) n))) (slackPast (gaining (gainOf masked (loadsOf (now (loads .entry)) n)) (asked (now (loads .entry)) n)) slot gap) hi ⌝ }
 {
-    let own = masking::gain_of(loads, n, masked);
-    closeness::closest_of(loads, n, own, slot, gap, hi)
+    let own = masking_code::gain_of(loads, n, masked);
+    closeness_code::closest_of(loads, n, own, slot, gap, hi)
 }

@@ -1,10 +1,10 @@
 // The two questions of a task file, answered by numbers in lent memory.
 // A status of 0 says that the answer stands there; any other is the refusal, and the memory is as before.
-use askfile::pass_in;
-use askfile::who_in;
+use askfile_code::pass_in;
+use askfile_code::who_in;
 use ring::clock::Tick;
-use told::numbers_of;
-use told::tell;
+use tell::tell;
+use told_code::numbers_of;
 ghost use mathlib.Core.Path.{_≡_};
 ghost use Rattle.told.specs.Told.{statusOf, leavesNumbers};
 ghost use Rattle.rack.specs.Rack.{whoNumbers, whoTold, passNumbers, passTold};

@@ -3,9 +3,9 @@
 use refusals::Outcome;
 use refusals::Refusal;
 use refusals::Written;
-use switchfile::list;
-use taskplan::filed;
-use told::code;
+use switchfile_code::list;
+use taskplan_code::filed;
+use told_code::code;
 ghost use mathlib.Core.Path.{_≡_};
 ghost use Rattle.refusals.specs.First.{firstOf};
 ghost use Rattle.refusals.specs.declared.Refusal.the-variants.{Room};
@@ -26,7 +26,7 @@ fn no_place(tasks: &[u8]) -> u64
     }
 }
 
-// The 21 lines at the start of `out`, and their number of bytes in `answer`. switchlist::LONGEST bytes always suffice.
+// The 21 lines at the start of `out`, and their number of bytes in `answer`. switchlist_code::LONGEST bytes always suffice.
 #[no_mangle]
 pub extern "C" fn rack_switches(tasks: &[u8], out: &mut [u8], answer: &mut [u64]) -> u64
     ensures { λ r. ⌜ r ≡ statusOf (listTold (now (tasks .entry)) (now (out .entry)) (now (answer .entry))) ⌝ }

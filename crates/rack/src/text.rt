@@ -9,7 +9,7 @@ pub extern "C" fn rack_plan(tasks: &[u8], out: &mut [u8]) -> usize
     ensures { λ r. ⌜ r ≡ planBytes (now (tasks .entry)) (now (out .entry)) ⌝ }
     ensures { λ r. ⌜ now (out .exit) ≡ planLeaves (now (tasks .entry)) (now (out .entry)) ⌝ }
 {
-    let Written::Bytes(length) = planfile::tool::answer(tasks, out) else {
+    let Written::Bytes(length) = planfile_code::answer(tasks, out) else {
         return 0;
     };
     length

@@ -2,9 +2,9 @@
 // The reader gives them after the lines, the planner again for a set that a caller built.
 use refusals::Outcome;
 use refusals::Refusal;
-use taskrows::breaks_board;
-use taskrows::breaks_interrupt;
-use taskrows::breaks_range;
+use taskrows_code::breaks_board;
+use taskrows_code::breaks_interrupt;
+use taskrows_code::breaks_range;
 use tasks::set::Interrupts;
 use tasks::set::TaskSet;
 ghost use mathlib.Core.Path.{_≡_};

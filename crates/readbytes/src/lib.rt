@@ -1,6 +1,6 @@
 // How many bytes reading a task file looks at.
 use frames::table::MOST_FIELDS;
-use frames::table::TABLE;
+use frames_code::TABLE;
 use tasks::set::TaskSet;
 ghost use mathlib.Core.Path.{_≡_};
 ghost use Rattle.readbytes.specs.Furthest.{furthest};

@@ -1,9 +1,9 @@
 // Does this server pass with this reserve: the whole answer for the question, yes or no with a reading. Interrupts can be held off for
 // `masked` ticks. Lengths up to the horizon are looked at.
-use closeness::closest_of;
-use fails::first_fails;
+use closeness_code::closest_of;
+use first_fails::first_fails;
 use masking::Gain;
-use masking::gain_of;
+use masking_code::gain_of;
 use verdict::answer::Reading;
 use verdict::answer::Verdict;
 ghost use mathlib.Core.Path.{_≡_};
@@ -22,8 +22,8 @@ fn reading(loads: &[u64], n: usize, gain: Gain, slot: u64, gap: u64, length: u64
     requires { ⌜ (1 ≤ slot) × (gap ≤ slot) ⌝ }
     ensures { λ r. ⌜ r ≡ readingPast (gaining gain (asked (now (loads .entry)) n)) slot gap length ⌝ }
 {
-    let asked = interrupting::asked_at(loads, n, length) + gain.at(length);
-    let supply = demand::supply_at(slot, gap, length);
+    let asked = interrupting_code::asked_at(loads, n, length) + gain.at(length);
+    let supply = demand_code::supply_at(slot, gap, length);
     Reading {
         length,
         demand: asked,
@@ -46,7 +46,7 @@ pub fn verdict(
     requires { ⌜ Maskable masked (loadsOf (now loads) n) horizon ⌝ }
     ensures { λ r. ⌜ r ≡ verdictOf (gaining (gainOf masked (loadsOf (now (loads .entry)) n)) (asked (now (loads .entry)) n)) horizon slot loss reserve ⌝ }
 {
-    let gap = demand::gap_of(slot, loss, reserve);
+    let gap = demand_code::gap_of(slot, loss, reserve);
     let gain = gain_of(loads, n, masked);
     let failing = first_fails(loads, n, gain, slot, gap, horizon);
     if failing == 0 {

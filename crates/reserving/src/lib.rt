@@ -1,7 +1,7 @@
 // The size of a server's reserve. What it means stands in specs/Reserve.antt of verdict.
 // A larger allowed reserve never turns yes into no, so halving finds the smallest.
-use masking::gain_of;
-use verdict::judge::passes_gaining;
+use masking_code::gain_of;
+use verdict_code::passes_gaining;
 ghost use mathlib.Core.Path.{_≡_};
 ghost use Rattle.demand.specs.Load.{loadsOf};
 ghost use Rattle.interrupting.specs.Interrupts.{asked};

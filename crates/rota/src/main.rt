@@ -15,7 +15,7 @@ fn main() {
         return;
     };
     let mut out = io::buffer();
-    let Written::Bytes(k) = planfile::tool::answer(front(&text, n), &mut out) else {
+    let Written::Bytes(k) = planfile_code::answer(front(&text, n), &mut out) else {
         io::write_all(STDERR_FILENO, b"rota: no room for the plan\n");
         return;
     };

@@ -2,7 +2,7 @@
 // What it is stands in turn's specs/Stretch.antt. Server 0 is the idle stretch.
 use ring::clock::Position;
 use ring::cover::Stand;
-use ring::cover::stand_at;
+use ring_code::stand_at;
 ghost use mathlib.Core.Path.{_≡_};
 ghost use lib.ListN.{take};
 ghost use Rattle.reserves.specs.Slotted.{SlottedFirst};

@@ -7,8 +7,8 @@ use libc::STDOUT_FILENO;
 use refusals::Written;
 use shell::front::front;
 use sweeplist::sweep_list;
-use tallytext::BYTES;
-use tallytext::fit_tally;
+use tallytext_code::BYTES;
+use tallytext_code::fit_tally;
 
 // Whether the first argument asks for progress.
 fn asks_progress() -> bool {

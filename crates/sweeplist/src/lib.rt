@@ -1,12 +1,12 @@
 // The sweep of a list of names, by its descriptor, read part by part. What it counts stands in specs/Swept.antt.
 use libc::STDERR_FILENO;
-use names::LONGEST_NAME;
+use names_code::LONGEST_NAME;
 use shell::front::front;
 use shell::input::Input;
 use shell::input::read_some;
 use sweeping::Sweep;
-use sweeping::sweep_last;
-use sweeping::sweep_part;
+use sweeping_code::sweep_last;
+use sweeping_code::sweep_part;
 use tally::Tally;
 ghost use Rattle.sweeplist.specs.Swept.{IsCounted};
 

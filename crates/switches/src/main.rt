@@ -7,7 +7,7 @@ use refusals::Written;
 use shell::front::front;
 use shell::input::Input;
 use shell::input::read_input;
-use switchlist::LONGEST;
+use switchlist_code::LONGEST;
 
 fn main() {
     let mut text = io::buffer();
@@ -16,7 +16,7 @@ fn main() {
         return;
     };
     let mut out = [0u8; LONGEST];
-    let Written::Bytes(k) = switchfile::answer(front(&text, n), &mut out) else {
+    let Written::Bytes(k) = switchfile_code::answer(front(&text, n), &mut out) else {
         io::write_all(STDERR_FILENO, b"switches: no room for the list\n");
         return;
     };

@@ -1,10 +1,10 @@
 // A line of a task file where a task may stand: a task's figures, or the refusal of the lowest row that holds there.
 // The reader takes the answer apart and hands a refusal straight up.
 use frameread::Found;
-use frameread::kind_at;
+use frameread_code::kind_at;
 use frames::table::Frame;
 use listedline::TaskLine;
-use listedline::listed_line;
+use listedline_code::listed_line;
 use refusals::Refusal;
 ghost use mathlib.Core.Path.{_≡_};
 ghost use Prim.Native.Nat.{_+_, _<_};

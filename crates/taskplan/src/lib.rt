@@ -1,52 +1,11 @@
 // A task file taken to its set and its plan, or to its refusal: what the tool prints and what both questions are asked of.
-// What it means stands in specs/File.antt. A set is planned once.
+// Types, definitions and laws; the code stands in taskplan_code.
 use plan::plan::Plan;
-use planner::PlanAnswer;
-use planner::make;
 use refusals::Outcome;
-use refusals::Refusal;
-use taskread::read::ReadAnswer;
-use taskread::read::read;
 use tasks::set::TaskSet;
-ghost use mathlib.Core.Path.{_≡_};
-ghost use Rattle.taskplan.specs.File.{refusedPlan, plannedRead, filedOf};
 
 pub struct FileAnswer {
     pub outcome: Outcome,
     pub set: TaskSet,
     pub plan: Plan,
-}
-
-fn refused(refusal: Refusal) -> PlanAnswer
-    ensures { λ r. ⌜ r ≡ refusedPlan refusal ⌝ }
-{
-    PlanAnswer {
-        plan: Plan::zero(),
-        outcome: Outcome::Refused(refusal),
-    }
-}
-
-// The plan of the set that was read.
-fn planned(answer: ReadAnswer) -> PlanAnswer
-    ensures { λ r. ⌜ r ≡ plannedRead answer ⌝ }
-{
-    let outcome = answer.outcome;
-    match outcome {
-        Outcome::Done => make(answer.set),
-        Outcome::Refused(refusal) => refused(refusal),
-    }
-}
-
-pub fn filed(text: &[u8]) -> FileAnswer
-    ensures { λ r. ⌜ r ≡ filedOf (now (text .entry)) ⌝ }
-{
-    let answer = read(text);
-    let made = planned(answer);
-    let outcome = made.outcome;
-    let plan = made.plan;
-    let mut set = answer.set;
-    if let Outcome::Refused(_) = outcome {
-        set = TaskSet::zero();
-    }
-    FileAnswer { outcome, set, plan }
 }

@@ -1,3 +1,2 @@
-// The task set with its limits, and its figures as the values of their lines' fields.
+// The task set with its limits: types, definitions and laws. The values of its lines' fields stand in taskvalues.
 pub mod set;
-pub mod values;

@@ -1,2 +1,2 @@
 // The writer of task files: the text of any set, or a refusal.
-pub mod write;
+// Definitions and laws; the code stands in taskwrite_code and writer_asks.

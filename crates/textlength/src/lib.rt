@@ -1,7 +1,7 @@
 // The length of a task set's text: one 01 line, the 05 line where the set has one, then the lines of the tasks and the 07 lines.
-use framelines::lines_length;
+use framelines_code::lines_length;
 use frames::table::Frame;
-use optionallines::masked_length;
+use optionallines_code::masked_length;
 use taskframe::task_frame;
 use tasks::set::TaskSet;
 ghost use mathlib.Core.Path.{_≡_};

@@ -1,13 +1,13 @@
 // The text of a task set: one 01 line, the 05 line where the set has one, then the lines of the tasks and the 07 lines, each in file order.
-use framelines::lines_length;
+use framelines_code::lines_length;
 use frames::table::Frame;
-use framewrite::put_line;
-use optionallines::masked_length;
-use optionallines::put_interrupts;
-use optionallines::put_masked;
+use framewrite_code::put_line;
+use optionallines_code::masked_length;
+use optionallines_code::put_masked;
+use put_interrupts::put_interrupts;
 use tasks::set::TaskSet;
-use tasks::values::header_values;
-use tasktext::put_tasks;
+use tasktext_code::put_tasks;
+use taskvalues::header_values;
 ghost use mathlib.Core.Path.{_≡_};
 ghost use Prim.Native.Nat.{_≤_};
 ghost use lib.ListN.{length as bytes};

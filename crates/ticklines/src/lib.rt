@@ -1,7 +1,7 @@
 // The switches of one tick as text: a line for each processor whose time is over, and every processor carried past the tick.
 // What they are stands in turn's specs/Switches.antt, what is carried from switch to switch in specs/Walk.antt.
 use frames::table::Row;
-use switchline::put_switch;
+use switchline_code::put_switch;
 use turn::Turn;
 ghost use mathlib.Core.Path.{_≡_};
 ghost use Prim.Native.Nat.{suc, _+_, _*_, _≤_, _<_};

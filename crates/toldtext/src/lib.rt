@@ -1,6 +1,6 @@
 // A writer's answer, told as a status and the length of what was written. What it says stands in specs/Length.antt.
 use refusals::Written;
-use told::code;
+use told_code::code;
 ghost use mathlib.Core.Path.{_≡_};
 ghost use Rattle.toldtext.specs.Length.{writtenStatus, writtenLength};
 

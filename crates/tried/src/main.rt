@@ -8,9 +8,9 @@ use tasks::set::TaskSet;
 
 fn say_refusal(refusal: Refusal) {
     io::write_all(STDOUT_FILENO, b"refusal ");
-    io::print_decimal(STDOUT_FILENO, refusals::number(refusal));
+    io::print_decimal(STDOUT_FILENO, refusals_code::number(refusal));
     io::write_all(STDOUT_FILENO, b" at ");
-    io::print_decimal(STDOUT_FILENO, refusals::place(refusal) as u64);
+    io::print_decimal(STDOUT_FILENO, refusals_code::place(refusal) as u64);
     io::write_all(STDOUT_FILENO, b"\n");
 }
 
@@ -24,7 +24,7 @@ fn say_same(same: bool) {
 
 fn say_written(set: TaskSet, text: &[u8]) {
     let mut again = io::buffer();
-    match taskwrite::write::write(set, &mut again) {
+    match taskwrite_code::write(set, &mut again) {
         Written::Bytes(n) => {
             if n <= 4096 {
                 say_same(check::same(&again[..n], text));
@@ -38,7 +38,7 @@ fn say_written(set: TaskSet, text: &[u8]) {
 }
 
 fn try_text(text: &[u8]) {
-    let answer = taskread::read::read(text);
+    let answer = taskread_code::read(text);
     let outcome = answer.outcome;
     let set = answer.set;
     match outcome {

@@ -1,6 +1,6 @@
 // How many switches a turn has, without walking through it. What they are stands in turn's specs/Count.antt.
-use reserves::sums::whole_count;
-use ring::who::first;
+use reserves_code::whole_count;
+use ring_who::first;
 use turn::Turn;
 ghost use mathlib.Core.Path.{_≡_};
 ghost use lib.ListN.{take};

@@ -1,4 +1,3 @@
 // Whether a server passes with a reserve: the search for a length at which demand exceeds supply.
-// One search serves placement, the sizing of reserves and the question.
+// Types, definitions and laws; the code stands in verdict_code.
 pub mod answer; // answer.rt: yes or no, with a reading
-pub mod judge; // judge.rt: does it pass

@@ -1,7 +1,7 @@
 // The switches of one turn of the ring as text, written from switch to switch: the time goes with the lines and the processors.
 // What they are stands in turn's specs/Switches.antt, the lines of one tick in ticklines.
 use frames::table::Frame;
-use frames::table::row_of;
+use frames_code::row_of;
 use tasks::set::TaskSet;
 use ticklines::put_tick;
 use turn::Turn;

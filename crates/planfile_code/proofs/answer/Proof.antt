@@ -1,0 +1,44 @@
+-- A file's answer taken apart: the text of its plan, or its refusal's line.
+-- Assumes nothing.
+use Rattle.plantext.specs.Text.{planText}
+use Rattle.planlines.specs.Line.{refusalText}
+use Rattle.planfit.proofs.FitLaws.{fits-as}
+use Rattle.taskplan.specs.declared.FileAnswer.{FileAnswer}
+use Rattle.planfile.specs.Tool.{answered}
+use Rattle.planfile.proofs.AcceptLaws.{makes-counted}
+use Rattle.taskplan.proofs.FileLaws.{when-done, when-refused, filed-makes}
+use borrow.Author.Needs.{needs}
+use Rattle.planfile_code.proofs.answer.Statement.{statement}
+use Rattle.planfile_code.proofs.answer.Tie as tie
+
+fit-plan-requires : tie.Need-fit-plan-requires
+fit-plan-requires c κs =
+    makes-counted _ _ (filed-makes (c .before .before .before .before .before .before .before .before .args .text .now) (c .before .before .before .before .before .filed .ensures) (c .before .enum-told .given .1))
+
+returns : tie.Need-returns
+unfolding answered
+returns c =
+    fits-as
+    (when-done refusalText (λ (f : FileAnswer). f .outcome) (λ (f : FileAnswer). planText (f .set) (f .plan)) (c .before .before .before .before .before .before .before .before .filed .ensures) (c .before .before .before .before .enum-told .given .1))
+    (c .before .before .fit-plan .ensures)
+
+returns-2 : tie.Need-returns-2
+unfolding answered
+returns-2 c =
+    fits-as
+    (when-refused refusalText (λ (f : FileAnswer). f .outcome) (λ (f : FileAnswer). planText (f .set) (f .plan)) (c .before .before .before .before .before .before .before .before .before .filed .ensures) (c .before .before .before .before .before .outcome .given .1))
+    (c .before .before .fit-refusal .ensures)
+
+pub answer-spec : {M : Type 1} → statement M
+answer-spec =
+    tie.close
+    (tie.spec
+    (λ c κs. search needs)
+    (λ c. search needs)
+    fit-plan-requires
+    (λ c. search needs)
+    (λ c κs. search needs)
+    (λ c. search needs)
+    returns
+    (λ c. search needs)
+    returns-2)
