@@ -1,5 +1,4 @@
-// The words of an answer in one line, in a lent buffer: who stands on a processor, and the verdict on a reserve.
-// What the lines are stands in answerwords/specs/Answers.antt.
+// The words of a verdict on a reserve, in one line, in a lent buffer. What the line is stands in answerwords/specs/Answers.antt.
 use refusals::Written;
 use verdict::answer::Reading;
 use verdict::answer::Verdict;

@@ -1,4 +1,4 @@
-// The smallest slack of the lengths that gain where interrupts can be held off. What it means stands in slack/specs.
+// What a length has to spare, and the closest from the first length that gains on. What they mean stands in slack/specs/Slack.antt.
 use masking::Gain;
 use slack_code::closest;
 ghost use mathlib.Core.Bool.{true};

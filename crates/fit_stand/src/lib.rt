@@ -1,4 +1,4 @@
-// The words of the answer to who runs, into a lent buffer.
+// The words of who stands on a processor, in one line, in a lent buffer. What the line is stands in answerwords/specs/Answers.antt.
 use refusals::Written;
 use wordline::fit_words;
 ghost use Rattle.wordline.specs.Lined.{Lined};

@@ -1,4 +1,4 @@
-// The horizon of a set, where it is within its limit. What it means stands in rows/specs.
+// The horizon of a set, where it is within its limit. What it means stands in rows/specs/Rows.antt.
 use multiple_of::multiple_of;
 use setfigures_code::figures;
 use tasks::set::Interrupts;

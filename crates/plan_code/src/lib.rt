@@ -1,4 +1,4 @@
-// Rows of numbers by server: where each stands on the ring, how many tasks it has, and its cache cost.
+// Rows of numbers by server: where each stands on the ring, how many tasks it has, its cache cost and its reserve.
 // Every place is read, so that what is compiled reads a plan where it stands and copies no more than the row.
 use plan::plan::Plan;
 use tasks::set::TaskSet;

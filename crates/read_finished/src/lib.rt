@@ -1,4 +1,5 @@
-// How the reading of a task file ends: its set with the rows that are asked of the whole file, or a refusal with the all-zero set.
+// How the reading of a task file ends: behind its tasks the 07 lines, COUNT where there is no task, rows 5 and 6; and what is answered, the
+// set or a refusal with the all-zero set.
 use interruptlines_code::interrupt_lines;
 use rangerows::figures;
 use refusals::Outcome;

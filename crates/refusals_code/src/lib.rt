@@ -1,5 +1,4 @@
-// The refusals of documents 01 and 02 as one enum, each with what its place needs.
-// `Outcome` answers for what is done or refused, `Written` for a text of so many bytes at a buffer's start.
+// The number of a refusal, and its place.
 use refusals::Refusal;
 ghost use mathlib.Core.Path.{_≡_};
 ghost use Rattle.refusals.specs.Refused.{numberOf, placeOf};

@@ -1,4 +1,4 @@
-// The server whose reserve covers a position, and the ticks to that reserve's end.
+// The phase rule, from a tick to a position; and the server whose reserve covers a position, with the ticks to that reserve's end.
 // Server 0 is the idle stretch at the ring's end.
 use ring::clock::Position;
 use ring::clock::Tick;

@@ -1,6 +1,4 @@
-// Row 9 of the refusals over a set, and rows 5 to 9 in order, with the horizon that row 9 finds.
-// What they mean stands in rows/specs/Rows.antt.
-use horizon_within::horizon;
+// Rows 5 to 9 of the refusals over a set, in order, with the horizon that row 9 finds. What they mean stands in rows/specs/Rows.antt.
 use horizon_within::horizon_within;
 use refusals::Outcome;
 use refusals::Refusal;

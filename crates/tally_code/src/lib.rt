@@ -1,5 +1,4 @@
-// The count of a sweep's names: all, those whose file was accepted, and those that met each refusal number.
-// What it means stands in tally/specs/Tally.antt.
+// One name more in the count of a sweep, by what became of it. What it means stands in tally/specs/Tally.antt.
 use refusals::Outcome;
 use refusals_code::number;
 use tally::Answer;

@@ -1,4 +1,4 @@
-// What the text of a task set is, and the lines of its tasks, each an 02 or an 03 line, written one behind the other.
+// The lines of a set's tasks, each an 02 or an 03 line, written one behind the other. What they are stands in tasktext/specs/Text.antt.
 use frames_code::row_of;
 use framewrite_code::put_row;
 use taskframe::task_frame;

@@ -1,5 +1,4 @@
 // One name more, among the accepted or under a refusal number. What it means stands in tally/specs/Tally.antt.
-use refusals_code::number;
 use tally::Tally;
 ghost use mathlib.Core.Path.{_≡_};
 ghost use Prim.Native.Nat.{_<_};
