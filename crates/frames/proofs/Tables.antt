@@ -11,7 +11,7 @@ use lib.ListN.{length, getD, take, replicate}
 use lib.Seq.{getD-take, take-all}
 use borrow.Author.Tests.{leb-true, eqb-true}
 use Rattle.frames.specs.declared.table.Frame.{Frame}
-use Rattle.frames.specs.declared.table.Frame.the-variants.{Header, Task, Cached, Masked, Interrupt, Plan, Server, Placed, Processor, Refused, Switch, Accepted, Met}
+use Rattle.frames.specs.declared.table.Frame.the-variants.{Header, Task, Cached, Masked, Rule, Interrupt, Plan, Server, Placed, Processor, Refused, Switch, Accepted, Met}
 use Rattle.digits.specs.Digit.{legal, allLegal}
 use Rattle.frames.specs.Table.{allFrames, kindOf, widthsOf, fieldsIn, mostFields, mostWidth, mostDigits, sum, widthOf, fieldStart, lengthOf, front, rowOf, indexOf}
 use Rattle.laws.specs.Same.{same}
@@ -23,6 +23,7 @@ at-index g other Header = refl
 at-index g other Task = refl
 at-index g other Cached = refl
 at-index g other Masked = refl
+at-index g other Rule = refl
 at-index g other Interrupt = refl
 at-index g other Plan = refl
 at-index g other Server = refl

@@ -1,11 +1,11 @@
 -- The table of frames: each kind with its field widths in digits, and the lengths that follow.
--- Document 01, "Lines of hexadecimal" (RULES 5.1); document 02, Req 01, 03, 04, 07 and 08.
+-- Document 01, "Lines of hexadecimal" (RULES 5.1); document 02, Req 01, 03, 04, 05, 07 and 08.
 use Prim.Native.Nat.{ℕ, zero, suc, _+_}
 use mathlib.Core.List.{List, [], _∷_, _++_}
 use lib.ListN.{length, getD, take, replicate}
 use Rattle.frames.specs.declared.table.Row.{Row}
 use Rattle.frames.specs.declared.table.Frame.{Frame}
-use Rattle.frames.specs.declared.table.Frame.the-variants.{Header, Task, Cached, Masked, Interrupt, Plan, Server, Placed, Processor, Refused, Switch, Accepted, Met}
+use Rattle.frames.specs.declared.table.Frame.the-variants.{Header, Task, Cached, Masked, Rule, Interrupt, Plan, Server, Placed, Processor, Refused, Switch, Accepted, Met}
 
 -- the byte LF, which closes a line
 abbrev pub LF : ℕ
@@ -15,13 +15,14 @@ LF = 10
 abbrev pub Shape : Type 0
 Shape = List ℕ × List ℕ
 
--- the rows of the table: 01, 02, 03, 05, 07, 11, 12, 13, 14, 1F, 21, 40, 41
+-- the rows of the table: 01, 02, 03, 05, 06, 07, 11, 12, 13, 14, 1F, 21, 40, 41
 abbrev pub rows : List Shape
 rows =
     (48 ∷ 49 ∷ [], 2 ∷ 6 ∷ 4 ∷ 4 ∷ 4 ∷ 4 ∷ 4 ∷ [])
     ∷ (48 ∷ 50 ∷ [], 2 ∷ 6 ∷ 6 ∷ 6 ∷ [])
     ∷ (48 ∷ 51 ∷ [], 2 ∷ 6 ∷ 6 ∷ 6 ∷ 4 ∷ [])
     ∷ (48 ∷ 53 ∷ [], 4 ∷ [])
+    ∷ (48 ∷ 54 ∷ [], 2 ∷ [])
     ∷ (48 ∷ 55 ∷ [], 2 ∷ 6 ∷ 6 ∷ 6 ∷ 4 ∷ [])
     ∷ (49 ∷ 49 ∷ [], 2 ∷ 2 ∷ 2 ∷ 6 ∷ 8 ∷ [])
     ∷ (49 ∷ 50 ∷ [], 2 ∷ 6 ∷ 8 ∷ 2 ∷ [])
@@ -35,7 +36,7 @@ rows =
 
 -- the frames in the table's order
 abbrev pub allFrames : List Frame
-allFrames = Header ∷ Task ∷ Cached ∷ Masked ∷ Interrupt ∷ Plan ∷ Server ∷ Placed ∷ Processor ∷ Refused ∷ Switch ∷ Accepted ∷ Met ∷ []
+allFrames = Header ∷ Task ∷ Cached ∷ Masked ∷ Rule ∷ Interrupt ∷ Plan ∷ Server ∷ Placed ∷ Processor ∷ Refused ∷ Switch ∷ Accepted ∷ Met ∷ []
 
 -- the index of a frame in the table
 abbrev pub indexOf : Frame → ℕ
@@ -43,15 +44,16 @@ indexOf Header = 0
 indexOf Task = 1
 indexOf Cached = 2
 indexOf Masked = 3
-indexOf Interrupt = 4
-indexOf Plan = 5
-indexOf Server = 6
-indexOf Placed = 7
-indexOf Processor = 8
-indexOf Refused = 9
-indexOf Switch = 10
-indexOf Accepted = 11
-indexOf Met = 12
+indexOf Rule = 4
+indexOf Interrupt = 5
+indexOf Plan = 6
+indexOf Server = 7
+indexOf Placed = 8
+indexOf Processor = 9
+indexOf Refused = 10
+indexOf Switch = 11
+indexOf Accepted = 12
+indexOf Met = 13
 
 unfoldable pub kindOf : Frame → List ℕ
 kindOf frame = getD rows (indexOf frame) ([], []) .0

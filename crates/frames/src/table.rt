@@ -7,6 +7,7 @@ pub enum Frame {
     Task,
     Cached,
     Masked,
+    Rule,
     Interrupt,
     Plan,
     Server,
@@ -19,7 +20,7 @@ pub enum Frame {
 }
 
 // The number of kinds, and the most fields that one of them has.
-pub const KINDS: usize = 13;
+pub const KINDS: usize = 14;
 
 pub const MOST_FIELDS: usize = 7;
 

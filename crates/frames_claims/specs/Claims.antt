@@ -14,7 +14,7 @@ use Rattle.frames_claims.specs.Values.{fieldsOf}
 
 -- the digits of a line of each kind, in the table's order
 abbrev pub LineLengths : Type 0
-LineLengths = map lengthOf allFrames ≡ 30 ∷ 22 ∷ 26 ∷ 6 ∷ 26 ∷ 22 ∷ 20 ∷ 6 ∷ 12 ∷ 6 ∷ 14 ∷ 10 ∷ 12 ∷ []
+LineLengths = map lengthOf allFrames ≡ 30 ∷ 22 ∷ 26 ∷ 6 ∷ 4 ∷ 26 ∷ 22 ∷ 20 ∷ 6 ∷ 12 ∷ 6 ∷ 14 ∷ 10 ∷ 12 ∷ []
 
 -- no two frames have one kind
 abbrev pub KindsDiffer : Type 0

@@ -13,6 +13,7 @@ pub const FRAMES: [Frame; KINDS] = [
     Frame::Task,
     Frame::Cached,
     Frame::Masked,
+    Frame::Rule,
     Frame::Interrupt,
     Frame::Plan,
     Frame::Server,
@@ -50,6 +51,13 @@ const MASKED: Row = Row {
     fields: 1,
     widths: [4, 0, 0, 0, 0, 0, 0],
     starts: [2, 6, 6, 6, 6, 6, 6, 6],
+};
+
+const RULE: Row = Row {
+    kind: *b"06",
+    fields: 1,
+    widths: [2, 0, 0, 0, 0, 0, 0],
+    starts: [2, 4, 4, 4, 4, 4, 4, 4],
 };
 
 const INTERRUPT: Row = Row {
@@ -120,6 +128,7 @@ pub const TABLE: [Row; KINDS] = [
     TASK,
     CACHED,
     MASKED,
+    RULE,
     INTERRUPT,
     PLAN,
     SERVER,
@@ -140,6 +149,7 @@ pub fn row_of(frame: Frame) -> Row
         Frame::Task => TASK,
         Frame::Cached => CACHED,
         Frame::Masked => MASKED,
+        Frame::Rule => RULE,
         Frame::Interrupt => INTERRUPT,
         Frame::Plan => PLAN,
         Frame::Server => SERVER,

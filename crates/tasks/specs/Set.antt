@@ -1,5 +1,5 @@
 -- The task set as a value: its tasks and its interrupts in file order, the all-zero set, and the set with its unused room at zero.
--- Document 01, "The numbers of a task set" (RULES 1) and "Refusal numbers and their order" (RULES 6); document 02, Req 04 (RULES 1.5), Req 07 and Req 08.
+-- Document 01, "The numbers of a task set" (RULES 1) and "Refusal numbers and their order" (RULES 6); document 02, Req 04 (RULES 1.5), Req 05, Req 07 and Req 08.
 use Prim.Native.Nat.{ℕ, _+_, _-_}
 use mathlib.Core.List.{List, _++_}
 use mathlib.Core.Bool.{Bool}
@@ -29,8 +29,11 @@ longestPeriod = 1000000
 abbrev pub longestHorizon : ℕ
 longestHorizon = 10000000
 
+abbrev pub lastRule : ℕ
+lastRule = 8
+
 abbrev pub zeroHeader : Header
-zeroHeader = record { processors = 0; slot = 0; relj = 0; relo = 0; ctswo = 0; resd = 0; cpmdo = 0; masked = Absent }
+zeroHeader = record { processors = 0; slot = 0; relj = 0; relo = 0; ctswo = 0; resd = 0; cpmdo = 0; masked = Absent; rule = Absent }
 
 -- the figure that an optional line or field gives, or another where there is none
 abbrev pub givenOr : Optional → (other : ℕ) → ℕ
@@ -41,13 +44,17 @@ givenOr (Given figure) other = figure
 abbrev pub maskedTicks : Header → ℕ
 maskedTicks h = givenOr (h .masked) 0
 
+-- the number of the packing rule: what the 06 line gives; without it the rule is 0
+abbrev pub ruleNumber : Header → ℕ
+ruleNumber h = givenOr (h .rule) 0
+
 -- a task's cache cost: what its 03 line gives; a task of an 02 line takes the header's
 abbrev pub cacheCost : Header → Task → ℕ
 cacheCost h t = givenOr (t .cache) (h .cpmdo)
 
--- a header with what its 05 line gives
-abbrev pub withMasked : Header → Optional → Header
-withMasked h masked =
+-- a header with what its 05 line and its 06 line give
+abbrev pub withLines : Header → (masked rule : Optional) → Header
+withLines h masked rule =
     record {
       processors = h .processors;
       slot = h .slot;
@@ -57,6 +64,7 @@ withMasked h masked =
       resd = h .resd;
       cpmdo = h .cpmdo;
       masked = masked;
+      rule = rule;
     }
 
 abbrev pub zeroTask : Task

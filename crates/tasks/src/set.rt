@@ -1,7 +1,7 @@
 // The task set: the board's figures, the tasks and the interrupts, each in file order, with the limits of documents 01 and 02 as its constants.
 // A set may also be built by a caller, so its types hold more than a file's fields do.
 ghost use mathlib.Core.Path.{_≡_};
-ghost use Rattle.tasks.specs.Set.{zeroSet, noInterrupts, maskedTicks, withMasked, givenOr, cacheCost};
+ghost use Rattle.tasks.specs.Set.{zeroSet, noInterrupts, maskedTicks, ruleNumber, withLines, givenOr, cacheCost};
 
 // The figure of an optional line or field, or that there is none.
 pub enum Optional {
@@ -9,7 +9,7 @@ pub enum Optional {
     Given(u16),
 }
 
-// The board's figures: those of the 01 line, and that of the 05 line.
+// The board's figures: those of the 01 line, that of the 05 line and that of the 06 line.
 pub struct Header {
     pub processors: u8,
     pub slot: u32,
@@ -19,6 +19,7 @@ pub struct Header {
     pub resd: u16,
     pub cpmdo: u16,
     pub masked: Optional,
+    pub rule: Optional,
 }
 
 // The figures of an 02 line; or those of an 03 line, which also gives the task's cache cost.
@@ -62,6 +63,8 @@ impl TaskSet {
 
     pub const LONGEST_HORIZON: u64 = 10_000_000;
 
+    pub const LAST_RULE: u16 = 8;
+
     // The all-zero set, which a refused read answers.
     pub fn zero() -> TaskSet
         ensures { λ r. ⌜ r ≡ zeroSet ⌝ }
@@ -76,6 +79,7 @@ impl TaskSet {
                 resd: 0,
                 cpmdo: 0,
                 masked: Optional::Absent,
+                rule: Optional::Absent,
             },
             count: 0,
             tasks: [Task {
@@ -128,8 +132,17 @@ impl Header {
         masked.given_or(0)
     }
 
-    pub fn with_masked(self, masked: Optional) -> Header
-        ensures { λ r. ⌜ r ≡ withMasked self masked ⌝ }
+    // The number of the packing rule.
+    pub fn rule_number(self) -> u16
+        ensures { λ r. ⌜ r ≡ ruleNumber self ⌝ }
+    {
+        let rule = self.rule;
+        rule.given_or(0)
+    }
+
+    // The figures of the 01 line, with what the lines behind it give.
+    pub fn with_lines(self, masked: Optional, rule: Optional) -> Header
+        ensures { λ r. ⌜ r ≡ withLines self masked rule ⌝ }
     {
         Header {
             processors: self.processors,
@@ -140,6 +153,7 @@ impl Header {
             resd: self.resd,
             cpmdo: self.cpmdo,
             masked,
+            rule,
         }
     }
 }

@@ -58,10 +58,15 @@ returns-13 : tie.Need-returns-13
 unfolding kindOf widthsOf sum front rowOf
 returns-13 c = sym (ap rowOf (c .enum-told13 .given .1))
 
+returns-14 : tie.Need-returns-14
+unfolding kindOf widthsOf sum front rowOf
+returns-14 c = sym (ap rowOf (c .enum-told14 .given .1))
+
 pub row-of-spec : {M : Type 1} → statement M
 row-of-spec =
     tie.close
     (tie.spec
+    (λ c. search needs)
     (λ c. search needs)
     (λ c. search needs)
     (λ c. search needs)
@@ -87,4 +92,5 @@ row-of-spec =
     returns-10
     returns-11
     returns-12
-    returns-13)
+    returns-13
+    returns-14)
