@@ -1,8 +1,9 @@
 // Row 11 of a task set: it breaks row 3 or 4, or holds what no file's lines can carry.
 // The planner and the task writer ask it first of any set that a caller built.
+use frames::table::Frame;
 use overflowing::header_overflows;
 use overflowing::interrupt_overflows;
-use overflowing::masked_overflows;
+use overflowing::optional_overflows;
 use overflowing::task_overflows;
 use taskask_code::breaks_count;
 use taskask_code::breaks_twice;
@@ -64,7 +65,11 @@ pub fn asks(set: TaskSet) -> bool
         return true;
     }
     let masked = header.masked;
-    if masked_overflows(masked) {
+    if optional_overflows(Frame::Masked, masked) {
+        return true;
+    }
+    let rule = header.rule;
+    if optional_overflows(Frame::Rule, rule) {
         return true;
     }
     interrupts_overflow(set.interrupts)

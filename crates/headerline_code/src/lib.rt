@@ -38,6 +38,7 @@ fn header_at(text: &[u8]) -> Header
         resd: field(text, 0, Frame::Header, 5) as u16,
         cpmdo: field(text, 0, Frame::Header, 6) as u16,
         masked: Optional::Absent,
+        rule: Optional::Absent,
     }
 }
 
@@ -53,7 +54,7 @@ pub fn header_line(text: &[u8]) -> HeaderLine
     };
     match frame {
         Frame::Header => HeaderLine::Header(header_at(text)),
-        Frame::Task | Frame::Cached | Frame::Masked | Frame::Interrupt => {
+        Frame::Task | Frame::Cached | Frame::Masked | Frame::Rule | Frame::Interrupt => {
             HeaderLine::Refused(Refusal::Order(1))
         }
         _ => HeaderLine::Refused(Refusal::Line(1)),

@@ -43,7 +43,7 @@ pub fn interrupt_row(text: &[u8], at: usize, lines: usize, count: usize) -> Outc
         return Outcome::Refused(Refusal::Line(line));
     };
     match frame {
-        Frame::Header | Frame::Task | Frame::Cached | Frame::Masked => {
+        Frame::Header | Frame::Task | Frame::Cached | Frame::Masked | Frame::Rule => {
             Outcome::Refused(Refusal::Order(line))
         }
         Frame::Interrupt => {

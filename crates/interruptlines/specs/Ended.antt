@@ -1,5 +1,5 @@
 -- How reading the 07 lines ends.
--- Document 01, "Reading takes lines in order" (RULES 6.2); document 02, Req 08.
+-- Document 01, "Reading takes lines in order" (RULES 6.2); document 02, Req 05 and Req 08.
 use Prim.Native.Nat.{ℕ, _+_, _≤_}
 use mathlib.Core.List.{List, []}
 use mathlib.Core.Path.{_≡_}
@@ -15,7 +15,7 @@ use Rattle.interruptlines.specs.declared.InterruptLines.{InterruptLines}
 -- Then the text ends, or the next line is refused.
 pub record Ended (text : List ℕ) (before : ℕ) (r : InterruptLines) : Type 0 where
   pub some : 1 ≤ r .lines
-  pub lines : r .lines ≤ mostTasks + mostInterrupts + 2
+  pub lines : r .lines ≤ mostTasks + mostInterrupts + 3
   pub few : length (interruptsAmong text (r .lines)) ≤ mostInterrupts
   pub clear : till (lineOutcome text) (r .lines) ≡ Done
   pub tasks : tasksAmong text (r .lines) ≡ tasksAmong text before

@@ -1,4 +1,4 @@
--- Laws of the 05 line and of the 07 lines.
+-- Laws of the lines with one figure, 05 and 06, and of the 07 lines.
 -- Assumes nothing.
 use Prim.Native.Nat.{ℕ, _+_, _≤_}
 use mathlib.Core.Path.{_≡_, refl, sym, _∙_, ap}
@@ -15,28 +15,29 @@ use Rattle.tasks.specs.declared.set.Interrupt.{Interrupt}
 use Rattle.tasks.specs.declared.set.Optional.{Optional}
 use Rattle.tasks.specs.declared.set.Optional.the-variants.{Absent, Given}
 use Rattle.tasks.specs.Values.{interruptValues}
-use Rattle.optionallines.specs.Lines.{maskedLine}
+use Rattle.optionallines.specs.Lines.{optionalLine}
 
--- the 05 line: nothing where the set has none, else the line of its figure
-pub masked-none : {masked : Optional} → masked ≡ Absent → maskedLine masked ≡ []
-unfolding maskedLine
-masked-none e = ap maskedLine e
+module _ (frame : Frame) where
+  -- an optional line: nothing where the set has none, else the line of its figure
+  pub optional-none : {figure : Optional} → figure ≡ Absent → optionalLine frame figure ≡ []
+  unfolding optionalLine
+  optional-none e = ap (optionalLine frame) e
 
-pub masked-given : {masked : Optional} {figure : ℕ} → masked ≡ Given figure → maskedLine masked ≡ lineOf Frame.Masked (figure ∷ [])
-unfolding maskedLine
-masked-given e = ap maskedLine e
+  pub optional-given : {figure : Optional} {given : ℕ} → figure ≡ Given given → optionalLine frame figure ≡ lineOf frame (given ∷ [])
+  unfolding optionalLine
+  optional-given e = ap (optionalLine frame) e
 
--- its bytes: those of the table's row where it is there, and in any case no more
-pub masked-bytes : {masked : Optional} {figure : ℕ} → masked ≡ Given figure → length (maskedLine masked) ≡ lengthOf Frame.Masked + 1
-masked-bytes {figure = figure} e = ap length (masked-given e) ∙ line-length Frame.Masked (figure ∷ [])
+  -- its bytes: those of the table's row where it is there, and in any case no more
+  pub optional-bytes : {figure : Optional} {given : ℕ} → figure ≡ Given given → length (optionalLine frame figure) ≡ lengthOf frame + 1
+  optional-bytes {given = given} e = ap length (optional-given e) ∙ line-length frame (given ∷ [])
 
-pub masked-most : (masked : Optional) → length (maskedLine masked) ≤ lengthOf Frame.Masked + 1
-masked-most Absent = omega (arith, ap length (masked-none {masked = Absent} refl))
-masked-most (Given figure) = omega (arith, masked-bytes {masked = Given figure} refl)
+  pub optional-most : (figure : Optional) → length (optionalLine frame figure) ≤ lengthOf frame + 1
+  optional-most Absent = omega (arith, ap length (optional-none {figure = Absent} refl))
+  optional-most (Given given) = omega (arith, optional-bytes {figure = Given given} refl)
 
--- the 05 line where there is none changes nothing
-pub masked-unchanged : (b : List ℕ) (at : ℕ) {masked : Optional} → masked ≡ Absent → b ≡ stored b at (maskedLine masked)
-masked-unchanged b at e = sym (ap (stored b at) (masked-none e) ∙ stored-nil b at)
+  -- a line where there is none changes nothing
+  pub optional-unchanged : (b : List ℕ) (at : ℕ) {figure : Optional} → figure ≡ Absent → b ≡ stored b at (optionalLine frame figure)
+  optional-unchanged b at e = sym (ap (stored b at) (optional-none e) ∙ stored-nil b at)
 
 -- an interrupt has as many figures as its line has fields
 pub interrupt-sized : (i : Interrupt) → length (interruptValues i) ≡ fieldsIn Frame.Interrupt

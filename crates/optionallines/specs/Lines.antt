@@ -1,5 +1,5 @@
 -- The lines that a task file may do without.
--- Document 02, Req 04: a 05 line behind the 01 line; Req 08: 07 lines after all tasks.
+-- Document 02, Req 04 and Req 05: a 05 line and a 06 line behind the 01 line; Req 08: 07 lines after all tasks.
 use Prim.Native.Nat.{ℕ, _*_}
 use mathlib.Core.List.{List, [], _∷_}
 use Rattle.framewrite.specs.Line.{lineOf}
@@ -11,10 +11,10 @@ use Rattle.tasks.specs.declared.set.Optional.the-variants.{Absent, Given}
 use Rattle.tasks.specs.Set.{mostInterrupts, zeroInterrupt}
 use Rattle.tasks.specs.Values.{interruptValues}
 
--- the 05 line, where the set has one
-unfoldable pub maskedLine : Optional → List ℕ
-maskedLine Absent = []
-maskedLine (Given masked) = lineOf Frame.Masked (masked ∷ [])
+-- the line of a frame of one field (05 or 06), where the set has one
+unfoldable pub optionalLine : Frame → Optional → List ℕ
+optionalLine frame Absent = []
+optionalLine frame (Given figure) = lineOf frame (figure ∷ [])
 
 -- the 07 line of an interrupt, and those of all, in file order
 abbrev pub interruptLine : Interrupt → List ℕ

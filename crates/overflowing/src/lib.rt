@@ -1,4 +1,4 @@
-// Figures that are too large for the fields of their lines, of the header, of a task, of the 05 line and of an interrupt.
+// Figures that are too large for the fields of their lines, of the header, of a task, of an optional line of one field (05 or 06) and of an interrupt.
 use frames::table::Frame;
 use overflows::overflows;
 use taskframe::task_frame;
@@ -10,7 +10,9 @@ use taskvalues::header_values;
 use taskvalues::interrupt_values;
 use taskvalues::task_values;
 ghost use mathlib.Core.Path.{_≡_};
-ghost use Rattle.taskask.specs.Ask.{headerOverflows, taskOverflows, maskedOverflows, interruptOverflows};
+ghost use Prim.Native.Nat.{_≤_};
+ghost use Rattle.frames.specs.Table.{fieldsIn};
+ghost use Rattle.taskask.specs.Ask.{headerOverflows, taskOverflows, optionalOverflows, interruptOverflows};
 
 // A figure of the header is too large for its field.
 pub fn header_overflows(header: Header) -> bool
@@ -29,15 +31,16 @@ pub fn task_overflows(task: Task) -> bool
     overflows(frame, &values)
 }
 
-// The figure of the 05 line is too large for its field.
-pub fn masked_overflows(masked: Optional) -> bool
-    ensures { λ r. ⌜ r ≡ maskedOverflows masked ⌝ }
+// The figure of an optional line of this frame is too large for its field.
+pub fn optional_overflows(frame: Frame, figure: Optional) -> bool
+    requires { ⌜ fieldsIn frame ≤ 1 ⌝ }
+    ensures { λ r. ⌜ r ≡ optionalOverflows frame figure ⌝ }
 {
-    let Optional::Given(ticks) = masked else {
+    let Optional::Given(given) = figure else {
         return false;
     };
-    let values = [ticks as u64];
-    overflows(Frame::Masked, &values)
+    let value = [given as u64];
+    overflows(frame, &value)
 }
 
 // A figure of the interrupt is too large for its field.

@@ -32,7 +32,7 @@ use Rattle.tasks_claims.proofs.ReachedLaws.{lines-most, ends}
 use Rattle.loads.specs.Figures.{figuresOf}
 use Rattle.setfigures.specs.Figures.{setFigures}
 use Rattle.setfigures.specs.Board.{setBoard}
-use Rattle.rows.proofs.Clears.{board-slot}
+use Rattle.taskrows.proofs.BoardLaws.{board-slot}
 use Rattle.servers.specs.Placement.{placementOf}
 use Rattle.servers.proofs.Claims.{servers-few}
 use Rattle.sizing.proofs.Claims.{reserves-count}
@@ -52,14 +52,14 @@ absent-holds ORDER text n e = rw (absent-later n (suc n) text (omega arith) e, n
 absent-holds COUNT text n e = rw (absent-later n (suc n) text (omega arith) e, e)
 absent-holds TWICE text n e = rw (absent-later n (suc n) text (omega arith) e)
 
-line-few : (row : LineRow) (text : List ℕ) (k : ℕ) → FirstAt row text k → k ≤ 99
+line-few : (row : LineRow) (text : List ℕ) (k : ℕ) → FirstAt row text k → k ≤ 100
 line-few row text zero f = omega arith
 line-few row text (suc zero) f = omega arith
 line-few row text (suc (suc n)) f =
-    elim (decLt 99 (suc (suc n))) [
-      | yes past99 ↦
-          let e = ends text (λ j one le. f .clear j one (omega (arith, past99, le))) in
-          let gone = absent-later (linesTo text (e .tasks) (e .interrupts)) n text (omega (arith, lines-most text (e .tasks) (e .interrupts) (e .reached), past99)) (e .ended) in
+    elim (decLt 100 (suc (suc n))) [
+      | yes past100 ↦
+          let e = ends text (λ j one le. f .clear j one (omega (arith, past100, le))) in
+          let gone = absent-later (linesTo text (e .tasks) (e .interrupts)) n text (omega (arith, lines-most text (e .tasks) (e .interrupts) (e .reached), past100)) (e .ended) in
           true-false (sym (f .holds) ∙ absent-holds row text n gone)
       | no few ↦ omega (arith, few)
     ]

@@ -14,7 +14,7 @@ ghost use Rattle.turn.specs.Count.{longestSwitches};
 ghost use Rattle.switchlist.specs.Write.{planSwitches, writeSwitches};
 
 // The bytes of a 21 line with its LF, by the table.
-const SWITCH_BYTES: usize = TABLE[10].starts[MOST_FIELDS] as usize + 1;
+const SWITCH_BYTES: usize = TABLE[11].starts[MOST_FIELDS] as usize + 1;
 
 const MOST_PROCESSORS: usize = TaskSet::MOST_PROCESSORS as usize;
 

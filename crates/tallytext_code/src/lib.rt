@@ -14,9 +14,9 @@ ghost use Rattle.planfit.specs.Fit.{Fits};
 ghost use Rattle.tallytext.specs.Text.{toldFigures, tallyText};
 
 // The bytes of a 40 and of a 41 line with its LF, by the table.
-const ACCEPTED_BYTES: usize = TABLE[11].starts[MOST_FIELDS] as usize + 1;
+const ACCEPTED_BYTES: usize = TABLE[12].starts[MOST_FIELDS] as usize + 1;
 
-const MET_BYTES: usize = TABLE[12].starts[MOST_FIELDS] as usize + 1;
+const MET_BYTES: usize = TABLE[13].starts[MOST_FIELDS] as usize + 1;
 
 // The 41 lines, and the numbers that they tell: those of a reading or a plan, from 0.
 const LINES: usize = 12;

@@ -21,9 +21,9 @@ use Rattle.tasks.specs.declared.set.TaskSet.{TaskSet}
 use Rattle.tasks.specs.Set.{mostTasks, mostInterrupts, members, interruptsIn}
 use Rattle.tasks.specs.Search.{some}
 use Rattle.taskframe.specs.Frames.{taskFrame}
-use Rattle.taskask.specs.Ask.{countRow, twiceRow, headerOverflows, taskOverflows, maskedOverflows, interruptOverflows, askRow}
+use Rattle.taskask.specs.Ask.{countRow, twiceRow, headerOverflows, taskOverflows, optionalOverflows, interruptOverflows, askRow}
 
--- the figures of a header, of a task, of a 05 line and of an interrupt that are not too large fit their fields
+-- the figures of a header, of a task, of an optional line and of an interrupt that are not too large fit their fields
 pub header-fits : (h : Header) → headerOverflows h ≡ false → (k : ℕ) → k < fieldsIn Frame.Header → getD (headerValues h) k 0 < 16 ^ widthOf Frame.Header k
 unfolding headerOverflows
 header-fits h e = values-fit Frame.Header (headerValues h) e
@@ -32,9 +32,9 @@ pub task-fits : (t : Task) → taskOverflows t ≡ false → (k : ℕ) → k < f
 unfolding taskOverflows
 task-fits t e = values-fit (taskFrame t) (taskValues t) e
 
-pub masked-fits : (masked : ℕ) → maskedOverflows (Given masked) ≡ false → (k : ℕ) → k < fieldsIn Frame.Masked → getD (masked ∷ []) k 0 < 16 ^ widthOf Frame.Masked k
-unfolding maskedOverflows
-masked-fits masked e = values-fit Frame.Masked (masked ∷ []) e
+pub optional-fits : (frame : Frame) (figure : ℕ) → optionalOverflows frame (Given figure) ≡ false → (k : ℕ) → k < fieldsIn frame → getD (figure ∷ []) k 0 < 16 ^ widthOf frame k
+unfolding optionalOverflows
+optional-fits frame figure e = values-fit frame (figure ∷ []) e
 
 pub interrupt-fits : (i : Interrupt) → interruptOverflows i ≡ false → (k : ℕ) → k < fieldsIn Frame.Interrupt → getD (interruptValues i) k 0 < 16 ^ widthOf Frame.Interrupt k
 unfolding interruptOverflows
@@ -67,40 +67,58 @@ count-right set some most few =
     count-rows set (ne-eqb (set .count) 0 (λ (e : set .count ≡ 0). omega arith)) (le-ltb mostTasks (set .count) most) (le-ltb mostInterrupts (set .interrupts .count) few)
 
 -- row 11 of a set, by the answers of its parts
-pub ask-rows : (set : TaskSet) {a b c d e f : Bool} → countRow set ≡ a → twiceRow (members set) ≡ b → headerOverflows (set .header) ≡ c → some taskOverflows (members set) ≡ d → maskedOverflows (set .header .masked) ≡ e → some interruptOverflows (interruptsIn set) ≡ f → askRow set ≡ (a || (b || (c || (d || (e || f)))))
+pub ask-rows : (set : TaskSet) {a b c d e f g : Bool} → countRow set ≡ a → twiceRow (members set) ≡ b → headerOverflows (set .header) ≡ c → some taskOverflows (members set) ≡ d → optionalOverflows Frame.Masked (set .header .masked) ≡ e → optionalOverflows Frame.Rule (set .header .rule) ≡ f → some interruptOverflows (interruptsIn set) ≡ g → askRow set ≡ (a || (b || (c || (d || (e || (f || g))))))
 unfolding askRow
-ask-rows set p q r t u v = rw (p, q, r, t, u, v)
+ask-rows set p q r t u v w = rw (p, q, r, t, u, v, w)
 
 -- a set that row 11 lets pass breaks none of its parts
 module _ (set : TaskSet) (pass : askRow set ≡ false) where
+  abbrev behind-masked : Bool
+  behind-masked = optionalOverflows Frame.Rule (set .header .rule) || some interruptOverflows (interruptsIn set)
+
+  abbrev behind-tasks : Bool
+  behind-tasks = optionalOverflows Frame.Masked (set .header .masked) || behind-masked
+
+  abbrev behind-header : Bool
+  behind-header = some taskOverflows (members set) || behind-tasks
+
+  abbrev behind-twice : Bool
+  behind-twice = headerOverflows (set .header) || behind-header
+
   pub ask-count : countRow set ≡ false
   unfolding askRow
   ask-count = or-left (countRow set) _ pass
 
-  past-count : (twiceRow (members set) || (headerOverflows (set .header) || (some taskOverflows (members set) || (maskedOverflows (set .header .masked) || some interruptOverflows (interruptsIn set))))) ≡ false
+  past-count : (twiceRow (members set) || behind-twice) ≡ false
   unfolding askRow
   past-count = or-right (countRow set) _ pass
 
   pub ask-twice : twiceRow (members set) ≡ false
   ask-twice = or-left (twiceRow (members set)) _ past-count
 
-  past-twice : (headerOverflows (set .header) || (some taskOverflows (members set) || (maskedOverflows (set .header .masked) || some interruptOverflows (interruptsIn set)))) ≡ false
+  past-twice : behind-twice ≡ false
   past-twice = or-right (twiceRow (members set)) _ past-count
 
   pub ask-header : headerOverflows (set .header) ≡ false
   ask-header = or-left (headerOverflows (set .header)) _ past-twice
 
-  past-header : (some taskOverflows (members set) || (maskedOverflows (set .header .masked) || some interruptOverflows (interruptsIn set))) ≡ false
+  past-header : behind-header ≡ false
   past-header = or-right (headerOverflows (set .header)) _ past-twice
 
   pub ask-tasks : some taskOverflows (members set) ≡ false
   ask-tasks = or-left (some taskOverflows (members set)) _ past-header
 
-  past-tasks : (maskedOverflows (set .header .masked) || some interruptOverflows (interruptsIn set)) ≡ false
+  past-tasks : behind-tasks ≡ false
   past-tasks = or-right (some taskOverflows (members set)) _ past-header
 
-  pub ask-masked : maskedOverflows (set .header .masked) ≡ false
-  ask-masked = or-left (maskedOverflows (set .header .masked)) _ past-tasks
+  pub ask-masked : optionalOverflows Frame.Masked (set .header .masked) ≡ false
+  ask-masked = or-left (optionalOverflows Frame.Masked (set .header .masked)) _ past-tasks
+
+  past-masked : behind-masked ≡ false
+  past-masked = or-right (optionalOverflows Frame.Masked (set .header .masked)) _ past-tasks
+
+  pub ask-rule : optionalOverflows Frame.Rule (set .header .rule) ≡ false
+  ask-rule = or-left (optionalOverflows Frame.Rule (set .header .rule)) _ past-masked
 
   pub ask-interrupts : some interruptOverflows (interruptsIn set) ≡ false
-  ask-interrupts = or-right (maskedOverflows (set .header .masked)) _ past-tasks
+  ask-interrupts = or-right (optionalOverflows Frame.Rule (set .header .rule)) _ past-masked

@@ -1,5 +1,5 @@
 -- Row 11 of a task set, with rows 3 and 4 of a set's figures.
--- Document 01, "Refusal numbers and their order" (RULES 6), rows 3, 4 and 11; document 02, Req 04, 07 and 08.
+-- Document 01, "Refusal numbers and their order" (RULES 6), rows 3, 4 and 11; document 02, Req 04, 05, 07 and 08.
 use mathlib.Core.List.{List, [], _∷_}
 use mathlib.Core.Bool.{Bool, false, _||_}
 use lib.Dec.{ltb, eqb}
@@ -25,16 +25,16 @@ unfoldable pub twiceRow : List Task → Bool
 twiceRow [] = false
 twiceRow (t ∷ ts) = some (hasId (t .id)) ts || twiceRow ts
 
--- a figure of a header, of a task, of a 05 line or of an interrupt is too large for its field
+-- a figure of a header, of a task, of an optional line of one field (05 or 06) or of an interrupt is too large for its field
 unfoldable pub headerOverflows : Header → Bool
 headerOverflows h = lineOverflows Frame.Header (headerValues h)
 
 unfoldable pub taskOverflows : Task → Bool
 taskOverflows t = lineOverflows (taskFrame t) (taskValues t)
 
-unfoldable pub maskedOverflows : Optional → Bool
-maskedOverflows Absent = false
-maskedOverflows (Given masked) = lineOverflows Frame.Masked (masked ∷ [])
+unfoldable pub optionalOverflows : Frame → Optional → Bool
+optionalOverflows frame Absent = false
+optionalOverflows frame (Given figure) = lineOverflows frame (figure ∷ [])
 
 unfoldable pub interruptOverflows : Interrupt → Bool
 interruptOverflows i = lineOverflows Frame.Interrupt (interruptValues i)
@@ -45,4 +45,6 @@ askRow set =
     countRow set ||
     (twiceRow (members set) ||
     (headerOverflows (set .header) ||
-    (some taskOverflows (members set) || (maskedOverflows (set .header .masked) || some interruptOverflows (interruptsIn set)))))
+    (some taskOverflows (members set) ||
+    (optionalOverflows Frame.Masked (set .header .masked) ||
+    (optionalOverflows Frame.Rule (set .header .rule) || some interruptOverflows (interruptsIn set))))))

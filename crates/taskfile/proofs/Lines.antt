@@ -1,18 +1,21 @@
 -- What a line answers, by what stands there, and what the lines before it answer.
 -- Assumes nothing.
-use Prim.Native.Nat.{ℕ, zero, suc, _+_, _≤_, _<_}
+use Prim.Native.Nat.{ℕ, zero, suc, pred, _+_, _≤_, _<_}
 use native.Mathlib.Omega.{arith}
 use native.Mathlib.Decide.{decLt}
 use mathlib.Core.List.{List, [], _∷_}
 use mathlib.Core.Bool.{Bool, true, false, not, cond, and-false, or-false, or-true}
 use mathlib.Core.Logic.{_⊎_, inl, inr, ⊎-elim}
-use mathlib.Core.Path.{_≡_, refl, sym, _∙_, ap}
-use lib.ListN.{length}
+use mathlib.Core.Path.{_≡_, refl, sym, _∙_, ap, subst}
+use lib.ListN.{length, getD}
+use lib.Seq.{getD-take}
 use lib.Dec.{eqb}
 use borrow.Author.Tests.{eq-eqb, ne-eqb, not-false}
 use Rattle.laws.proofs.Tests.{true-false, or-either, or-left, or-right}
 use Rattle.frameread.specs.Line.{formed, closed}
+use Rattle.frames.specs.Table.{indexOf, allFrames}
 use Rattle.frames.specs.declared.table.Frame.{Frame}
+use Rattle.frames.proofs.Tables.{at-index}
 use Rattle.refusals.specs.declared.Refusal.{Refusal}
 use Rattle.refusals.specs.declared.Refusal.the-variants.{Line, Order, Count, Twice}
 use Rattle.refusals.specs.declared.Outcome.the-variants.{Done, Refused}
@@ -20,8 +23,9 @@ use Rattle.refusals.specs.First.{firstOf, when, till}
 use Rattle.tasks.specs.declared.set.Interrupt.{Interrupt}
 use Rattle.tasks.specs.Set.{mostTasks, mostInterrupts, hasId}
 use Rattle.tasks.specs.Search.{some}
-use Rattle.taskfile.specs.File.{past, empty, fileKinds, admitted, lineRow, orderRow, countLineRow, twiceLineRow, lineOutcome, openingLines, taskFormed, taskAt, tasksAmong, fileTasks, interruptsAmong}
+use Rattle.taskfile.specs.File.{past, empty, fileKinds, admitted, lineRow, orderRow, countLineRow, twiceLineRow, lineOutcome, ruleLine, openingLines, taskFormed, taskAt, tasksAmong, fileTasks, interruptsAmong}
 use Rattle.frameread.proofs.KindLaws.{not-formed}
+use Rattle.tasks.proofs.Some.{some-at}
 use Rattle.tasks.proofs.SearchLaws.{some-nowhere}
 use Rattle.refusals.proofs.FirstLaws.{done-refused, first-done, first-none, when-done, till-done, done-till}
 use Rattle.taskfile.proofs.Past.{absent-later, absent-past}
@@ -44,37 +48,37 @@ task-no-masked text f = task-apart text f Frame.Masked refl refl
 pub task-no-interrupt : (text : List ℕ) → taskFormed text ≡ true → formed Frame.Interrupt text ≡ false
 task-no-interrupt text f = task-apart text f Frame.Interrupt refl refl
 
-pub masked-no-header : (text : List ℕ) → formed Frame.Masked text ≡ true → formed Frame.Header text ≡ false
-masked-no-header text f = not-formed Frame.Masked Frame.Header refl text f
+pub task-no-rule : (text : List ℕ) → taskFormed text ≡ true → formed Frame.Rule text ≡ false
+task-no-rule text f = task-apart text f Frame.Rule refl refl
 
-pub masked-no-task : (text : List ℕ) → formed Frame.Masked text ≡ true → taskFormed text ≡ false
-masked-no-task text f = no-task-line Frame.Masked refl refl text f
+-- the kinds that a task file admits are the first of the table
+pub kind-admitted : (kind : Frame) → indexOf kind < length fileKinds → (rest : List ℕ) → formed kind rest ≡ true → admitted rest ≡ true
+kind-admitted kind lt rest f = by-answer (admitted rest) refl
+  where
+    there : getD fileKinds (indexOf kind) Frame.Header ≡ kind
+    there = getD-take (length fileKinds) allFrames (indexOf kind) Frame.Header lt ∙ at-index (λ (g : Frame). g) Frame.Header kind
 
--- a text that starts with a line that a task file admits
+    by-answer : (b : Bool) → admitted rest ≡ b → b ≡ true
+    by-answer true e = refl
+    by-answer false e =
+        true-false (sym f ∙ ap (λ (g : Frame). formed g rest) (sym there) ∙ some-at (λ (g : Frame). formed g rest) fileKinds (indexOf kind) Frame.Header e lt)
+
 task-admitted : (rest : List ℕ) → taskFormed rest ≡ true → admitted rest ≡ true
-unfolding some taskFormed
+unfolding taskFormed
 task-admitted rest task =
     ⊎-elim
-    (λ (plain : formed Frame.Task rest ≡ true). rw plain (simp or-true))
-    (λ (cached : formed Frame.Cached rest ≡ true). rw cached (simp or-true))
+    (kind-admitted Frame.Task (omega arith) rest)
+    (kind-admitted Frame.Cached (omega arith) rest)
     (or-either (formed Frame.Task rest) (formed Frame.Cached rest) task)
-
-masked-admitted : (rest : List ℕ) → formed Frame.Masked rest ≡ true → admitted rest ≡ true
-unfolding some
-masked-admitted rest masked = rw masked (simp or-true)
-
-interrupt-admitted : (rest : List ℕ) → formed Frame.Interrupt rest ≡ true → admitted rest ≡ true
-unfolding some
-interrupt-admitted rest interrupt = rw interrupt (simp or-true)
 
 -- a text that starts with no kind of line, and with none of those that a task file admits
 pub admits-none : (rest : List ℕ) → ((kind : Frame) → formed kind rest ≡ false) → admitted rest ≡ false
 admits-none rest none = some-nowhere (λ (kind : Frame). formed kind rest) Frame.Header fileKinds (λ j lt. none _)
 
-pub neither : (rest : List ℕ) → formed Frame.Header rest ≡ false → taskFormed rest ≡ false → formed Frame.Masked rest ≡ false → formed Frame.Interrupt rest ≡ false → admitted rest ≡ false
+pub neither : (rest : List ℕ) → formed Frame.Header rest ≡ false → taskFormed rest ≡ false → formed Frame.Masked rest ≡ false → formed Frame.Rule rest ≡ false → formed Frame.Interrupt rest ≡ false → admitted rest ≡ false
 unfolding some taskFormed
-neither rest header task masked interrupt =
-    rw (header, or-left (formed Frame.Task rest) (formed Frame.Cached rest) task, or-right (formed Frame.Task rest) (formed Frame.Cached rest) task, masked, interrupt)
+neither rest header task masked rule interrupt =
+    rw (header, or-left (formed Frame.Task rest) (formed Frame.Cached rest) task, or-right (formed Frame.Task rest) (formed Frame.Cached rest) task, masked, rule, interrupt)
 
 -- a text that starts with a line is not empty
 pub formed-there : (frame : Frame) (rest : List ℕ) → formed frame rest ≡ true → empty rest ≡ false
@@ -127,22 +131,54 @@ refused-within text (suc m) r e =
 
 -- ---- the lines before the tasks
 
--- one at least, two with a 05 line at line 2, else one
-pub some-opening : (text : List ℕ) → 1 ≤ openingLines text
-unfolding openingLines
-some-opening text = by-kind (formed Frame.Masked (past 1 text))
+pub pred-one : (n : ℕ) → 1 ≤ n → suc (pred n) ≡ n
+pred-one zero le = absurd (omega arith)
+pred-one (suc n) le = refl
+
+-- a 06 line may stand at line 3 where line 2 is a 05 line, else at line 2
+pub rule-line : (text : List ℕ) {b : Bool} → formed Frame.Masked (past 1 text) ≡ b → ruleLine text ≡ cond b 3 2
+unfolding ruleLine
+rule-line text e = rw e
+
+pub rule-within : (text : List ℕ) → (2 ≤ ruleLine text) × (ruleLine text ≤ 3)
+unfolding ruleLine
+rule-within text = by-kind (formed Frame.Masked (past 1 text))
   where
-    by-kind : (b : Bool) → 1 ≤ cond b 2 1
-    by-kind true = omega arith
-    by-kind false = omega arith
+    by-kind : (b : Bool) → (2 ≤ cond b 3 2) × (cond b 3 2 ≤ 3)
+    by-kind true = (omega arith, omega arith)
+    by-kind false = (omega arith, omega arith)
 
-pub opening-two : (text : List ℕ) → formed Frame.Masked (past 1 text) ≡ true → openingLines text ≡ 2
+-- that line is one of those before the tasks if it is a 06 line
+pub opening-lines : (text : List ℕ) {b : Bool} → formed Frame.Rule (past (pred (ruleLine text)) text) ≡ b → openingLines text ≡ cond b (ruleLine text) (pred (ruleLine text))
 unfolding openingLines
-opening-two text masked = rw masked
+opening-lines text e = rw e
 
-pub opening-one : (text : List ℕ) → formed Frame.Masked (past 1 text) ≡ false → openingLines text ≡ 1
+-- they end there or at the line before
+pub opening-near : (text : List ℕ) → (ruleLine text ≤ openingLines text + 1) × (openingLines text ≤ ruleLine text)
 unfolding openingLines
-opening-one text other = rw other
+opening-near text = by-kind (formed Frame.Rule (past (pred (ruleLine text)) text))
+  where
+    by-kind : (b : Bool) → (ruleLine text ≤ cond b (ruleLine text) (pred (ruleLine text)) + 1) × (cond b (ruleLine text) (pred (ruleLine text)) ≤ ruleLine text)
+    by-kind true = (omega arith, omega arith)
+    by-kind false = (omega (arith, pred-one (ruleLine text) (omega (arith, rule-within text))), omega (arith, pred-one (ruleLine text) (omega (arith, rule-within text))))
+
+-- each of the two lines that is there counts as one
+pub masked-lines : (text : List ℕ) → cond (formed Frame.Masked (past 1 text)) 2 1 ≡ pred (ruleLine text)
+unfolding ruleLine
+masked-lines text = by-kind (formed Frame.Masked (past 1 text))
+  where
+    by-kind : (b : Bool) → cond b 2 1 ≡ pred (cond b 3 2)
+    by-kind true = refl
+    by-kind false = refl
+
+pub rule-lines : (text : List ℕ) → cond (formed Frame.Rule (past (pred (ruleLine text)) text)) (suc (pred (ruleLine text))) (pred (ruleLine text)) ≡ openingLines text
+unfolding openingLines
+rule-lines text =
+    ap (λ (n : ℕ). cond (formed Frame.Rule (past (pred (ruleLine text)) text)) n (pred (ruleLine text))) (pred-one (ruleLine text) (omega (arith, rule-within text)))
+
+-- one at least
+pub some-opening : (text : List ℕ) → 1 ≤ openingLines text
+some-opening text = omega (arith, rule-within text, opening-near text)
 
 -- ---- line 1
 
@@ -156,33 +192,60 @@ pub first-header : (text : List ℕ) → formed Frame.Header text ≡ true → l
 unfolding lineOutcome lineRow orderRow countLineRow twiceLineRow past some
 first-header text header = rw (header, header-no-task text header, not-formed Frame.Header Frame.Interrupt refl text header, formed-there Frame.Header text header)
 
--- that is a task's line, a 05 or an 07 line
+-- that breaks row 2 and is admitted; so is any line
+order-said : (text : List ℕ) (n : ℕ) → admitted (past n text) ≡ true → orderRow text (suc n) ≡ true → lineOutcome text (suc n) ≡ Refused (Order (suc n))
+unfolding lineOutcome lineRow
+order-said text n admits order = rw (admits, order, and-false (not (empty (past n text))))
+
+-- that is of another kind that a task file admits
+first-later : (text : List ℕ) → formed Frame.Header text ≡ false → admitted text ≡ true → lineOutcome text 1 ≡ Refused (Order 1)
+unfolding orderRow past
+first-later text other admits = order-said text 0 admits (rw other refl)
+
+pub first-kind : (kind : Frame) → eqb (indexOf kind) 0 ≡ false → indexOf kind < length fileKinds → (text : List ℕ) → formed kind text ≡ true → lineOutcome text 1 ≡ Refused (Order 1)
+first-kind kind other lt text f = first-later text (not-formed kind Frame.Header other text f) (kind-admitted kind lt text f)
+
 pub first-task : (text : List ℕ) → taskFormed text ≡ true → lineOutcome text 1 ≡ Refused (Order 1)
-unfolding lineOutcome lineRow orderRow past
-first-task text task = rw (task-no-header text task, task-admitted text task, and-false (not (empty text)))
-
-pub first-masked : (text : List ℕ) → formed Frame.Masked text ≡ true → lineOutcome text 1 ≡ Refused (Order 1)
-unfolding lineOutcome lineRow orderRow past
-first-masked text masked = rw (masked-no-header text masked, masked-admitted text masked, and-false (not (empty text)))
-
-pub first-interrupt : (text : List ℕ) → formed Frame.Interrupt text ≡ true → lineOutcome text 1 ≡ Refused (Order 1)
-unfolding lineOutcome lineRow orderRow past
-first-interrupt text interrupt =
-    rw (not-formed Frame.Interrupt Frame.Header refl text interrupt, interrupt-admitted text interrupt, and-false (not (empty text)))
+first-task text task = first-later text (task-no-header text task) (task-admitted text task)
 
 -- that is none of them
 pub first-other : (text : List ℕ) → empty text ≡ false → admitted text ≡ false → lineOutcome text 1 ≡ Refused (Line 1)
 unfolding lineOutcome lineRow past
 first-other text there other = rw (there, other)
 
--- ---- line 2
+-- ---- a 05 or 06 line
 
--- that is a 05 line
-pub second-masked : (text : List ℕ) → formed Frame.Masked (past 1 text) ≡ true → lineOutcome text 2 ≡ Done
-unfolding lineOutcome lineRow orderRow countLineRow twiceLineRow
-second-masked text masked =
-    rw (masked-no-header (past 1 text) masked, masked-admitted (past 1 text) masked, masked-no-task (past 1 text) masked, not-formed Frame.Masked Frame.Interrupt refl (past 1 text) masked, masked, formed-there Frame.Masked (past 1 text) masked)
+-- a kind whose lines hold neither a task nor an interrupt
+abbrev pub HoldsNone : Frame → Type 0
+HoldsNone kind = (eqb (indexOf kind) 1 ≡ false) × (eqb (indexOf kind) 2 ≡ false) × (eqb (indexOf kind) 5 ≡ false)
+
+-- a line of such a kind that does not break row 2 is clear
+clear-line : (kind : Frame) → indexOf kind < length fileKinds → HoldsNone kind → (text : List ℕ) (n : ℕ) → formed kind (past n text) ≡ true → orderRow text (suc n) ≡ false → lineOutcome text (suc n) ≡ Done
+unfolding lineOutcome lineRow countLineRow twiceLineRow
+clear-line kind lt none text n f order =
+    rw (kind-admitted kind lt (past n text) f, order, no-task-line kind (none .0) (none .1) (past n text) f, not-formed kind Frame.Interrupt (none .2) (past n text) f, formed-there kind (past n text) f)
     (simp and-false)
+
+-- behind line 1 it breaks row 2 elsewhere than where it may stand
+order-masked : (text : List ℕ) (n : ℕ) → 1 ≤ n → formed Frame.Masked (past n text) ≡ true → orderRow text (suc n) ≡ not (eqb (suc n) 2)
+unfolding orderRow
+order-masked text n some masked =
+    rw (not-formed Frame.Masked Frame.Header refl (past n text) masked, masked, not-formed Frame.Masked Frame.Rule refl (past n text) masked, no-task-line Frame.Masked refl refl (past n text) masked, ne-eqb (suc n) 1 (λ h. omega arith))
+    (simp or-false)
+
+order-rule : (text : List ℕ) (n : ℕ) → 1 ≤ n → formed Frame.Rule (past n text) ≡ true → orderRow text (suc n) ≡ not (eqb (suc n) (ruleLine text))
+unfolding orderRow
+order-rule text n some rule =
+    rw (not-formed Frame.Rule Frame.Header refl (past n text) rule, not-formed Frame.Rule Frame.Masked refl (past n text) rule, rule, no-task-line Frame.Rule refl refl (past n text) rule, ne-eqb (suc n) 1 (λ h. omega arith))
+    (simp or-false)
+
+-- so a 05 line at line 2 is clear, and a 06 line behind the 01 or the 05 line
+pub second-masked : (text : List ℕ) → formed Frame.Masked (past 1 text) ≡ true → lineOutcome text 2 ≡ Done
+second-masked text masked = clear-line Frame.Masked (omega arith) (refl, refl, refl) text 1 masked (order-masked text 1 (omega arith) masked)
+
+pub rule-clear : (text : List ℕ) (n : ℕ) → suc n ≡ ruleLine text → formed Frame.Rule (past n text) ≡ true → lineOutcome text (suc n) ≡ Done
+rule-clear text n here rule =
+    clear-line Frame.Rule (omega arith) (refl, refl, refl) text n rule (order-rule text n (omega (arith, here, rule-within text)) rule ∙ ap not (eq-eqb (suc n) (ruleLine text) here))
 
 -- ---- any line
 
@@ -193,57 +256,77 @@ line-other text n there other = rw (there, other)
 
 -- ---- a line after the first
 
+order-header : (text : List ℕ) (n : ℕ) → 1 ≤ n → formed Frame.Header (past n text) ≡ true → orderRow text (suc n) ≡ true
+unfolding orderRow
+order-header text n some header = rw (header, ne-eqb (suc n) 1 (λ h. omega arith))
+
 -- that is an 01 line
 pub later-header : (text : List ℕ) (n : ℕ) → 1 ≤ n → formed Frame.Header (past n text) ≡ true → lineOutcome text (suc n) ≡ Refused (Order (suc n))
-unfolding lineOutcome lineRow orderRow some
-later-header text n some header =
-    rw (header, ne-eqb (suc n) 1 (λ h. omega arith), and-false (not (empty (past n text))))
+later-header text n some header = order-said text n (kind-admitted Frame.Header (omega arith) (past n text) header) (order-header text n some header)
 
 -- that is a 05 line, elsewhere than line 2
-third-masked : (text : List ℕ) (n : ℕ) → 2 ≤ n → formed Frame.Masked (past n text) ≡ true → lineOutcome text (suc n) ≡ Refused (Order (suc n))
-unfolding lineOutcome lineRow orderRow
-third-masked text n over masked =
-    rw (masked-no-header (past n text) masked, masked-admitted (past n text) masked, masked, ne-eqb (suc n) 1 (λ h. omega arith), ne-eqb (suc n) 2 (λ h. omega arith), and-false (not (empty (past n text))))
+pub masked-elsewhere : (text : List ℕ) (n : ℕ) → 1 ≤ n → (suc n ≡ 2 → ⊥) → formed Frame.Masked (past n text) ≡ true → lineOutcome text (suc n) ≡ Refused (Order (suc n))
+masked-elsewhere text n some elsewhere masked =
+    order-said text n (kind-admitted Frame.Masked (omega arith) (past n text) masked) (order-masked text n some masked ∙ ap not (ne-eqb (suc n) 2 elsewhere))
 
--- behind the lines before the tasks no 05 line is at line 2
+-- as it is behind the lines before the tasks
 pub later-masked : (text : List ℕ) (n : ℕ) → openingLines text ≤ n → formed Frame.Masked (past n text) ≡ true → lineOutcome text (suc n) ≡ Refused (Order (suc n))
-later-masked text zero opened masked = absurd (omega (arith, some-opening text))
-later-masked text (suc zero) opened masked = absurd (omega (arith, opening-two text masked))
-later-masked text (suc (suc n)) opened masked = third-masked text (suc (suc n)) (omega arith) masked
+later-masked text n opened masked = masked-elsewhere text n (omega (arith, some-opening text)) behind masked
+  where
+    behind : suc n ≡ 2 → ⊥
+    behind e =
+        let one : n ≡ 1 = omega arith in
+        omega (arith, rule-line text (subst (λ (k : ℕ). formed Frame.Masked (past k text) ≡ true) one masked), opening-near text)
+
+-- that is a 06 line, elsewhere than behind the 01 or the 05 line
+pub rule-elsewhere : (text : List ℕ) (n : ℕ) → 1 ≤ n → (suc n ≡ ruleLine text → ⊥) → formed Frame.Rule (past n text) ≡ true → lineOutcome text (suc n) ≡ Refused (Order (suc n))
+rule-elsewhere text n some elsewhere rule =
+    order-said text n (kind-admitted Frame.Rule (omega arith) (past n text) rule) (order-rule text n some rule ∙ ap not (ne-eqb (suc n) (ruleLine text) elsewhere))
+
+-- as it is behind the lines before the tasks
+pub later-rule : (text : List ℕ) (n : ℕ) → openingLines text ≤ n → formed Frame.Rule (past n text) ≡ true → lineOutcome text (suc n) ≡ Refused (Order (suc n))
+later-rule text n opened rule = rule-elsewhere text n (omega (arith, some-opening text)) behind rule
+  where
+    behind : suc n ≡ ruleLine text → ⊥
+    behind e = omega (arith, opening-lines text (subst (λ (k : ℕ). formed Frame.Rule (past (pred k) text) ≡ true) e rule))
 
 -- that is a task's line, with no 07 line before it: refused as a 65th, or as one whose id repeats, or clear
 pub later-task : (text : List ℕ) (n : ℕ) → 1 ≤ n → interruptsAmong text n ≡ [] → taskFormed (past n text) ≡ true → lineOutcome text (suc n) ≡ firstOf (when (eqb (length (tasksAmong text n)) mostTasks) (Count (suc n))) (when (some (hasId (taskAt (past n text) .id)) (tasksAmong text n)) (Twice (suc n)))
 unfolding lineOutcome lineRow orderRow countLineRow twiceLineRow
 later-task text n after-first none task =
     let there : eqb (length (fileTasks text)) 0 ≡ false = ne-eqb (length (fileTasks text)) 0 (λ h. omega (arith, task-counts text n task)) in
-    rw (task-no-header (past n text) task, task-admitted (past n text) task, task-no-masked (past n text) task, task-no-interrupt (past n text) task, task, none, ne-eqb (suc n) 1 (λ h. omega arith), there)
+    rw (task-no-header (past n text) task, task-admitted (past n text) task, task-no-masked (past n text) task, task-no-rule (past n text) task, task-no-interrupt (past n text) task, task, none, ne-eqb (suc n) 1 (λ h. omega arith), there)
     (simp (and-false, or-false))
 
 -- that is a task's line behind an 07 line
+order-late : (text : List ℕ) (n : ℕ) → 1 ≤ n → 1 ≤ length (interruptsAmong text n) → taskFormed (past n text) ≡ true → orderRow text (suc n) ≡ true
+unfolding orderRow
+order-late text n after-first late task =
+    rw (task, ne-eqb (suc n) 1 (λ h. omega arith), ne-eqb (length (interruptsAmong text n)) 0 (λ h. omega arith)) (simp or-true)
+
 pub late-task : (text : List ℕ) (n : ℕ) → 1 ≤ n → 1 ≤ length (interruptsAmong text n) → taskFormed (past n text) ≡ true → lineOutcome text (suc n) ≡ Refused (Order (suc n))
-unfolding lineOutcome lineRow orderRow
-late-task text n after-first late task =
-    rw (task-no-header (past n text) task, task-admitted (past n text) task, task-no-masked (past n text) task, task, ne-eqb (suc n) 1 (λ h. omega arith), ne-eqb (length (interruptsAmong text n)) 0 (λ h. omega arith), and-false (not (empty (past n text))))
+late-task text n after-first late task = order-said text n (task-admitted (past n text) task) (order-late text n after-first late task)
 
 -- that is an 07 line: refused as a 33rd, or clear
 pub later-interrupt : (text : List ℕ) (n : ℕ) → 1 ≤ n → formed Frame.Interrupt (past n text) ≡ true → lineOutcome text (suc n) ≡ when (eqb (length (interruptsAmong text n)) mostInterrupts) (Count (suc n))
 unfolding lineOutcome lineRow orderRow countLineRow twiceLineRow
 later-interrupt text n after-first interrupt =
-    rw (not-formed Frame.Interrupt Frame.Header refl (past n text) interrupt, interrupt-admitted (past n text) interrupt, interrupt-no-task (past n text) interrupt, not-formed Frame.Interrupt Frame.Masked refl (past n text) interrupt, interrupt, formed-there Frame.Interrupt (past n text) interrupt, ne-eqb (suc n) 1 (λ h. omega arith))
+    rw (not-formed Frame.Interrupt Frame.Header refl (past n text) interrupt, kind-admitted Frame.Interrupt (omega arith) (past n text) interrupt, interrupt-no-task (past n text) interrupt, not-formed Frame.Interrupt Frame.Masked refl (past n text) interrupt, not-formed Frame.Interrupt Frame.Rule refl (past n text) interrupt, interrupt, formed-there Frame.Interrupt (past n text) interrupt, ne-eqb (suc n) 1 (λ h. omega arith))
     (simp (and-false, first-none))
 
 -- ---- a line that is clear
 
 -- behind the lines before the tasks it is a task's or an 07 line, if it is there
 pub clear-kind : (text : List ℕ) (n : ℕ) → openingLines text ≤ n → empty (past n text) ≡ false → lineOutcome text (suc n) ≡ Done → (taskFormed (past n text) ≡ true) ⊎ (formed Frame.Interrupt (past n text) ≡ true)
-clear-kind text n opened there clear = go (formed Frame.Header (past n text)) (taskFormed (past n text)) (formed Frame.Masked (past n text)) (formed Frame.Interrupt (past n text)) refl refl refl refl
+clear-kind text n opened there clear = go (formed Frame.Header (past n text)) (taskFormed (past n text)) (formed Frame.Masked (past n text)) (formed Frame.Rule (past n text)) (formed Frame.Interrupt (past n text)) refl refl refl refl refl
   where
-    go : (h t m i : Bool) → formed Frame.Header (past n text) ≡ h → taskFormed (past n text) ≡ t → formed Frame.Masked (past n text) ≡ m → formed Frame.Interrupt (past n text) ≡ i → (t ≡ true) ⊎ (i ≡ true)
-    go h true m i eh et em ei = inl refl
-    go h false m true eh et em ei = inr refl
-    go true false m false eh et em ei = done-refused (sym clear ∙ later-header text n (omega (arith, some-opening text)) eh)
-    go false false true false eh et em ei = done-refused (sym clear ∙ later-masked text n opened em)
-    go false false false false eh et em ei = done-refused (sym clear ∙ line-other text n there (neither (past n text) eh et em ei))
+    go : (h t m r i : Bool) → formed Frame.Header (past n text) ≡ h → taskFormed (past n text) ≡ t → formed Frame.Masked (past n text) ≡ m → formed Frame.Rule (past n text) ≡ r → formed Frame.Interrupt (past n text) ≡ i → (t ≡ true) ⊎ (i ≡ true)
+    go h true m r i eh et em er ei = inl refl
+    go h false m r true eh et em er ei = inr refl
+    go true false m r false eh et em er ei = done-refused (sym clear ∙ later-header text n (omega (arith, some-opening text)) eh)
+    go false false true r false eh et em er ei = done-refused (sym clear ∙ later-masked text n opened em)
+    go false false false true false eh et em er ei = done-refused (sym clear ∙ later-rule text n opened er)
+    go false false false false false eh et em er ei = done-refused (sym clear ∙ line-other text n there (neither (past n text) eh et em er ei))
 
 -- it does not break row 2
 order-clear : (text : List ℕ) (k : ℕ) → lineOutcome text k ≡ Done → orderRow text k ≡ false

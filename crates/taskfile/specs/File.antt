@@ -1,5 +1,5 @@
 -- A task file's lines, counted from 1, and the rows that reading tests at each line.
--- Document 01, "Lines of hexadecimal" (RULES 5) and rows 1 to 4 of the refusals (RULES 6.1 and 6.2); document 02, Req 04, 07 and 08.
+-- Document 01, "Lines of hexadecimal" (RULES 5) and rows 1 to 4 of the refusals (RULES 6.1 and 6.2); document 02, Req 04, 05, 07 and 08.
 use Prim.Native.Nat.{ℕ, zero, suc, pred, _+_}
 use mathlib.Core.List.{List, [], _∷_, _++_}
 use mathlib.Core.Bool.{Bool, true, false, not, cond, _&&_, _||_}
@@ -16,7 +16,7 @@ use Rattle.tasks.specs.declared.set.Optional.the-variants.{Absent, Given}
 use Rattle.tasks.specs.declared.set.Header.{Header}
 use Rattle.tasks.specs.declared.set.Task.{Task}
 use Rattle.tasks.specs.declared.set.Interrupt.{Interrupt}
-use Rattle.tasks.specs.Set.{mostTasks, mostInterrupts, hasId, withMasked}
+use Rattle.tasks.specs.Set.{mostTasks, mostInterrupts, hasId, withLines}
 use Rattle.tasks.specs.Search.{some}
 
 -- the text past n lines
@@ -36,7 +36,7 @@ empty (b ∷ bs) = false
 unfoldable pub taskFormed : List ℕ → Bool
 taskFormed text = formed Frame.Task text || formed Frame.Cached text
 
--- whether line k is there, is an 01 line, is a task's line, is a 05 line, is an 07 line
+-- whether line k is there, is an 01 line, is a task's line, is a 05 line, is a 06 line, is an 07 line
 abbrev pub present : List ℕ → ℕ → Bool
 present text k = not (empty (from text k))
 
@@ -49,10 +49,13 @@ isTask text k = taskFormed (from text k)
 abbrev pub isMasked : List ℕ → ℕ → Bool
 isMasked text k = formed Frame.Masked (from text k)
 
+abbrev pub isRule : List ℕ → ℕ → Bool
+isRule text k = formed Frame.Rule (from text k)
+
 abbrev pub isInterrupt : List ℕ → ℕ → Bool
 isInterrupt text k = formed Frame.Interrupt (from text k)
 
--- the figures of line 1, with no 05 line
+-- the figures of line 1, with no 05 and no 06 line
 unfoldable pub headerAt : List ℕ → Header
 headerAt text =
     record {
@@ -64,6 +67,7 @@ headerAt text =
       resd = fieldOf Frame.Header 5 text;
       cpmdo = fieldOf Frame.Header 6 text;
       masked = Absent;
+      rule = Absent;
     }
 
 -- the kind of a task's line, the cache cost that an 03 line gives, and the figures of the line
@@ -94,19 +98,34 @@ interruptAt text =
       jitter = fieldOf Frame.Interrupt 4 text;
     }
 
--- what line 2 gives, if it is a 05 line, and the board's figures with that
+-- what an optional line of this kind gives where a text starts with one, and the bytes that it then takes
+abbrev pub givenBy : Frame → List ℕ → Optional
+givenBy kind rest = cond (formed kind rest) (Given (fieldOf kind 0 rest)) Absent
+
+abbrev pub bytesBy : Frame → List ℕ → ℕ
+bytesBy kind rest = cond (formed kind rest) (lengthOf kind + 1) 0
+
+-- what line 2 gives, if it is a 05 line
 unfoldable pub maskedAt : List ℕ → Optional
-maskedAt text = cond (isMasked text 2) (Given (fieldOf Frame.Masked 0 (from text 2))) Absent
+maskedAt text = givenBy Frame.Masked (from text 2)
 
+-- the line at which a 06 line may stand: directly behind the 05 line or, without one, behind the 01 line; and what it gives
+unfoldable pub ruleLine : List ℕ → ℕ
+ruleLine text = cond (isMasked text 2) 3 2
+
+unfoldable pub ruleAt : List ℕ → Optional
+ruleAt text = givenBy Frame.Rule (from text (ruleLine text))
+
+-- the board's figures, with what these two lines give
 unfoldable pub fileHeader : List ℕ → Header
-fileHeader text = withMasked (headerAt text) (maskedAt text)
+fileHeader text = withLines (headerAt text) (maskedAt text) (ruleAt text)
 
--- the lines before the tasks, and their bytes: the 01 line, and the 05 line where there is one
+-- the lines before the tasks, and their bytes: the 01 line, and the 05 line and the 06 line where there is one
 unfoldable pub openingLines : List ℕ → ℕ
-openingLines text = cond (isMasked text 2) 2 1
+openingLines text = cond (isRule text (ruleLine text)) (ruleLine text) (pred (ruleLine text))
 
 unfoldable pub openingBytes : List ℕ → ℕ
-openingBytes text = lengthOf Frame.Header + 1 + cond (isMasked text 2) (lengthOf Frame.Masked + 1) 0
+openingBytes text = lengthOf Frame.Header + 1 + bytesBy Frame.Masked (from text 2) + bytesBy Frame.Rule (from text (ruleLine text))
 
 -- what the lines that pass a test among the first n lines hold, in order
 unfoldable pub among : {A : Type 0} → (List ℕ → Bool) → (List ℕ → A) → List ℕ → ℕ → List A
@@ -129,12 +148,12 @@ fileInterrupts text = interruptsAmong text (length text)
 
 -- the kinds that a task file admits, and whether a text starts with a line of one of them
 abbrev pub fileKinds : List Frame
-fileKinds = Frame.Header ∷ Frame.Task ∷ Frame.Cached ∷ Frame.Masked ∷ Frame.Interrupt ∷ []
+fileKinds = Frame.Header ∷ Frame.Task ∷ Frame.Cached ∷ Frame.Masked ∷ Frame.Rule ∷ Frame.Interrupt ∷ []
 
 abbrev pub admitted : List ℕ → Bool
 admitted rest = some (λ (kind : Frame). formed kind rest) fileKinds
 
--- 1 LINE: a line is not kind 01, 02, 03, 05 or 07 at its exact length in legal digits, or lacks its LF
+-- 1 LINE: a line is not kind 01, 02, 03, 05, 06 or 07 at its exact length in legal digits, or lacks its LF
 unfoldable pub lineRow : List ℕ → ℕ → Bool
 lineRow text k = present text k && not (admitted (from text k))
 
@@ -146,10 +165,13 @@ firstLine false at-one at-later = at-later
 abbrev pub lateTask : List ℕ → ℕ → Bool
 lateTask text k = isTask text k && not (eqb (length (interruptsAmong text (pred k))) 0)
 
--- 2 ORDER: line 1 is missing or not 01, or a later line is 01, or one elsewhere than line 2 is 05, or one behind an 07 line is 02 or 03
+-- line k is a 05 line elsewhere than line 2, or a 06 line elsewhere than behind the 01 or the 05 line
+abbrev pub misplaced : List ℕ → ℕ → Bool
+misplaced text k = (isMasked text k && not (eqb k 2)) || (isRule text k && not (eqb k (ruleLine text)))
+
+-- 2 ORDER: line 1 is missing or not 01, or a later line is 01, or a 05 or 06 line is where it may not stand, or one behind an 07 line is 02 or 03
 unfoldable pub orderRow : List ℕ → ℕ → Bool
-orderRow text k =
-    firstLine (eqb k 1) (not (isHeader text k)) (isHeader text k || ((isMasked text k && not (eqb k 2)) || lateTask text k))
+orderRow text k = firstLine (eqb k 1) (not (isHeader text k)) (isHeader text k || (misplaced text k || lateTask text k))
 
 -- line k is the one after the last
 abbrev pub afterLast : List ℕ → ℕ → Bool

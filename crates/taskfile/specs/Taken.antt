@@ -1,5 +1,5 @@
 -- Where the reader stands after some lines.
--- Document 01, "Reading takes lines in order" (RULES 6.2); document 02, Req 07 and Req 08.
+-- Document 01, "Reading takes lines in order" (RULES 6.2); document 02, Req 05, 07 and 08.
 use Prim.Native.Nat.{ℕ, _+_, _≤_}
 use mathlib.Core.Bool.{true}
 use mathlib.Core.List.{List, [], map}
@@ -17,8 +17,8 @@ pub record Taken (text : List ℕ) (k at : ℕ) : Type 0 where
   pub within : at ≤ length text
   pub rest : past k text ≡ drop at text
   pub clear : till (lineOutcome text) k ≡ Done
-  -- all lines but the first two at most hold a task or an interrupt, and there is room for these
-  pub lines : k ≤ length (tasksAmong text k) + length (interruptsAmong text k) + 2
+  -- all lines but the first three at most hold a task or an interrupt, and there is room for these
+  pub lines : k ≤ length (tasksAmong text k) + length (interruptsAmong text k) + 3
   pub few : length (tasksAmong text k) ≤ mostTasks
   pub fewer : length (interruptsAmong text k) ≤ mostInterrupts
 

@@ -30,7 +30,7 @@ pub fn task_line(text: &[u8], at: usize, lines: usize, ids: &[u8]) -> TaskLine
         return TaskLine::Refused(Refusal::Line(line));
     };
     match frame {
-        Frame::Header | Frame::Masked => TaskLine::Refused(Refusal::Order(line)),
+        Frame::Header | Frame::Masked | Frame::Rule => TaskLine::Refused(Refusal::Order(line)),
         Frame::Task | Frame::Cached => listed_line(text, at, frame, lines, ids),
         _ => TaskLine::Refused(Refusal::Line(line)),
     }

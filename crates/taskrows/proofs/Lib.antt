@@ -1,3 +1,4 @@
+pub mod BoardLaws
 pub mod Bools
 pub mod FiguresLaws
 pub mod InterruptLaws

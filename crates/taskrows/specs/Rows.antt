@@ -1,8 +1,8 @@
 -- Rows 5 and 6 of the refusals, over the figures of a task set.
--- Document 01, "Refusal numbers and their order" (RULES 6); document 02, Req 08.
+-- Document 01, "Refusal numbers and their order" (RULES 6); document 02, Req 05 and Req 08.
 use Prim.Native.Nat.{ℕ, _+_}
 use mathlib.Core.Bool.{Bool, not, _&&_, _||_}
-use lib.Dec.{leb, eqb}
+use lib.Dec.{leb, ltb, eqb}
 use Rattle.refusals.specs.declared.Refusal.{Refusal}
 use Rattle.refusals.specs.declared.Refusal.the-variants.{Board, Range}
 use Rattle.refusals.specs.declared.Outcome.{Outcome}
@@ -11,12 +11,13 @@ use Rattle.tasks.specs.declared.set.Header.{Header}
 use Rattle.tasks.specs.declared.set.Interrupt.{Interrupt}
 use Rattle.tasks.specs.declared.set.Task.{Task}
 use Rattle.tasks.specs.declared.set.TaskSet.{TaskSet}
-use Rattle.tasks.specs.Set.{mostTasks, mostProcessors, longestPeriod, members, interruptsIn}
+use Rattle.tasks.specs.Set.{mostTasks, mostProcessors, longestPeriod, lastRule, ruleNumber, members, interruptsIn}
 use Rattle.tasks.specs.Search.{firstTask, atTask}
 
--- 5 BOARD: m outside 1..64, or S = 0
+-- 5 BOARD: m outside 1..64, S = 0, or a rule above 08
 unfoldable pub boardRow : Header → Bool
-boardRow h = not (leb 1 (h .processors) && leb (h .processors) mostProcessors) || eqb (h .slot) 0
+boardRow h =
+    not (leb 1 (h .processors) && leb (h .processors) mostProcessors) || (eqb (h .slot) 0 || ltb lastRule (ruleNumber h))
 
 -- figures that break 1 ≤ C ≤ D ≤ T ≤ 1,000,000
 abbrev pub outOfRange : (cost deadline period : ℕ) → Bool

@@ -16,7 +16,10 @@ pub fn breaks_board(header: Header) -> bool
     if TaskSet::MOST_PROCESSORS < header.processors {
         return true;
     }
-    header.slot == 0
+    if header.slot == 0 {
+        return true;
+    }
+    TaskSet::LAST_RULE < header.rule_number()
 }
 
 // Figures that break 1 ≤ C ≤ D ≤ T ≤ 1,000,000.

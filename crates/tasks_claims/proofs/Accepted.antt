@@ -1,4 +1,4 @@
--- An accepted file is a header, a 05 line or none, 1 to 64 tasks and up to 32 interrupts, and nothing after them.
+-- An accepted file is a header, a 05 line or none, a 06 line or none, 1 to 64 tasks and up to 32 interrupts, and nothing after them.
 use Prim.Native.Nat.{ℕ, zero, suc, _≤_}
 use native.Mathlib.Omega.{arith}
 use mathlib.Core.List.{List, []}

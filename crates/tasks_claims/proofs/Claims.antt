@@ -1,9 +1,9 @@
 -- The claims of specs/Claims, each under its own name.
-use Rattle.tasks_claims.specs.Claims.{ReadExactlyLine, ReadExactlyBoard, ReadExactlyRange, ReadExactlyInterrupt, ReadExactlyDone, ReadRefuses, ReadDetermined, ReadLooksAt, ReadAccepted, MaskedRemembered, MaskedOnlyAtTwo, TasksRemembered, InterruptsRemembered, TaskTooLate, InterruptTooMany, NoTaskPlace, WritesExactly, WritesLeave, WriteDetermined, ReadWritten, ReadWrittenSame, WrittenRead}
+use Rattle.tasks_claims.specs.Claims.{ReadExactlyLine, ReadExactlyBoard, ReadExactlyRange, ReadExactlyInterrupt, ReadExactlyDone, ReadRefuses, ReadDetermined, ReadLooksAt, ReadAccepted, MaskedRemembered, RuleRemembered, MaskedOnlyAtTwo, RuleOnlyThere, TasksRemembered, InterruptsRemembered, TaskTooLate, InterruptTooMany, NoTaskPlace, WritesExactly, WritesLeave, WriteDetermined, ReadWritten, ReadWrittenSame, WrittenRead}
 use Rattle.tasks_claims.proofs.Exactly as exactly
 use Rattle.tasks_claims.proofs.Prefix as prefix
 use Rattle.tasks_claims.proofs.Accepted as accepted
-use Rattle.tasks_claims.proofs.MaskedLaws as masked
+use Rattle.tasks_claims.proofs.OptionalLaws as optional
 use Rattle.tasks_claims.proofs.TaskLineLaws as lines
 use Rattle.tasks_claims.proofs.InterruptLaws as interrupts
 use Rattle.tasks_claims.proofs.WriteAnswers as answers
@@ -38,10 +38,16 @@ pub read-accepted : ReadAccepted
 read-accepted = accepted.read-accepted
 
 pub masked-remembered : MaskedRemembered
-masked-remembered = masked.masked-remembered
+masked-remembered = optional.masked-remembered
+
+pub rule-remembered : RuleRemembered
+rule-remembered = optional.rule-remembered
 
 pub masked-only-at-two : MaskedOnlyAtTwo
-masked-only-at-two = masked.masked-only-at-two
+masked-only-at-two = optional.masked-only-at-two
+
+pub rule-only-there : RuleOnlyThere
+rule-only-there = optional.rule-only-there
 
 pub tasks-remembered : TasksRemembered
 tasks-remembered = lines.tasks-remembered
@@ -56,7 +62,7 @@ pub interrupt-too-many : InterruptTooMany
 interrupt-too-many = interrupts.interrupt-too-many
 
 pub no-task-place : NoTaskPlace
-no-task-place = masked.no-task-place
+no-task-place = optional.no-task-place
 
 pub writes-exactly : WritesExactly
 writes-exactly = answers.writes-exactly

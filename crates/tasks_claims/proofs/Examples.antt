@@ -1,5 +1,5 @@
 -- Task files and what reading answers for each, computed from the definitions of specs/.
--- Document 01, example A and the rows of the refusals; document 02, Req 04, 07 and 08.
+-- Document 01, example A and the rows of the refusals; document 02, Req 04, 05, 07 and 08.
 use Prim.Native.String.{String}
 use mathlib.Core.List.{List, [], _∷_, map}
 use mathlib.Core.Path.{_≡_, refl}
@@ -19,20 +19,20 @@ use Rattle.tasks.specs.Set.{setOf, members, interruptsIn, interruptsWith}
 use Rattle.refusals.specs.First.{till}
 use Rattle.tasks.specs.Search.{some, firstFrom}
 use Rattle.taskrows.specs.Rows.{boardRow, rangeRow, interruptRow, figuresOutcome}
-use Rattle.taskfile.specs.File.{past, among, lineRow, orderRow, countLineRow, twiceLineRow, lineOutcome, headerAt, maskedAt, fileHeader, taskFormed, taskKind, cacheAt, taskAt, interruptAt}
+use Rattle.taskfile.specs.File.{past, among, lineRow, orderRow, countLineRow, twiceLineRow, lineOutcome, headerAt, maskedAt, ruleLine, ruleAt, fileHeader, taskFormed, taskKind, cacheAt, taskAt, interruptAt}
 use Rattle.taskread.specs.Read.{fileSet, readOutcome, readOf}
 use Rattle.framelines.specs.Each.{eachLine}
-use Rattle.optionallines.specs.Lines.{maskedLine}
+use Rattle.optionallines.specs.Lines.{optionalLine}
 use Rattle.tasktext.specs.Text.{textOf}
 pub use Rattle.quoted.specs.Quoted.{bytesOf}
 
 -- what reading computes with, and writing: to unfold one of these is to unfold what its line names
 unfoldable reading : Unit {0}
-unfolding legal valueOf allLegal numberFrom kindOf widthsOf sum line after closed same formed fieldOf setOf interruptsWith firstFrom boardRow rangeRow interruptRow figuresOutcome some till past among lineRow orderRow countLineRow twiceLineRow lineOutcome headerAt maskedAt fileHeader taskFormed taskKind cacheAt taskAt interruptAt fileSet readOutcome readOf
+unfolding legal valueOf allLegal numberFrom kindOf widthsOf sum line after closed same formed fieldOf setOf interruptsWith firstFrom boardRow rangeRow interruptRow figuresOutcome some till past among lineRow orderRow countLineRow twiceLineRow lineOutcome headerAt maskedAt ruleLine ruleAt fileHeader taskFormed taskKind cacheAt taskAt interruptAt fileSet readOutcome readOf
 reading = tt
 
 unfoldable writing : Unit {0}
-unfolding digitOf hex fields lineOf eachLine maskedLine textOf
+unfolding digitOf hex fields lineOf eachLine optionalLine textOf
 writing = tt
 
 abbrev pub answers : String → Outcome
@@ -71,6 +71,24 @@ examples =
     ∷ record { file = "010200000A00000000000000000000\n050005\n050005\n020100000600000A00000A\n"; answer = Refused (Order 3) }
     -- nothing behind it
     ∷ record { file = "010200000A00000000000000000000\n050005\n"; answer = Refused (Count 3) }
+    -- a 06 line behind the header, behind a 05 line, with the last rule, with a number above it, and one digit short
+    ∷ record { file = "010200000A00000000000000000000\n0603\n020100000600000A00000A\n"; answer = Done }
+    ∷ record { file = "010200000A00000000000000000000\n050005\n0603\n020100000600000A00000A\n"; answer = Done }
+    ∷ record { file = "010200000A00000000000000000000\n0608\n020100000600000A00000A\n"; answer = Done }
+    ∷ record { file = "010200000A00000000000000000000\n0609\n020100000600000A00000A\n"; answer = Refused Board }
+    ∷ record { file = "010200000A00000000000000000000\n050005\n06FF\n020100000600000A00000A\n"; answer = Refused Board }
+    ∷ record { file = "010200000A00000000000000000000\n063\n020100000600000A00000A\n"; answer = Refused (Line 2) }
+    -- elsewhere: at line 1, before a 05 line, behind a task, behind an 07 line, and a second one with and without a 05 line
+    ∷ record { file = "0603\n010200000A00000000000000000000\n020100000600000A00000A\n"; answer = Refused (Order 1) }
+    ∷ record { file = "010200000A00000000000000000000\n0603\n050005\n020100000600000A00000A\n"; answer = Refused (Order 3) }
+    ∷ record { file = "010200000A00000000000000000000\n020100000600000A00000A\n0603\n"; answer = Refused (Order 3) }
+    ∷ record { file = "010200000A00000000000000000000\n050005\n020100000600000A00000A\n0603\n"; answer = Refused (Order 4) }
+    ∷ record { file = "010200000A00000000000000000000\n020100000600000A00000A\n070100000100000A00000A0000\n0603\n"; answer = Refused (Order 4) }
+    ∷ record { file = "010200000A00000000000000000000\n0603\n0603\n020100000600000A00000A\n"; answer = Refused (Order 3) }
+    ∷ record { file = "010200000A00000000000000000000\n050005\n0603\n0603\n020100000600000A00000A\n"; answer = Refused (Order 4) }
+    -- nothing behind it
+    ∷ record { file = "010200000A00000000000000000000\n0603\n"; answer = Refused (Count 3) }
+    ∷ record { file = "010200000A00000000000000000000\n050005\n0603\n"; answer = Refused (Count 4) }
     -- 03 lines behind the header, before and behind 02 lines, one digit short, without its LF
     ∷ record { file = "010200000A00000000000000000000\n030100000600000A00000A0005\n"; answer = Done }
     ∷ record { file = "010200000A00000000000000000000\n050005\n030100000600000A00000A0005\n020200000600000A00000A\n030300000600000A00000A0000\n070100000100000A00000A0000\n"; answer = Done }
@@ -110,37 +128,47 @@ pub examples-read : map (λ e. answers (e .file)) examples ≡ map (λ e. e .ans
 unfolding reading
 examples-read = refl
 
--- a file that is accepted, and what its set remembers of a 05 line, of 03 lines and of 07 lines
+-- a file that is accepted, and what its set remembers of a 05 line, of a 06 line, of 03 lines and of 07 lines
 pub record Kept : Type 0 where
   pub file : String
   pub masked : Optional
+  pub rule : Optional
   pub caches : List Optional
   pub interrupts : List Interrupt
 
 abbrev pub kept : List Kept
 kept =
-    record { file = "010200000A00000000000000000000\n020100000600000A00000A\n"; masked = Absent; caches = Absent ∷ []; interrupts = [] }
-    ∷ record { file = "010200000A00000000000000000000\n050005\n020100000600000A00000A\n"; masked = Given 5; caches = Absent ∷ []; interrupts = [] }
-    ∷ record { file = "010200000A00000000000000000000\n050000\n020100000600000A00000A\n"; masked = Given 0; caches = Absent ∷ []; interrupts = [] }
-    ∷ record { file = "010200000A00000000000000000000\n020100000600000A00000A\n070100000100000A00000A0000\n"; masked = Absent; caches = Absent ∷ []; interrupts = record { processor = 1; cost = 1; deadline = 10; period = 10; jitter = 0 } ∷ [] }
+    record { file = "010200000A00000000000000000000\n020100000600000A00000A\n"; masked = Absent; rule = Absent; caches = Absent ∷ []; interrupts = [] }
+    ∷ record { file = "010200000A00000000000000000000\n050005\n020100000600000A00000A\n"; masked = Given 5; rule = Absent; caches = Absent ∷ []; interrupts = [] }
+    ∷ record { file = "010200000A00000000000000000000\n050000\n020100000600000A00000A\n"; masked = Given 0; rule = Absent; caches = Absent ∷ []; interrupts = [] }
+    ∷ record { file = "010200000A00000000000000000000\n020100000600000A00000A\n070100000100000A00000A0000\n"; masked = Absent; rule = Absent; caches = Absent ∷ []; interrupts = record { processor = 1; cost = 1; deadline = 10; period = 10; jitter = 0 } ∷ [] }
     ∷ record {
       file = "010200000A00000000000000000000\n050005\n020100000600000A00000A\n07020000020000050000140004\n070100000100000A00000A0000\n";
       masked = Given 5;
+      rule = Absent;
       caches = Absent ∷ [];
       interrupts = record { processor = 2; cost = 2; deadline = 5; period = 20; jitter = 4 } ∷ record { processor = 1; cost = 1; deadline = 10; period = 10; jitter = 0 } ∷ [];
     }
-    ∷ record { file = "010200000A00000000000000000000\n030100000600000A00000A0000\n"; masked = Absent; caches = Given 0 ∷ []; interrupts = [] }
+    ∷ record { file = "010200000A00000000000000000000\n030100000600000A00000A0000\n"; masked = Absent; rule = Absent; caches = Given 0 ∷ []; interrupts = [] }
     ∷ record {
       file = "010200000A00000000000000000000\n050005\n030100000600000A00000A0005\n020200000600000A00000A\n030300000600000A00000AFFFF\n070100000100000A00000A0000\n";
       masked = Given 5;
+      rule = Absent;
       caches = Given 5 ∷ Absent ∷ Given 65535 ∷ [];
       interrupts = record { processor = 1; cost = 1; deadline = 10; period = 10; jitter = 0 } ∷ [];
     }
+    ∷ record { file = "010200000A00000000000000000000\n0603\n020100000600000A00000A\n"; masked = Absent; rule = Given 3; caches = Absent ∷ []; interrupts = [] }
+    ∷ record { file = "010200000A00000000000000000000\n0600\n020100000600000A00000A\n"; masked = Absent; rule = Given 0; caches = Absent ∷ []; interrupts = [] }
+    ∷ record { file = "010200000A00000000000000000000\n050005\n0608\n020100000600000A00000A\n"; masked = Given 5; rule = Given 8; caches = Absent ∷ []; interrupts = [] }
     ∷ []
 
 pub kept-read : map (λ k. readOf (bytesOf (k .file)) .set .header .masked) kept ≡ map (λ k. k .masked) kept
 unfolding reading
 kept-read = refl
+
+pub kept-rule : map (λ k. readOf (bytesOf (k .file)) .set .header .rule) kept ≡ map (λ k. k .rule) kept
+unfolding reading
+kept-rule = refl
 
 pub kept-cached : map (λ k. map (λ t. t .cache) (members (readOf (bytesOf (k .file)) .set))) kept ≡ map (λ k. k .caches) kept
 unfolding reading

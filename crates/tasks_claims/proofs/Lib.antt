@@ -3,7 +3,7 @@ pub mod ShapedLaws
 pub mod ReachedLaws
 pub mod Exactly
 pub mod Accepted
-pub mod MaskedLaws
+pub mod OptionalLaws
 pub mod TaskLineLaws
 pub mod InterruptLaws
 pub mod Prefix

@@ -1,5 +1,5 @@
--- Reading looks no further than a header, a 05 line, 64 tasks, 32 interrupts and one line more: a text cut behind them is answered the same.
-use Prim.Native.Nat.{ℕ, zero, suc, _+_, _-_, _≤_, _<_}
+-- Reading looks no further than a header, a 05 line, a 06 line, 64 tasks, 32 interrupts and one line more: a text cut behind them is answered the same.
+use Prim.Native.Nat.{ℕ, zero, suc, pred, _+_, _-_, _≤_, _<_}
 use native.Mathlib.Omega.{arith}
 use native.Mathlib.Decide.{decLt}
 use mathlib.Core.List.{List, [], _∷_, _++_}
@@ -9,7 +9,7 @@ use lib.ListN.{length, take, drop}
 use lib.Seq.{take-all, take-take, take-add, drop-at, length-take-le}
 use lib.Dec.{eqb}
 use Rattle.frameread.specs.Line.{formed, fieldOf, line}
-use Rattle.frames.specs.Table.{lengthOf, widthsOf, sum}
+use Rattle.frames.specs.Table.{lengthOf, widthsOf, sum, indexOf}
 use Rattle.frames.specs.declared.table.Frame.{Frame}
 use Rattle.refusals.specs.declared.Refusal.{Refusal}
 use Rattle.refusals.specs.declared.Refusal.the-variants.{Count, Twice}
@@ -22,7 +22,7 @@ use Rattle.tasks.specs.declared.set.Task.{Task}
 use Rattle.refusals.specs.First.{firstOf, when, till}
 use Rattle.tasks.specs.Set.{mostTasks, mostInterrupts, hasId}
 use Rattle.tasks.specs.Search.{some}
-use Rattle.taskfile.specs.File.{past, empty, lineOutcome, openingLines, openingBytes, taskFormed, taskKind, cacheAt, taskAt, interruptAt, among, tasksAmong, interruptsAmong}
+use Rattle.taskfile.specs.File.{past, empty, fileKinds, lineOutcome, bytesBy, ruleLine, openingLines, openingBytes, taskFormed, taskKind, cacheAt, taskAt, interruptAt, among, tasksAmong, interruptsAmong}
 use Rattle.readbytes.specs.Furthest.{furthest}
 use Rattle.taskread.specs.Read.{readOf}
 use Rattle.tasks_claims.specs.Claims.{Opened, linesTo, sizeOf, ReadLooksAt}
@@ -30,12 +30,12 @@ use Rattle.taskfile.proofs.TaskLaws.{task-formed, kind-most}
 use Rattle.taskfile.proofs.AmongLaws.{among-here, among-other}
 use Rattle.taskfile.proofs.Past.{past-formed}
 use Rattle.taskread.proofs.Reading.{reads-refused}
-use Rattle.taskfile.proofs.Lines.{neither, line-other, first-header, first-task, first-masked, first-interrupt, first-other, later-header, later-masked, later-task, late-task, later-interrupt, clear-header}
+use Rattle.taskfile.proofs.Lines.{neither, line-other, first-header, first-task, first-kind, first-other, later-header, later-masked, later-rule, later-task, late-task, later-interrupt, clear-header}
 use Rattle.refusals.proofs.FirstLaws.{till-suc}
-use Rattle.tasks_claims.proofs.ShapedLaws.{opening-most, lines-in, lines-opened, lines-some, size-most, size-task, shaped-none, past-shaped}
+use Rattle.tasks_claims.proofs.ShapedLaws.{optional-most, opening-most, lines-in, lines-opened, lines-some, size-most, size-task, shaped-none, past-shaped}
 use Rattle.tasks_claims.proofs.ReachedLaws.{Reached, Next, task, interrupt, reached-next}
 use Rattle.taskfile.proofs.Standing.{byte-there}
-use Rattle.taskfile.proofs.OpeningLaws.{past-header, taken-opening, among-opening, none-opening}
+use Rattle.taskfile.proofs.OpeningLaws.{past-header, passed-masked, taken-opening, among-opening, none-opening}
 
 -- a part of the front of a text is the front of a part
 drop-take : (p m : ℕ) (text : List ℕ) → p ≤ length text → drop p (take (p + m) text) ≡ take m (drop p text)
@@ -78,19 +78,38 @@ module _ (N : ℕ) (text : List ℕ) (far : furthest ≤ N) (long : N < length t
   unfolding widthsOf sum
   opened-cut header = formed-prefix Frame.Header N text (omega arith) ∙ header
 
-  second-cut : Opened text → formed Frame.Masked (past 1 cut) ≡ formed Frame.Masked (past 1 text)
-  unfolding widthsOf sum
-  second-cut header =
-      ap (formed Frame.Masked) (past-header cut (opened-cut header) ∙ drop-cut (lengthOf Frame.Header + 1) (omega arith) ∙ ap (take (N - (lengthOf Frame.Header + 1))) (sym (past-header text header)))
-      ∙ formed-prefix Frame.Masked (N - (lengthOf Frame.Header + 1)) (past 1 text) (omega arith)
+  -- a line that starts in both at the same byte, and that the front has, is of the same kind in both
+  optional-cut : (kind : Frame) (k at : ℕ) → past k cut ≡ drop at cut → past k text ≡ drop at text → at + (lengthOf kind + 1) ≤ N → formed kind (past k cut) ≡ formed kind (past k text)
+  optional-cut kind k at here there fits =
+      ap (formed kind) (here ∙ drop-cut at (omega arith) ∙ ap (take (N - at)) (sym there)) ∙ formed-prefix kind (N - at) (past k text) (omega arith)
 
-  lines-cut : Opened text → openingLines cut ≡ openingLines text
-  unfolding openingLines
-  lines-cut header = ap (λ (b : Bool). cond b 2 1) (second-cut header)
+  module _ (header : Opened text) where
+    masked-cut : formed Frame.Masked (past 1 cut) ≡ formed Frame.Masked (past 1 text)
+    unfolding widthsOf sum
+    masked-cut = optional-cut Frame.Masked 1 (lengthOf Frame.Header + 1) (past-header cut (opened-cut header)) (past-header text header) (omega arith)
 
-  size-cut : Opened text → openingBytes cut ≡ openingBytes text
-  unfolding openingBytes
-  size-cut header = ap (λ (b : Bool). lengthOf Frame.Header + 1 + cond b (lengthOf Frame.Masked + 1) 0) (second-cut header)
+    place-cut : ruleLine cut ≡ ruleLine text
+    unfolding ruleLine
+    place-cut = ap (λ (b : Bool). cond b 3 2) masked-cut
+
+    bytes-cut : bytesBy Frame.Masked (past 1 cut) ≡ bytesBy Frame.Masked (past 1 text)
+    bytes-cut = ap (λ (b : Bool). cond b (lengthOf Frame.Masked + 1) 0) masked-cut
+
+    rule-cut : formed Frame.Rule (past (pred (ruleLine cut)) cut) ≡ formed Frame.Rule (past (pred (ruleLine text)) text)
+    unfolding widthsOf sum
+    rule-cut =
+        let at = lengthOf Frame.Header + 1 + bytesBy Frame.Masked (past 1 text) in
+        let here : past (pred (ruleLine text)) cut ≡ drop at cut = ap (λ (n : ℕ). past (pred n) cut) (sym place-cut) ∙ passed-masked cut (opened-cut header) .rest ∙ ap (λ (n : ℕ). drop (lengthOf Frame.Header + 1 + n) cut) bytes-cut in
+        ap (λ (n : ℕ). formed Frame.Rule (past (pred n) cut)) place-cut
+        ∙ optional-cut Frame.Rule (pred (ruleLine text)) at here (passed-masked text header .rest) (omega (arith, optional-most Frame.Masked (past 1 text)))
+
+    lines-cut : openingLines cut ≡ openingLines text
+    unfolding openingLines
+    lines-cut = ap₂ (λ (b : Bool) (n : ℕ). cond b n (pred n)) rule-cut place-cut
+
+    size-cut : openingBytes cut ≡ openingBytes text
+    unfolding openingBytes
+    size-cut = ap₂ (λ (n : ℕ) (b : Bool). lengthOf Frame.Header + 1 + n + cond b (lengthOf Frame.Rule + 1) 0) bytes-cut rule-cut
 
   -- the lines of n tasks and k interrupts are clear in both, end at the same byte and hold the same
   record Same (n k : ℕ) : Type 0 where
@@ -179,7 +198,7 @@ module _ (N : ℕ) (text : List ℕ) (far : furthest ≤ N) (long : N < length t
     -- the line is answered the same
     same-line : lineOutcome cut (suc lines) ≡ lineOutcome text (suc lines)
     unfolding widthsOf sum
-    same-line = kinds (formed Frame.Header (past lines text)) (taskFormed (past lines text)) (formed Frame.Masked (past lines text)) (formed Frame.Interrupt (past lines text)) refl refl refl refl
+    same-line = kinds (formed Frame.Header (past lines text)) (taskFormed (past lines text)) (formed Frame.Masked (past lines text)) (formed Frame.Rule (past lines text)) (formed Frame.Interrupt (past lines text)) refl refl refl refl refl
       where
         a-task : (is : List Interrupt) → interruptsAmong text lines ≡ is → taskFormed (past lines text) ≡ true → lineOutcome cut (suc lines) ≡ lineOutcome text (suc lines)
         a-task [] none et =
@@ -190,20 +209,24 @@ module _ (N : ℕ) (text : List ℕ) (far : furthest ≤ N) (long : N < length t
             late-task cut lines some-lines (omega (arith, ap length (c .interrupts ∙ late))) (task-cut ∙ et)
             ∙ sym (late-task text lines some-lines (omega (arith, ap length late)) et)
 
-        kinds : (h t b i : Bool) → formed Frame.Header (past lines text) ≡ h → taskFormed (past lines text) ≡ t → formed Frame.Masked (past lines text) ≡ b → formed Frame.Interrupt (past lines text) ≡ i → lineOutcome cut (suc lines) ≡ lineOutcome text (suc lines)
-        kinds true t b i eh et eb ei =
+        opened-both : (openingLines cut ≤ lines) × (openingLines text ≤ lines)
+        opened-both = (omega (arith, lines-cut (c .reached .shaped .opened), lines-opened text n k), lines-opened text n k)
+
+        kinds : (h t b r i : Bool) → formed Frame.Header (past lines text) ≡ h → taskFormed (past lines text) ≡ t → formed Frame.Masked (past lines text) ≡ b → formed Frame.Rule (past lines text) ≡ r → formed Frame.Interrupt (past lines text) ≡ i → lineOutcome cut (suc lines) ≡ lineOutcome text (suc lines)
+        kinds true t b r i eh et eb er ei =
             later-header cut lines some-lines (kind-cut Frame.Header (omega arith) ∙ eh) ∙ sym (later-header text lines some-lines eh)
-        kinds false true b i eh et eb ei = a-task (interruptsAmong text lines) refl et
-        kinds false false true i eh et eb ei =
-            later-masked cut lines (omega (arith, lines-cut (c .reached .shaped .opened), lines-opened text n k)) (kind-cut Frame.Masked (omega arith) ∙ eb)
-            ∙ sym (later-masked text lines (lines-opened text n k) eb)
-        kinds false false false true eh et eb ei =
+        kinds false true b r i eh et eb er ei = a-task (interruptsAmong text lines) refl et
+        kinds false false true r i eh et eb er ei =
+            later-masked cut lines (opened-both .0) (kind-cut Frame.Masked (omega arith) ∙ eb) ∙ sym (later-masked text lines (opened-both .1) eb)
+        kinds false false false true i eh et eb er ei =
+            later-rule cut lines (opened-both .0) (kind-cut Frame.Rule (omega arith) ∙ er) ∙ sym (later-rule text lines (opened-both .1) er)
+        kinds false false false false true eh et eb er ei =
             later-interrupt cut lines some-lines (kind-cut Frame.Interrupt (omega arith) ∙ ei)
             ∙ ap (λ (is : List Interrupt). when (eqb (length is) mostInterrupts) (Count (suc lines))) (c .interrupts)
             ∙ sym (later-interrupt text lines some-lines ei)
-        kinds false false false false eh et eb ei =
-            line-other cut lines there-cut (neither (past lines cut) (kind-cut Frame.Header (omega arith) ∙ eh) (task-cut ∙ et) (kind-cut Frame.Masked (omega arith) ∙ eb) (kind-cut Frame.Interrupt (omega arith) ∙ ei))
-            ∙ sym (line-other text lines there (neither (past lines text) eh et eb ei))
+        kinds false false false false false eh et eb er ei =
+            line-other cut lines there-cut (neither (past lines cut) (kind-cut Frame.Header (omega arith) ∙ eh) (task-cut ∙ et) (kind-cut Frame.Masked (omega arith) ∙ eb) (kind-cut Frame.Rule (omega arith) ∙ er) (kind-cut Frame.Interrupt (omega arith) ∙ ei))
+            ∙ sym (line-other text lines there (neither (past lines text) eh et eb er ei))
 
     -- one line more is taken in both
     same-next : (m l : ℕ) (frame : Frame) → Reached text m l → linesTo text m l ≡ suc lines → sizeOf text m l ≡ at + (lengthOf frame + 1) → lengthOf frame + 1 ≤ 31 → formed frame (past lines text) ≡ true → lineOutcome text (suc lines) ≡ Done → Same m l
@@ -264,17 +287,21 @@ module _ (N : ℕ) (text : List ℕ) (far : furthest ≤ N) (long : N < length t
       task : taskFormed cut ≡ taskFormed text
       task = ap₂ _||_ (kind Frame.Task (omega arith)) (kind Frame.Cached (omega arith))
 
-      other : (t b i : Bool) → formed Frame.Header text ≡ false → taskFormed text ≡ t → formed Frame.Masked text ≡ b → formed Frame.Interrupt text ≡ i → lineOutcome cut 1 ≡ lineOutcome text 1
-      other true b i eh et eb ei = first-task cut (task ∙ et) ∙ sym (first-task text et)
-      other false true i eh et eb ei = first-masked cut (kind Frame.Masked (omega arith) ∙ eb) ∙ sym (first-masked text eb)
-      other false false true eh et eb ei = first-interrupt cut (kind Frame.Interrupt (omega arith) ∙ ei) ∙ sym (first-interrupt text ei)
-      other false false false eh et eb ei =
-          first-other cut there-front (neither cut (kind Frame.Header (omega arith) ∙ eh) (task ∙ et) (kind Frame.Masked (omega arith) ∙ eb) (kind Frame.Interrupt (omega arith) ∙ ei))
-          ∙ sym (first-other text there-text (neither text eh et eb ei))
+      ordered : (frame : Frame) → eqb (indexOf frame) 0 ≡ false → indexOf frame < length fileKinds → lengthOf frame + 1 ≤ 31 → formed frame text ≡ true → lineOutcome cut 1 ≡ lineOutcome text 1
+      ordered frame later lt short f = first-kind frame later lt cut (kind frame short ∙ f) ∙ sym (first-kind frame later lt text f)
+
+      other : (t b r i : Bool) → formed Frame.Header text ≡ false → taskFormed text ≡ t → formed Frame.Masked text ≡ b → formed Frame.Rule text ≡ r → formed Frame.Interrupt text ≡ i → lineOutcome cut 1 ≡ lineOutcome text 1
+      other true b r i eh et eb er ei = first-task cut (task ∙ et) ∙ sym (first-task text et)
+      other false true r i eh et eb er ei = ordered Frame.Masked refl (omega arith) (omega arith) eb
+      other false false true i eh et eb er ei = ordered Frame.Rule refl (omega arith) (omega arith) er
+      other false false false true eh et eb er ei = ordered Frame.Interrupt refl (omega arith) (omega arith) ei
+      other false false false false eh et eb er ei =
+          first-other cut there-front (neither cut (kind Frame.Header (omega arith) ∙ eh) (task ∙ et) (kind Frame.Masked (omega arith) ∙ eb) (kind Frame.Rule (omega arith) ∙ er) (kind Frame.Interrupt (omega arith) ∙ ei))
+          ∙ sym (first-other text there-text (neither text eh et eb er ei))
 
       header : (h : Bool) → formed Frame.Header text ≡ h → lineOutcome cut 1 ≡ lineOutcome text 1
       header true e = first-header cut (kind Frame.Header (omega arith) ∙ e) ∙ sym (first-header text e)
-      header false e = other (taskFormed text) (formed Frame.Masked text) (formed Frame.Interrupt text) e refl refl refl
+      header false e = other (taskFormed text) (formed Frame.Masked text) (formed Frame.Rule text) (formed Frame.Interrupt text) e refl refl refl refl
 
   pub long-prefix : readOf cut ≡ readOf text
   unfolding till
@@ -292,7 +319,7 @@ read-looks-at N text far =
       | no short ↦ ap readOf (take-all N text (omega (arith, short)))
     ]
 
--- in bytes: 31 + 7 + 64 · 27 + 32 · 27 + 31
-pub furthest-bytes : furthest ≡ 2661
+-- in bytes: 31 + 7 + 5 + 64 · 27 + 32 · 27 + 31
+pub furthest-bytes : furthest ≡ 2666
 unfolding widthsOf sum
 furthest-bytes = refl

@@ -15,7 +15,7 @@ use Rattle.taskfile.specs.File.{past, empty, lineOutcome, openingLines, taskFor
 use Rattle.taskfile.proofs.Lines.{clear-header, clear-kind, clear-none, clear-room, clear-fewer}
 use Rattle.tasks_claims.specs.Claims.{linesTo, Shaped}
 use Rattle.tasks_claims.proofs.RunLaws.{run-more}
-use Rattle.tasks_claims.proofs.ShapedLaws.{opening-lines, lines-in, lines-opened, lines-some, shaped-none, shaped-tasks, shaped-interrupts}
+use Rattle.tasks_claims.proofs.ShapedLaws.{opening-few, lines-in, lines-opened, lines-some, shaped-none, shaped-tasks, shaped-interrupts}
 
 -- the lines of n tasks and k interrupts are taken, and there is room for these
 pub record Reached (text : List ℕ) (n k : ℕ) : Type 0 where
@@ -68,11 +68,11 @@ pub record Ended (text : List ℕ) : Type 0 where
   pub ended : past (linesTo text tasks interrupts) text ≡ []
 
 -- the lines of a file, and one more
-pub lines-most : (text : List ℕ) (n k : ℕ) → Reached text n k → linesTo text n k ≤ 98
-lines-most text n k r = omega (arith, lines-in text n k, opening-lines text, r .most, r .few)
+pub lines-most : (text : List ℕ) (n k : ℕ) → Reached text n k → linesTo text n k ≤ 99
+lines-most text n k r = omega (arith, lines-in text n k, opening-few text, r .most, r .few)
 
--- a text whose first 99 lines are clear ends among them
-module _ (text : List ℕ) (clear : (j : ℕ) → 1 ≤ j → j ≤ 99 → lineOutcome text j ≡ Done) where
+-- a text whose first 100 lines are clear ends among them
+module _ (text : List ℕ) (clear : (j : ℕ) → 1 ≤ j → j ≤ 100 → lineOutcome text j ≡ Done) where
   step : (n k : ℕ) → Reached text n k → ((m l : ℕ) → Reached text m l → m + l ≡ suc (n + k) → Ended text) → (rest : List ℕ) → past (linesTo text n k) text ≡ rest → Ended text
   step n k r more [] e = record { tasks = n; interrupts = k; reached = r; ended = e }
   step n k r more (b ∷ bs) e = by-kind (reached-next text n k r (ap empty e) (clear (suc (linesTo text n k)) (omega arith) (omega (arith, lines-most text n k r))))

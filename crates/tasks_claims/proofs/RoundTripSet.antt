@@ -1,8 +1,8 @@
 -- A set that can be written, read again, is the same set: its text has the shape of a file, and each line gives its figures back.
 -- Assumes nothing.
-use Prim.Native.Nat.{ℕ, zero, suc, _+_, _-_, _≤_, _<_}
+use Prim.Native.Nat.{ℕ, zero, suc, pred, _+_, _-_, _≤_, _<_}
 use mathlib.Core.Path.{_≡_, refl, sym, _∙_, ap, ap₂}
-use mathlib.Core.Bool.{Bool, true, false}
+use mathlib.Core.Bool.{Bool, true, false, cond}
 use mathlib.Core.List.{List, [], _∷_, _++_, append-assoc, append-nil}
 use native.Mathlib.Omega.{arith}
 use lib.Dec.{eqb}
@@ -10,7 +10,7 @@ use native.Mathlib.Nat.{min-le-left}
 use lib.ListN.{length, take, drop, getD, replicate, length-append, length-replicate, length-take}
 use lib.Seq.{take-suc, take-length, drop-length, drop-cons, length-take-le}
 use borrow.Author.Tests.{ne-eqb, eqb-true, not-false}
-use Rattle.frames.specs.Table.{widthsOf, fieldsIn}
+use Rattle.frames.specs.Table.{widthsOf, fieldsIn, indexOf}
 use Rattle.frameread.specs.Line.{after, closed, formed, fieldOf}
 use Rattle.frameread.proofs.KindLaws.{not-formed}
 use Rattle.framewrite.specs.Line.{lineOf}
@@ -32,35 +32,35 @@ use Rattle.taskframe.specs.Frames.{frameBy, taskFrame}
 use Rattle.refusals.specs.First.{firstOf, when, till}
 use Rattle.tasks.specs.Search.{some, atTask, firstTask}
 use Rattle.taskrows.specs.Rows.{rangeRow, interruptRow, rangeAt, figuresOutcome}
-use Rattle.taskask.specs.Ask.{headerOverflows, taskOverflows, maskedOverflows, interruptOverflows, askRow}
-use Rattle.taskfile.specs.File.{past, lineOutcome, headerAt, maskedAt, fileHeader, openingLines, taskFormed, taskKind, cacheAt, taskAt, interruptAt, among, tasksAmong, interruptsAmong, fileTasks, fileInterrupts}
+use Rattle.taskask.specs.Ask.{headerOverflows, taskOverflows, optionalOverflows, interruptOverflows, askRow}
+use Rattle.taskfile.specs.File.{past, lineOutcome, headerAt, givenBy, maskedAt, ruleLine, ruleAt, fileHeader, openingLines, taskFormed, taskKind, cacheAt, taskAt, interruptAt, among, tasksAmong, interruptsAmong, fileTasks, fileInterrupts}
 use Rattle.taskread.specs.Read.{fileSet, answer}
 use Rattle.tasks.specs.Values.{headerValues, taskValues, interruptValues}
-use Rattle.optionallines.specs.Lines.{maskedLine, interruptLine, interruptLines}
+use Rattle.optionallines.specs.Lines.{optionalLine, interruptLine, interruptLines}
 use Rattle.tasktext.specs.Text.{taskLine, taskLines, textOf}
 use Rattle.taskwrite.specs.Write.{writerAsks}
 use Rattle.tasks_claims.specs.Claims.{linesWith, linesTo, Run, Shaped, Whole, ReadWritten, ReadWrittenSame}
-use Rattle.taskask.proofs.Carried.{count-within, interrupts-within, ask-count, ask-twice, ask-header, ask-tasks, ask-masked, ask-interrupts, header-fits, task-fits, masked-fits, interrupt-fits}
+use Rattle.taskask.proofs.Carried.{count-within, interrupts-within, ask-count, ask-twice, ask-header, ask-tasks, ask-masked, ask-rule, ask-interrupts, header-fits, task-fits, optional-fits, interrupt-fits}
 use Rattle.tasks.proofs.SetLaws.{members-length, members-set, interrupts-set}
 use Rattle.tasks.proofs.Firsts.{at-none}
 use Rattle.taskrows.proofs.FiguresLaws.{figures-interrupts}
 use Rattle.tasks.proofs.Some.{some-at}
 use Rattle.taskask.proofs.TwiceLaws.{twice-before}
 use Rattle.taskfile.proofs.AmongLaws.{among-here, among-all, all-interrupts}
-use Rattle.taskfile.proofs.TaskLaws.{task-plain, task-cached, kind-plain, kind-cached, cache-given, cache-absent}
-use Rattle.taskfile.proofs.Lines.{task-no-masked, task-no-interrupt, opening-one, opening-two, clear-past, later-task, later-interrupt}
+use Rattle.taskfile.proofs.TaskLaws.{task-plain, task-cached, task-apart, kind-plain, kind-cached, cache-given, cache-absent}
+use Rattle.taskfile.proofs.Lines.{task-no-interrupt, masked-lines, rule-lines, clear-past, later-task, later-interrupt}
 use Rattle.taskfile.proofs.OpeningLaws.{taken-opening, among-opening, none-opening}
 use Rattle.taskread.proofs.Reading.{reads-clear}
 use Rattle.refusals.proofs.FirstLaws.{till-suc}
 use Rattle.tasks_claims.proofs.RunLaws.{run-less, run-other}
-use Rattle.tasks_claims.proofs.ShapedLaws.{past-next, masked-there, masked-absent, lines-some, tasks-first, tasks-last, shaped-all}
+use Rattle.tasks_claims.proofs.ShapedLaws.{past-next, given-there, given-absent, lines-some, tasks-first, tasks-last, shaped-all}
 use Rattle.taskwrite.proofs.WriteAsks.{first-some, writer-ask, writer-board, writer-range, writer-interrupts}
-use Rattle.optionallines.proofs.OptionalLaws.{masked-none, masked-given}
+use Rattle.optionallines.proofs.OptionalLaws.{optional-none, optional-given}
 
--- the board's figures come back from the header's line and from what line 2 gives
-header-back : (h : Header) (rest : List ℕ) → headerOverflows h ≡ false → maskedAt (lineOf Frame.Header (headerValues h) ++ rest) ≡ h .masked → fileHeader (lineOf Frame.Header (headerValues h) ++ rest) ≡ h
+-- the board's figures come back from the header's line and from what the 05 and the 06 line give
+header-back : (h : Header) (rest : List ℕ) → headerOverflows h ≡ false → maskedAt (lineOf Frame.Header (headerValues h) ++ rest) ≡ h .masked → ruleAt (lineOf Frame.Header (headerValues h) ++ rest) ≡ h .rule → fileHeader (lineOf Frame.Header (headerValues h) ++ rest) ≡ h
 unfolding fileHeader headerAt widthsOf
-header-back h rest o masked =
+header-back h rest o masked rule =
     λ i. record {
       processors = back 0 (omega arith) i;
       slot = back 1 (omega arith) i;
@@ -70,6 +70,7 @@ header-back h rest o masked =
       resd = back 5 (omega arith) i;
       cpmdo = back 6 (omega arith) i;
       masked = masked i;
+      rule = rule i;
     }
   where
     back : (k : ℕ) → k < fieldsIn Frame.Header → fieldOf Frame.Header k (lineOf Frame.Header (headerValues h) ++ rest) ≡ getD (headerValues h) k 0
@@ -205,36 +206,42 @@ each-apart {line = line} lined other apart (x ∷ xs) rest none =
     ap other (ap (λ (l : List ℕ). l ++ rest) (each-cons line x xs) ∙ append-assoc (line x) (eachLine line xs) rest)
     ∙ apart (line x ++ (eachLine line xs ++ rest)) (lined .passes x (eachLine line xs ++ rest))
 
--- ---- line 2
+-- ---- a line that may be there
 
--- of a text whose line 2 is a set's 05 line, or whose rest starts at line 2 where the set has none: behind the lines before the tasks
--- stands the rest, and what line 2 gives is what the set has
-module _ (text rest : List ℕ) (apart : formed Frame.Masked rest ≡ false) where
-  none-second : past 1 text ≡ maskedLine Absent ++ rest → past 1 text ≡ rest
-  none-second e = e ∙ ap (λ (l : List ℕ). l ++ rest) (masked-none refl)
+-- of a text that has such a line of a set's figure, or where the set has none the rest at once: behind it stands the rest, and what it
+-- gives is what the set has
+module _ (kind : Frame) (text : List ℕ) (k : ℕ) (rest : List ℕ) (apart : formed kind rest ≡ false) where
+  none-at : past k text ≡ optionalLine kind Absent ++ rest → past k text ≡ rest
+  none-at e = e ∙ ap (λ (l : List ℕ). l ++ rest) (optional-none kind refl)
 
-  none-there : past 1 text ≡ maskedLine Absent ++ rest → formed Frame.Masked (past 1 text) ≡ false
-  none-there e = ap (formed Frame.Masked) (none-second e) ∙ apart
+  none-there : past k text ≡ optionalLine kind Absent ++ rest → formed kind (past k text) ≡ false
+  none-there e = ap (formed kind) (none-at e) ∙ apart
 
-  module _ (b : ℕ) (e : past 1 text ≡ maskedLine (Given b) ++ rest) where
-    line-second : past 1 text ≡ lineOf Frame.Masked (b ∷ []) ++ rest
-    line-second = e ∙ ap (λ (l : List ℕ). l ++ rest) (masked-given refl)
+  module _ (x : ℕ) (e : past k text ≡ optionalLine kind (Given x) ++ rest) where
+    line-at : past k text ≡ lineOf kind (x ∷ []) ++ rest
+    line-at = e ∙ ap (λ (l : List ℕ). l ++ rest) (optional-given kind refl)
 
-    line-there : formed Frame.Masked (past 1 text) ≡ true
-    line-there = ap (formed Frame.Masked) line-second ∙ line-formed Frame.Masked (b ∷ []) rest
+    line-there : formed kind (past k text) ≡ true
+    line-there = ap (formed kind) line-at ∙ line-formed kind (x ∷ []) rest
 
-  past-opening : (masked : Optional) → past 1 text ≡ maskedLine masked ++ rest → past (openingLines text) text ≡ rest
-  past-opening Absent e = ap (λ (n : ℕ). past n text) (opening-one text (none-there e)) ∙ none-second e
-  past-opening (Given b) e =
-      ap (λ (n : ℕ). past n text) (opening-two text (line-there b e))
-      ∙ past-next text 1 ∙ ap after (line-second b e) ∙ line-after Frame.Masked (b ∷ []) rest
+  past-optional : (figure : Optional) → past k text ≡ optionalLine kind figure ++ rest → past (cond (formed kind (past k text)) (suc k) k) text ≡ rest
+  past-optional Absent e = ap (λ (b : Bool). past (cond b (suc k) k) text) (none-there e) ∙ none-at e
+  past-optional (Given x) e =
+      ap (λ (b : Bool). past (cond b (suc k) k) text) (line-there x e)
+      ∙ past-next text k ∙ ap after (line-at x e) ∙ line-after kind (x ∷ []) rest
 
-  masked-back : (masked : Optional) → past 1 text ≡ maskedLine masked ++ rest → maskedOverflows masked ≡ false → maskedAt text ≡ masked
-  unfolding widthsOf
-  masked-back Absent e o = masked-absent text (none-there e)
-  masked-back (Given b) e o =
-      masked-there text (line-there b e)
-      ∙ ap Given (ap (fieldOf Frame.Masked 0) (line-second b e) ∙ field-line Frame.Masked (b ∷ []) rest 0 (masked-fits b o 0 (omega arith)))
+  optional-back : 0 < fieldsIn kind → (figure : Optional) → past k text ≡ optionalLine kind figure ++ rest → optionalOverflows kind figure ≡ false → givenBy kind (past k text) ≡ figure
+  optional-back some Absent e o = given-absent kind (past k text) (none-there e)
+  optional-back some (Given x) e o =
+      given-there kind (past k text) (line-there x e)
+      ∙ ap Given (ap (fieldOf kind 0) (line-at x e) ∙ field-line kind (x ∷ []) rest 0 (optional-fits kind x o 0 some))
+
+-- it is no line of another kind, if what follows is not
+optional-apart : (kind other : Frame) → eqb (indexOf kind) (indexOf other) ≡ false → (figure : Optional) (rest : List ℕ) → formed other rest ≡ false → formed other (optionalLine kind figure ++ rest) ≡ false
+optional-apart kind other differ Absent rest none = ap (λ (l : List ℕ). formed other (l ++ rest)) (optional-none kind refl) ∙ none
+optional-apart kind other differ (Given x) rest none =
+    ap (λ (l : List ℕ). formed other (l ++ rest)) (optional-given kind refl)
+    ∙ not-formed kind other differ (lineOf kind (x ∷ []) ++ rest) (line-formed kind (x ∷ []) rest)
 
 -- ---- the text of a set
 
@@ -252,19 +259,29 @@ module _ (set : TaskSet) where
   abbrev lists : List ℕ
   lists = taskLines ts ++ interruptLines is
 
-  interrupts-apart : formed Frame.Masked (interruptLines is) ≡ false
+  lists-apart : (kind : Frame) → eqb 1 (indexOf kind) ≡ false → eqb 2 (indexOf kind) ≡ false → eqb 5 (indexOf kind) ≡ false → formed kind lists ≡ false
   unfolding formed closed
-  interrupts-apart = ap (formed Frame.Masked) (sym (append-nil (interruptLines is))) ∙ each-apart interrupt-lined (formed Frame.Masked) (not-formed Frame.Interrupt Frame.Masked refl) is [] refl
+  lists-apart kind plain cached interrupt =
+      each-apart task-lined (formed kind) (λ rest f. task-apart rest f kind plain cached) ts (interruptLines is)
+      (ap (formed kind) (sym (append-nil (interruptLines is))) ∙ each-apart interrupt-lined (formed kind) (not-formed Frame.Interrupt kind interrupt) is [] refl)
 
-  lists-apart : formed Frame.Masked lists ≡ false
-  lists-apart = each-apart task-lined (formed Frame.Masked) task-no-masked ts (interruptLines is) interrupts-apart
+  abbrev behind-masked : List ℕ
+  behind-masked = optionalLine Frame.Rule (set .header .rule) ++ lists
 
-  second-text : past 1 text ≡ maskedLine (set .header .masked) ++ lists
+  masked-apart : formed Frame.Masked behind-masked ≡ false
+  masked-apart = optional-apart Frame.Rule Frame.Masked refl (set .header .rule) lists (lists-apart Frame.Masked refl refl refl)
+
+  second-text : past 1 text ≡ optionalLine Frame.Masked (set .header .masked) ++ behind-masked
   unfolding past textOf
-  second-text = line-after Frame.Header (headerValues (set .header)) (maskedLine (set .header .masked) ++ lists)
+  second-text = line-after Frame.Header (headerValues (set .header)) (optionalLine Frame.Masked (set .header .masked) ++ behind-masked)
+
+  rule-start : past (pred (ruleLine text)) text ≡ behind-masked
+  rule-start = ap (λ (n : ℕ). past n text) (sym (masked-lines text)) ∙ past-optional Frame.Masked text 1 behind-masked masked-apart (set .header .masked) second-text
 
   tasks-start : past (openingLines text) text ≡ taskLines ts ++ interruptLines is
-  tasks-start = past-opening text lists lists-apart (set .header .masked) second-text
+  tasks-start =
+      ap (λ (n : ℕ). past n text) (sym (rule-lines text))
+      ∙ past-optional Frame.Rule text (pred (ruleLine text)) lists (lists-apart Frame.Rule refl refl refl) (set .header .rule) rule-start
 
   interrupts-start : past (linesTo text (length ts) 0) text ≡ interruptLines is ++ []
   interrupts-start =
@@ -275,7 +292,7 @@ module _ (set : TaskSet) where
   unfolding textOf
   shaped =
       record {
-        opened = line-formed Frame.Header (headerValues (set .header)) (maskedLine (set .header .masked) ++ lists);
+        opened = line-formed Frame.Header (headerValues (set .header)) (optionalLine Frame.Masked (set .header .masked) ++ behind-masked);
         tasks = run-each task-lined zeroTask text (openingLines text) ts (interruptLines is) tasks-start;
         interrupts = run-each interrupt-lined zeroInterrupt text (linesTo text (length ts) 0) is [] interrupts-start;
       }
@@ -335,11 +352,17 @@ module _ (set : TaskSet) where
           (ap (till (lineOutcome text)) (sym lines) ∙ lines-clear (length is) (omega arith))
 
     -- the set that the text holds
+    masked-text : maskedAt text ≡ set .header .masked
+    unfolding maskedAt widthsOf
+    masked-text = optional-back Frame.Masked text 1 behind-masked masked-apart (omega arith) (set .header .masked) second-text (ask-masked set ask)
+
+    rule-text : ruleAt text ≡ set .header .rule
+    unfolding ruleAt widthsOf
+    rule-text = optional-back Frame.Rule text (pred (ruleLine text)) lists (lists-apart Frame.Rule refl refl refl) (omega arith) (set .header .rule) rule-start (ask-rule set ask)
+
     header-text : fileHeader text ≡ set .header
     unfolding textOf
-    header-text =
-        header-back (set .header) (maskedLine (set .header .masked) ++ lists) (ask-header set ask)
-        (masked-back text lists lists-apart (set .header .masked) second-text (ask-masked set ask))
+    header-text = header-back (set .header) (optionalLine Frame.Masked (set .header .masked) ++ behind-masked) (ask-header set ask) masked-text rule-text
 
     tasks-text : fileTasks text ≡ ts
     tasks-text =

@@ -1,16 +1,16 @@
 -- A file that is accepted can be written again, and has the same bytes: each of its lines is the line of its own figures.
 -- Assumes nothing.
-use Prim.Native.Nat.{ℕ, zero, suc, _^_, _≤_}
+use Prim.Native.Nat.{ℕ, zero, suc, pred, _^_, _≤_, _<_}
 use mathlib.Core.Path.{_≡_, refl, sym, _∙_, ap, ap₂}
-use mathlib.Core.Bool.{Bool, true, false}
+use mathlib.Core.Bool.{Bool, true, false, cond}
 use mathlib.Core.List.{List, [], _∷_, _++_, append-assoc, append-nil}
 use mathlib.Core.Logic.{⊎-elim}
 use native.Mathlib.Omega.{arith}
 use lib.Dec.{leb, eqb}
-use lib.ListN.{length}
+use lib.ListN.{length, getD}
 use borrow.Author.Tests.{lt-leb}
 use Rattle.laws.proofs.Tests.{or-either, or-neither}
-use Rattle.frames.specs.Table.{widthsOf}
+use Rattle.frames.specs.Table.{widthsOf, fieldsIn}
 use Rattle.frameread.specs.Line.{after, formed, fieldOf}
 use Rattle.framewrite.specs.Line.{lineOf, fields}
 use Rattle.framelines.specs.Each.{eachLine}
@@ -24,6 +24,7 @@ use Rattle.frameread.proofs.KindLaws.{not-formed}
 use Rattle.frames_claims.specs.Values.{fieldsFrom, fieldsOf}
 use Rattle.frames_claims.proofs.LineLaws.{line-fields}
 use Rattle.tasks.specs.declared.set.Optional.{Optional}
+use Rattle.tasks.specs.declared.set.Optional.the-variants.{Absent, Given}
 use Rattle.tasks.specs.declared.set.Header.{Header}
 use Rattle.tasks.specs.declared.set.Interrupt.{Interrupt}
 use Rattle.tasks.specs.declared.set.Task.{Task}
@@ -31,13 +32,13 @@ use Rattle.tasks.specs.declared.set.TaskSet.{TaskSet}
 use Rattle.tasks.specs.Set.{mostTasks, zeroTask, zeroInterrupt, members, interruptsIn, hasId}
 use Rattle.refusals.specs.First.{when}
 use Rattle.tasks.specs.Search.{some}
-use Rattle.taskask.specs.Ask.{twiceRow, headerOverflows, taskOverflows, maskedOverflows, interruptOverflows}
+use Rattle.taskask.specs.Ask.{twiceRow, headerOverflows, taskOverflows, optionalOverflows, interruptOverflows}
 use Rattle.taskrows.specs.Rows.{boardRow, rangeRow, interruptRow}
-use Rattle.taskfile.specs.File.{past, lineOutcome, headerAt, maskedAt, fileHeader, openingLines, taskFormed, taskKind, cacheAt, taskAt, interruptAt, among, tasksAmong, interruptsAmong, fileTasks, fileInterrupts}
+use Rattle.taskfile.specs.File.{past, lineOutcome, headerAt, givenBy, ruleLine, fileHeader, openingLines, taskFormed, taskKind, cacheAt, taskAt, interruptAt, among, tasksAmong, interruptsAmong, fileTasks, fileInterrupts}
 use Rattle.taskread.specs.Read.{readOf}
 use Rattle.tasks_claims.specs.Claims.{Opened, linesWith, linesTo, Run, Shaped, tasksIn, interruptCount, AcceptedFile, NoRow, WrittenRead}
 use Rattle.tasks.specs.Values.{headerValues, interruptValues}
-use Rattle.optionallines.specs.Lines.{maskedLine, interruptLine, interruptLines}
+use Rattle.optionallines.specs.Lines.{optionalLine, interruptLine, interruptLines}
 use Rattle.tasktext.specs.Text.{taskLine, taskLines, textOf}
 use Rattle.taskwrite.specs.Write.{writerAsks}
 use Rattle.refusals.proofs.FirstLaws.{first-done, when-done}
@@ -47,22 +48,22 @@ use Rattle.tasks_claims.proofs.Exactly.{read-exactly-done}
 use Rattle.tasks.proofs.Some.{some-nil, some-more}
 use Rattle.taskask.proofs.TwiceLaws.{twice-nil, twice-more}
 use Rattle.tasks.proofs.SearchLaws.{some-nowhere}
-use Rattle.taskfile.proofs.Lines.{opening-one, opening-two, later-task, clear-none}
+use Rattle.taskfile.proofs.Lines.{masked-lines, rule-lines, later-task, clear-none}
 use Rattle.taskfile.proofs.OpeningLaws.{among-opening}
 use Rattle.taskfile.proofs.AmongLaws.{among-here, among-task, among-all, all-interrupts}
 use Rattle.tasks_claims.proofs.RunLaws.{run-less}
-use Rattle.tasks_claims.proofs.ShapedLaws.{past-next, masked-there, masked-absent, file-masked, lines-some, tasks-first, tasks-last}
+use Rattle.tasks_claims.proofs.ShapedLaws.{past-next, given-there, given-absent, file-masked, file-rule, lines-some, tasks-first, tasks-last}
 use Rattle.taskwrite.proofs.WriteAsks.{writer-rows}
-use Rattle.optionallines.proofs.OptionalLaws.{masked-none, masked-given}
+use Rattle.optionallines.proofs.OptionalLaws.{optional-none, optional-given}
 
 -- a line of a kind is the line of its own figures
 header-again : (text : List ℕ) → formed Frame.Header text ≡ true → text ≡ lineOf Frame.Header (headerValues (fileHeader text)) ++ after text
 unfolding fileHeader headerAt fieldsFrom fieldsOf widthsOf
 header-again text f = line-fields Frame.Header text f
 
-masked-again : (rest : List ℕ) → formed Frame.Masked rest ≡ true → rest ≡ lineOf Frame.Masked (fieldOf Frame.Masked 0 rest ∷ []) ++ after rest
-unfolding fieldsFrom fieldsOf widthsOf
-masked-again rest f = line-fields Frame.Masked rest f
+figure-again : (kind : Frame) → fieldsIn kind ≡ 1 → (rest : List ℕ) → formed kind rest ≡ true → rest ≡ lineOf kind (fieldOf kind 0 rest ∷ []) ++ after rest
+unfolding fieldsFrom fieldsOf
+figure-again kind one rest f = line-fields kind rest f ∙ ap (λ (n : ℕ). lineOf kind (fieldsFrom kind rest 0 n) ++ after rest) one
 
 interrupt-again : (rest : List ℕ) → formed Frame.Interrupt rest ≡ true → rest ≡ lineOf Frame.Interrupt (interruptValues (interruptAt rest)) ++ after rest
 unfolding interruptAt fieldsFrom fieldsOf widthsOf
@@ -111,15 +112,30 @@ module _ {A : Type 0} (test : List ℕ → Bool) (figures : List ℕ → A) (tex
       ap (some overflows) (among-here test figures text k (run n (omega arith)))
       ∙ some-more overflows (among test figures text k) (figures (past k text)) (lines-fit overflows fit n (run-less test text lines n (suc n) (omega arith) run)) (fit (past k text) (run n (omega arith)))
 
--- line 2 is the 05 line of what it gives, or the lines before the tasks end before it
-second-again : (text : List ℕ) → past 1 text ≡ maskedLine (maskedAt text) ++ past (openingLines text) text
-second-again text = by-kind (formed Frame.Masked (past 1 text)) refl
+-- a line that may be there is the line of what it gives, or there is none
+optional-again : (kind : Frame) → fieldsIn kind ≡ 1 → (text : List ℕ) (k : ℕ) → past k text ≡ optionalLine kind (givenBy kind (past k text)) ++ past (cond (formed kind (past k text)) (suc k) k) text
+optional-again kind one text k = by-kind (formed kind (past k text)) refl
   where
-    by-kind : (b : Bool) → formed Frame.Masked (past 1 text) ≡ b → past 1 text ≡ maskedLine (maskedAt text) ++ past (openingLines text) text
+    by-kind : (b : Bool) → formed kind (past k text) ≡ b → past k text ≡ optionalLine kind (givenBy kind (past k text)) ++ past (cond b (suc k) k) text
     by-kind true e =
-        masked-again (past 1 text) e
-        ∙ ap₂ _++_ (sym (masked-given (masked-there text e))) (sym (ap (λ (n : ℕ). past n text) (opening-two text e) ∙ past-next text 1))
-    by-kind false e = ap₂ _++_ (sym (masked-none (masked-absent text e))) (ap (λ (n : ℕ). past n text) (sym (opening-one text e)))
+        figure-again kind one (past k text) e ∙ ap₂ _++_ (sym (optional-given kind (given-there kind (past k text) e))) (sym (past-next text k))
+    by-kind false e = ap (λ (l : List ℕ). l ++ past k text) (sym (optional-none kind (given-absent kind (past k text) e)))
+
+-- the 05 line and the 06 line of a file, and what follows
+abbrev maskedText : List ℕ → List ℕ
+maskedText text = optionalLine Frame.Masked (givenBy Frame.Masked (past 1 text))
+
+abbrev ruleText : List ℕ → List ℕ
+ruleText text = optionalLine Frame.Rule (givenBy Frame.Rule (past (pred (ruleLine text)) text))
+
+second-again : (text : List ℕ) → past 1 text ≡ maskedText text ++ (ruleText text ++ past (openingLines text) text)
+unfolding widthsOf
+second-again text =
+    optional-again Frame.Masked refl text 1
+    ∙ ap (λ (l : List ℕ). maskedText text ++ l)
+    (ap (λ (n : ℕ). past n text) (masked-lines text)
+    ∙ optional-again Frame.Rule refl text (pred (ruleLine text))
+    ∙ ap (λ (n : ℕ). ruleText text ++ past n text) (rule-lines text))
 
 -- the tasks and the interrupts of a file that ends behind them
 module _ (text : List ℕ) (n k : ℕ) (s : Shaped text n k) (end : past (linesTo text n k) text ≡ []) where
@@ -137,10 +153,10 @@ module _ (text : List ℕ) (n k : ℕ) (s : Shaped text n k) (end : past (linesT
       ∙ ap₂ (λ (is : List Interrupt) (l : List ℕ). interruptLines is ++ l) interrupts-all end
       ∙ append-nil (interruptLines (fileInterrupts text)))
 
-  text-again : lineOf Frame.Header (headerValues (fileHeader text)) ++ (maskedLine (maskedAt text) ++ (taskLines (fileTasks text) ++ interruptLines (fileInterrupts text))) ≡ text
+  text-again : lineOf Frame.Header (headerValues (fileHeader text)) ++ (maskedText text ++ (ruleText text ++ (taskLines (fileTasks text) ++ interruptLines (fileInterrupts text)))) ≡ text
   text-again =
       let first = lineOf Frame.Header (headerValues (fileHeader text)) in
-      ap (λ (l : List ℕ). first ++ (maskedLine (maskedAt text) ++ l)) (sym rest-again)
+      ap (λ (l : List ℕ). first ++ (maskedText text ++ (ruleText text ++ l))) (sym rest-again)
       ∙ ap (λ (l : List ℕ). first ++ l) (sym (second-again text) ∙ past-one text)
       ∙ sym (header-again text (s .opened))
 
@@ -153,13 +169,19 @@ header-fits text f =
     fits : (k : ℕ) → leb (16 ^ lib.ListN.getD (widthsOf Frame.Header) k 0) (fieldOf Frame.Header k text) ≡ false
     fits k = lt-leb _ _ (field-below Frame.Header text f k)
 
-masked-fits : (text : List ℕ) → maskedOverflows (maskedAt text) ≡ false
-unfolding maskedOverflows lineOverflows someTooLarge widthsOf
-masked-fits text = by-kind (formed Frame.Masked (past 1 text)) refl
+figure-fits : (widths : List ℕ) (x : ℕ) → x < 16 ^ getD widths 0 0 → someTooLarge widths (x ∷ []) ≡ false
+unfolding someTooLarge
+figure-fits [] x below = refl
+figure-fits (w ∷ []) x below = or-neither (lt-leb _ _ below) refl
+figure-fits (w ∷ v ∷ ws) x below = or-neither (lt-leb _ _ below) refl
+
+optional-fits : (kind : Frame) (rest : List ℕ) → optionalOverflows kind (givenBy kind rest) ≡ false
+unfolding optionalOverflows lineOverflows
+optional-fits kind rest = by-kind (formed kind rest) refl
   where
-    by-kind : (b : Bool) → formed Frame.Masked (past 1 text) ≡ b → maskedOverflows (maskedAt text) ≡ false
-    by-kind true e = ap maskedOverflows (masked-there text e) ∙ or-neither (lt-leb _ _ (field-below Frame.Masked (past 1 text) e 0)) refl
-    by-kind false e = ap maskedOverflows (masked-absent text e)
+    by-kind : (b : Bool) → formed kind rest ≡ b → optionalOverflows kind (cond b (Given (fieldOf kind 0 rest)) Absent) ≡ false
+    by-kind true e = figure-fits (widthsOf kind) (fieldOf kind 0 rest) (field-below kind rest e 0)
+    by-kind false e = refl
 
 interrupt-fits : (rest : List ℕ) → formed Frame.Interrupt rest ≡ true → interruptOverflows (interruptAt rest) ≡ false
 unfolding interruptOverflows lineOverflows someTooLarge interruptAt widthsOf
@@ -226,7 +248,8 @@ module _ (text : List ℕ) (taken : AcceptedFile text) (none : NoRow text) where
       (ap twiceRow all ∙ ids-new text (tasksIn text) (s .opened) (s .tasks) (none .clear))
       (ap headerOverflows (taken .header) ∙ header-fits text (s .opened))
       (ap (some taskOverflows) all ∙ lines-fit taskFormed taskAt text (openingLines text) (among-opening text (s .opened)) taskOverflows task-fits (tasksIn text) (s .tasks))
-      (ap (λ (h : Header). maskedOverflows (h .masked)) (taken .header) ∙ ap maskedOverflows (file-masked text) ∙ masked-fits text)
+      (ap (λ (h : Header). optionalOverflows Frame.Masked (h .masked)) (taken .header) ∙ ap (optionalOverflows Frame.Masked) (file-masked text) ∙ optional-fits Frame.Masked (past 1 text))
+      (ap (λ (h : Header). optionalOverflows Frame.Rule (h .rule)) (taken .header) ∙ ap (optionalOverflows Frame.Rule) (file-rule text) ∙ optional-fits Frame.Rule (past (pred (ruleLine text)) text))
       (ap (some interruptOverflows) listed ∙ lines-fit (formed Frame.Interrupt) interruptAt text (linesTo text (tasksIn text) 0) (tasks-first text (tasksIn text) (interruptCount text) s) interruptOverflows interrupt-fits (interruptCount text) (s .interrupts)))
       (ap boardRow (taken .header) ∙ none .board)
       (ap (some rangeRow) (taken .tasks) ∙ some-nowhere rangeRow zeroTask (fileTasks text) (λ j lt. none .range (suc j) (omega arith) (omega arith)))
@@ -235,8 +258,9 @@ module _ (text : List ℕ) (taken : AcceptedFile text) (none : NoRow text) where
   same : textOf set ≡ text
   unfolding textOf
   same =
-      (λ i. lineOf Frame.Header (headerValues (taken .header i)) ++ (maskedLine (taken .header i .masked) ++ (taskLines (taken .tasks i) ++ interruptLines (taken .interrupts i))))
-      ∙ ap (λ (m : Optional). lineOf Frame.Header (headerValues (fileHeader text)) ++ (maskedLine m ++ (taskLines (fileTasks text) ++ interruptLines (fileInterrupts text)))) (file-masked text)
+      let tail = taskLines (fileTasks text) ++ interruptLines (fileInterrupts text) in
+      (λ i. lineOf Frame.Header (headerValues (taken .header i)) ++ (optionalLine Frame.Masked (taken .header i .masked) ++ (optionalLine Frame.Rule (taken .header i .rule) ++ (taskLines (taken .tasks i) ++ interruptLines (taken .interrupts i)))))
+      ∙ ap₂ (λ (m r : Optional). lineOf Frame.Header (headerValues (fileHeader text)) ++ (optionalLine Frame.Masked m ++ (optionalLine Frame.Rule r ++ tail))) (file-masked text) (file-rule text)
       ∙ text-again text (tasksIn text) (interruptCount text) s (taken .ended)
 
 pub written-read : WrittenRead

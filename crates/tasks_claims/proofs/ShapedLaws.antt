@@ -1,20 +1,20 @@
 -- Laws of a file's shape: the lines before the tasks, so many tasks and so many interrupts, where they end, and what they hold.
 -- Assumes nothing.
-use Prim.Native.Nat.{ℕ, suc, _+_, _*_, _≤_}
+use Prim.Native.Nat.{ℕ, suc, pred, _+_, _*_, _≤_}
 use native.Mathlib.Omega.{arith}
 use mathlib.Core.List.{List, []}
-use mathlib.Core.Bool.{Bool, true, false}
+use mathlib.Core.Bool.{Bool, true, false, cond}
 use mathlib.Core.Path.{_≡_, refl, ap, sym, _∙_, subst}
 use lib.ListN.{length, drop}
 use Rattle.frameread.specs.Line.{after, formed, fieldOf}
 use Rattle.frames.specs.Table.{lengthOf}
 use Rattle.frames.specs.declared.table.Frame.{Frame}
 use Rattle.tasks.specs.declared.set.Optional.the-variants.{Absent, Given}
-use Rattle.taskfile.specs.File.{past, maskedAt, fileHeader, openingLines, openingBytes, tasksAmong, interruptsAmong, taskFormed, taskKind, taskAt, interruptAt}
+use Rattle.taskfile.specs.File.{past, givenBy, bytesBy, maskedAt, ruleLine, ruleAt, fileHeader, openingLines, openingBytes, tasksAmong, interruptsAmong, taskFormed, taskKind, taskAt, interruptAt}
 use Rattle.taskfile.proofs.AmongLaws.{among-all, all-interrupts}
 use Rattle.taskfile.proofs.TaskLaws.{task-formed, kind-most}
-use Rattle.taskfile.proofs.Lines.{task-no-interrupt, interrupt-no-task, some-opening, opening-one, opening-two}
-use Rattle.taskfile.proofs.OpeningLaws.{opening-bytes, taken-opening, among-opening, none-opening}
+use Rattle.taskfile.proofs.Lines.{task-no-interrupt, interrupt-no-task, some-opening, rule-within, opening-near}
+use Rattle.taskfile.proofs.OpeningLaws.{taken-opening, among-opening, none-opening}
 use Rattle.tasks_claims.specs.Claims.{Opened, linesTo, sizeOf, Shaped, tasksIn, interruptCount}
 use Rattle.tasks_claims.proofs.RunLaws.{lines-is, bytes-most, past-run, run-count, run-other}
 
@@ -25,35 +25,36 @@ past-next text i = refl
 
 -- ---- the lines before the tasks
 
--- an 01 and a 05 line at most, and their bytes
-module _ (text : List ℕ) where
-  pub opening-lines : openingLines text ≤ 2
-  opening-lines = by-kind (formed Frame.Masked (past 1 text)) refl
-    where
-      by-kind : (b : Bool) → formed Frame.Masked (past 1 text) ≡ b → openingLines text ≤ 2
-      by-kind true e = omega (arith, opening-two text e)
-      by-kind false e = omega (arith, opening-one text e)
+-- an 01, a 05 and a 06 line at most, and their bytes
+pub opening-few : (text : List ℕ) → openingLines text ≤ 3
+opening-few text = omega (arith, rule-within text, opening-near text)
 
-  pub opening-most : openingBytes text ≤ lengthOf Frame.Header + 1 + (lengthOf Frame.Masked + 1)
-  opening-most = by-kind (formed Frame.Masked (past 1 text)) refl
-    where
-      by-kind : (b : Bool) → formed Frame.Masked (past 1 text) ≡ b → openingBytes text ≤ lengthOf Frame.Header + 1 + (lengthOf Frame.Masked + 1)
-      by-kind true e = omega (arith, opening-bytes text e)
-      by-kind false e = omega (arith, opening-bytes text e)
+pub optional-most : (kind : Frame) (rest : List ℕ) → bytesBy kind rest ≤ lengthOf kind + 1
+optional-most kind rest = by-kind (formed kind rest)
+  where
+    by-kind : (b : Bool) → cond b (lengthOf kind + 1) 0 ≤ lengthOf kind + 1
+    by-kind true = omega arith
+    by-kind false = omega arith
 
--- what line 2 gives, by whether it is a 05 line
-pub masked-there : (text : List ℕ) → formed Frame.Masked (past 1 text) ≡ true → maskedAt text ≡ Given (fieldOf Frame.Masked 0 (past 1 text))
-unfolding maskedAt
-masked-there text e = rw e
+pub opening-most : (text : List ℕ) → openingBytes text ≤ lengthOf Frame.Header + 1 + (lengthOf Frame.Masked + 1) + (lengthOf Frame.Rule + 1)
+unfolding openingBytes
+opening-most text = omega (arith, optional-most Frame.Masked (past 1 text), optional-most Frame.Rule (past (pred (ruleLine text)) text))
 
-pub masked-absent : (text : List ℕ) → formed Frame.Masked (past 1 text) ≡ false → maskedAt text ≡ Absent
-unfolding maskedAt
-masked-absent text e = rw e
+-- what a line that may be there gives, by whether it is there
+pub given-there : (kind : Frame) (rest : List ℕ) → formed kind rest ≡ true → givenBy kind rest ≡ Given (fieldOf kind 0 rest)
+given-there kind rest e = rw e
+
+pub given-absent : (kind : Frame) (rest : List ℕ) → formed kind rest ≡ false → givenBy kind rest ≡ Absent
+given-absent kind rest e = rw e
 
 -- and the board's figures have it
-pub file-masked : (text : List ℕ) → fileHeader text .masked ≡ maskedAt text
-unfolding fileHeader
+pub file-masked : (text : List ℕ) → fileHeader text .masked ≡ givenBy Frame.Masked (past 1 text)
+unfolding fileHeader maskedAt
 file-masked text = refl
+
+pub file-rule : (text : List ℕ) → fileHeader text .rule ≡ givenBy Frame.Rule (past (pred (ruleLine text)) text)
+unfolding fileHeader ruleAt
+file-rule text = refl
 
 -- ---- the tasks and the interrupts behind them
 

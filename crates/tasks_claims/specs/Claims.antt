@@ -1,6 +1,6 @@
 -- What is claimed of task files: each refusal of reading exactly when its row says, what an accepted file is,
 -- what a write answers and leaves, and that reading and writing undo each other.
--- Document 01, "Refusal numbers and their order" (RULES 6) and "How tight each promise is"; document 02, Req 04, 07 and 08.
+-- Document 01, "Refusal numbers and their order" (RULES 6) and "How tight each promise is"; document 02, Req 04, 05, 07 and 08.
 use Prim.Native.Nat.{ℕ, zero, suc, pred, _+_, _<_, _≤_}
 use mathlib.Core.List.{List, []}
 use mathlib.Core.Bool.{Bool, true, false}
@@ -17,8 +17,9 @@ use Rattle.refusals.specs.declared.Outcome.the-variants.{Done, Refused}
 use Rattle.taskread.specs.declared.read.ReadAnswer.{ReadAnswer}
 use Rattle.tasks.specs.Set.{mostTasks, mostInterrupts, zeroTask, zeroInterrupt, zeroSet, members, interruptsIn, setOf}
 use Rattle.taskrows.specs.Rows.{boardRow, rangeRow, interruptRow}
+use Rattle.tasks.specs.declared.set.Optional.{Optional}
 use Rattle.tasks.specs.declared.set.Optional.the-variants.{Absent, Given}
-use Rattle.taskfile.specs.File.{past, from, present, isHeader, isTask, isMasked, isInterrupt, taskFormed, taskKind, taskAt, maskedAt, interruptAt, interruptsAmong, lineRow, orderRow, countLineRow, twiceLineRow, lineOutcome, fileHeader, openingLines, openingBytes, fileTasks, fileInterrupts}
+use Rattle.taskfile.specs.File.{past, from, present, isHeader, isTask, isMasked, isRule, isInterrupt, taskFormed, taskKind, taskAt, givenBy, ruleLine, interruptAt, interruptsAmong, lineRow, orderRow, countLineRow, twiceLineRow, lineOutcome, fileHeader, openingLines, openingBytes, fileTasks, fileInterrupts}
 use Rattle.readbytes.specs.Furthest.{furthest}
 use Rattle.taskread.specs.Read.{readOf, answer}
 use Rattle.refusals.specs.declared.Written.{Written}
@@ -123,7 +124,7 @@ ReadRefuses = (text : List ℕ) (r : Refusal) → readOf text .outcome ≡ Refus
 abbrev pub ReadDetermined : Type 0
 ReadDetermined = (text : List ℕ) (a b : ReadAnswer) → a ≡ readOf text → b ≡ readOf text → a ≡ b
 
--- the lines before the tasks are there: line 1 is an 01 line, and line 2 may be a 05 line
+-- the lines before the tasks are there: line 1 is an 01 line, and behind it may stand a 05 line and a 06 line
 abbrev pub Opened : List ℕ → Type 0
 Opened text = formed Frame.Header text ≡ true
 
@@ -158,7 +159,7 @@ pub record Shaped (text : List ℕ) (n k : ℕ) : Type 0 where
 abbrev pub ReadLooksAt : Type 0
 ReadLooksAt = (n : ℕ) (text : List ℕ) → furthest ≤ n → readOf (take n text) ≡ readOf text
 
--- an accepted file is a header, a 05 line or none, 1 to 64 tasks and up to 32 interrupts, nothing after them, and the answer holds those
+-- an accepted file is a header, a 05 line or none, a 06 line or none, 1 to 64 tasks and up to 32 interrupts, nothing after them, and the answer holds those
 pub record AcceptedFile (text : List ℕ) : Type 0 where
   pub any : 1 ≤ tasksIn text
   pub most : tasksIn text ≤ mostTasks
@@ -175,19 +176,30 @@ pub record AcceptedFile (text : List ℕ) : Type 0 where
 abbrev pub ReadAccepted : Type 0
 ReadAccepted = (text : List ℕ) → readOf text .outcome ≡ Done → AcceptedFile text
 
--- the set of an accepted file remembers its 05 line: it gives a figure exactly where line 2 is a 05 line with that figure, and none
--- exactly where line 2 is no 05 line
-pub record Remembered (text : List ℕ) : Type 0 where
-  pub told : readOf text .set .header .masked ≡ maskedAt text
-  pub given : (b : ℕ) → (readOf text .set .header .masked ≡ Given b) ↔ ((isMasked text 2 ≡ true) × (fieldOf Frame.Masked 0 (from text 2) ≡ b))
-  pub absent : (readOf text .set .header .masked ≡ Absent) ↔ (isMasked text 2 ≡ false)
+-- a line that may be there is remembered: there is a figure exactly where the text starts with such a line of that figure, and none
+-- exactly where it starts with no such line
+pub record Remembered (kind : Frame) (rest : List ℕ) (figure : Optional) : Type 0 where
+  pub told : figure ≡ givenBy kind rest
+  pub given : (x : ℕ) → (figure ≡ Given x) ↔ ((formed kind rest ≡ true) × (fieldOf kind 0 rest ≡ x))
+  pub absent : (figure ≡ Absent) ↔ (formed kind rest ≡ false)
 
+-- the set of an accepted file remembers its 05 line, which is line 2
 abbrev pub MaskedRemembered : Type 0
-MaskedRemembered = (text : List ℕ) → readOf text .outcome ≡ Done → Remembered text
+MaskedRemembered = (text : List ℕ) → readOf text .outcome ≡ Done → Remembered Frame.Masked (from text 2) (readOf text .set .header .masked)
+
+-- and its 06 line, which stands directly behind the 05 line or, without one, behind the 01 line
+abbrev pub RuleRemembered : Type 0
+RuleRemembered =
+    (text : List ℕ) → readOf text .outcome ≡ Done → Remembered Frame.Rule (from text (ruleLine text)) (readOf text .set .header .rule)
 
 -- no line of an accepted file but line 2 is a 05 line
 abbrev pub MaskedOnlyAtTwo : Type 0
 MaskedOnlyAtTwo = (text : List ℕ) (k : ℕ) → readOf text .outcome ≡ Done → 1 ≤ k → isMasked text k ≡ true → k ≡ 2
+
+-- and none is a 06 line but the one directly behind the 05 line or, without one, behind the 01 line
+abbrev pub RuleOnlyThere : Type 0
+RuleOnlyThere =
+    (text : List ℕ) (k : ℕ) → readOf text .outcome ≡ Done → 1 ≤ k → isRule text k ≡ true → ((k ≡ 2) × (isMasked text 2 ≡ false)) ⊎ ((k ≡ 3) × (isMasked text 2 ≡ true))
 
 -- the set of an accepted file remembers its 07 lines in their order: interrupt k has the figures of the k-th line behind the tasks
 pub record Listed (text : List ℕ) : Type 0 where
@@ -220,11 +232,12 @@ abbrev pub InterruptTooMany : Type 0
 InterruptTooMany =
     (text : List ℕ) (k : ℕ) → 1 < k → Clear text k → isInterrupt text k ≡ true → length (interruptsAmong text (pred k)) ≡ mostInterrupts → readOf text .outcome ≡ Refused (Count k)
 
--- a file without a task is COUNT at the line after the last: line 2 behind an 01 line, line 3 behind an 01 and a 05 line,
--- and so behind any lines that are clear, 07 lines too
+-- a file without a task is COUNT at the line after the last: line 2 behind an 01 line, line 3 behind an 01 and a 05 line, the next one
+-- behind a 06 line, and so behind any lines that are clear, 07 lines too
 pub record NoTask (text : List ℕ) : Type 0 where
   pub header : isHeader text 1 ≡ true → past 1 text ≡ [] → readOf text .outcome ≡ Refused (Count 2)
   pub masked : isHeader text 1 ≡ true → isMasked text 2 ≡ true → past 2 text ≡ [] → readOf text .outcome ≡ Refused (Count 3)
+  pub rule : isHeader text 1 ≡ true → isRule text (ruleLine text) ≡ true → past (ruleLine text) text ≡ [] → readOf text .outcome ≡ Refused (Count (suc (ruleLine text)))
   pub last : (k : ℕ) → Clear text (suc (suc k)) → present text (suc k) ≡ true → past (suc k) text ≡ [] → tasksIn text ≡ 0 → readOf text .outcome ≡ Refused (Count (suc (suc k)))
 
 abbrev pub NoTaskPlace : Type 0

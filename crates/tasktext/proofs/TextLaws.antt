@@ -1,4 +1,4 @@
--- Laws of a set's text: the fields of a task's line, the bytes of the tasks' lines and of the text, and the text stored in four steps.
+-- Laws of a set's text: the fields of a task's line, the bytes of the tasks' lines and of the text, and the text stored in five steps.
 -- Assumes nothing.
 use Prim.Native.Nat.{ℕ, _+_, _*_, _≤_, _<_}
 use mathlib.Core.Path.{_≡_, _∙_, ap, ap₂}
@@ -15,7 +15,7 @@ use Rattle.digits.specs.Stored.{stored}
 use Rattle.frames.specs.declared.table.Frame.{Frame}
 use Rattle.framewrite.proofs.LineLaws.{line-length}
 use Rattle.framelines.proofs.EachLaws.{each-next, each-most, each-length}
-use Rattle.digits.proofs.Stored.{stored-stored, stored-three}
+use Rattle.digits.proofs.Stored.{stored-stored}
 use Rattle.tasks.specs.declared.set.Optional.{Optional}
 use Rattle.tasks.specs.declared.set.Optional.the-variants.{Absent, Given}
 use Rattle.tasks.specs.declared.set.Task.{Task}
@@ -23,7 +23,7 @@ use Rattle.tasks.specs.declared.set.TaskSet.{TaskSet}
 use Rattle.tasks.specs.Set.{members, interruptsIn, zeroTask}
 use Rattle.tasks.specs.Values.{headerValues, taskValues, interruptValues}
 use Rattle.taskframe.specs.Frames.{frameBy, taskFrame}
-use Rattle.optionallines.specs.Lines.{maskedLine, interruptLines}
+use Rattle.optionallines.specs.Lines.{optionalLine, interruptLines}
 use Rattle.tasktext.specs.Text.{taskLine, taskLines, textOf}
 
 -- a task has a figure for each field of its line
@@ -51,12 +51,19 @@ tasks-more ts i h =
     ∙ length-append (taskLines (take i ts)) (taskLine t)
     ∙ ap (λ (k : ℕ). length (taskLines (take i ts)) + k) (line-length (taskFrame t) (taskValues t))
 
+-- a text stored, and another right behind it: both stored
+stored-behind : (b x y : List ℕ) {c d : List ℕ} {at : ℕ} → c ≡ stored b 0 x → at ≡ length x → d ≡ stored c at y → length x + length y ≤ length b → d ≡ stored b 0 (x ++ y)
+stored-behind b x y front at-end both fits = both ∙ ap₂ (λ (l : List ℕ) (n : ℕ). stored l n y) front (omega (arith, at-end)) ∙ stored-stored b 0 x y (omega arith)
+
 module _ (set : TaskSet) where
   abbrev first : List ℕ
   first = lineOf Frame.Header (headerValues (set .header))
 
   abbrev masked : List ℕ
-  masked = maskedLine (set .header .masked)
+  masked = optionalLine Frame.Masked (set .header .masked)
+
+  abbrev rule : List ℕ
+  rule = optionalLine Frame.Rule (set .header .rule)
 
   abbrev tasks : List ℕ
   tasks = taskLines (members set)
@@ -64,38 +71,40 @@ module _ (set : TaskSet) where
   abbrev last : List ℕ
   last = interruptLines (interruptsIn set)
 
-  -- the bytes of the text: those of the 01 line and the 05 line, of the tasks' lines and of the 07 lines
+  -- the bytes of the text: those of the 01 line, the 05 line and the 06 line, of the tasks' lines and of the 07 lines
   pub text-bytes : set .interrupts .count ≤ length (set .interrupts .each)
-      → length (textOf set) ≡ lengthOf Frame.Header + 1 + length masked + length tasks + set .interrupts .count * (lengthOf Frame.Interrupt + 1)
+      → length (textOf set) ≡ lengthOf Frame.Header + 1 + length masked + length rule + length tasks + set .interrupts .count * (lengthOf Frame.Interrupt + 1)
   unfolding textOf
   text-bytes few =
       simp length-append (
       omega (arith, line-length Frame.Header (headerValues (set .header)), each-length Frame.Interrupt interruptValues (interruptsIn set) ∙ ap (λ (n : ℕ). n * (lengthOf Frame.Interrupt + 1)) (length-take-le (set .interrupts .count) (set .interrupts .each) few))
       )
 
-  -- the 01 line of the header's figures stored, behind it the 05 line, where there is one, the lines of the tasks and the 07 lines: the
-  -- text stored
-  pub text-put : (b : List ℕ) {header written opened listed left : List ℕ} {second at behind : ℕ} → length (textOf set) ≤ length b
+  -- the 01 line of the header's figures stored, behind it the 05 line and the 06 line, where there are such, the lines of the tasks and the
+  -- 07 lines: the text stored
+  pub text-put : (b : List ℕ) {header written opened ruled listed left : List ℕ} {second next at behind : ℕ} → length (textOf set) ≤ length b
       → header ≡ headerValues (set .header)
-      → second ≡ lengthOf Frame.Header + 1 → at ≡ lengthOf Frame.Header + 1 + length masked → behind ≡ at + length tasks
-      → written ≡ stored b 0 (lineOf Frame.Header header) → opened ≡ stored written second masked
-      → listed ≡ stored opened at tasks → left ≡ stored listed behind last
+      → second ≡ lengthOf Frame.Header + 1 → next ≡ lengthOf Frame.Header + 1 + length masked
+      → at ≡ lengthOf Frame.Header + 1 + length masked + length rule → behind ≡ at + length tasks
+      → written ≡ stored b 0 (lineOf Frame.Header header) → opened ≡ stored written second masked → ruled ≡ stored opened next rule
+      → listed ≡ stored ruled at tasks → left ≡ stored listed behind last
       → left ≡ stored b 0 (textOf set)
   unfolding textOf
-  text-put b {listed = listed} {second = second} {at = at} {behind = behind} fits e first-ends masked-ends tasks-end written opened tasks-put left =
-      left
-      ∙ ap₂ (λ (l : List ℕ) (n : ℕ). stored l n last) tasks-stored (omega (arith, bytes, masked-ends, tasks-end, whole))
-      ∙ stored-stored b 0 (first ++ (masked ++ tasks)) last (omega (arith, whole, simp length-append at fits))
-      ∙ ap (stored b 0) (append-assoc first (masked ++ tasks) last ∙ ap (λ (l : List ℕ). first ++ l) (append-assoc masked tasks last))
+  text-put b {opened = opened} {ruled = ruled} {listed = listed} fits e first-ends masked-ends rule-ends tasks-end first-put masked-put rule-put tasks-put last-put =
+      stored-behind b (((first ++ masked) ++ rule) ++ tasks) last listed-put (simp length-append (omega (arith, bytes, first-ends, masked-ends, rule-ends, tasks-end))) last-put (simp length-append (omega (arith, room)))
+      ∙ ap (stored b 0) (append-assoc ((first ++ masked) ++ rule) tasks last ∙ append-assoc (first ++ masked) rule (tasks ++ last) ∙ append-assoc first masked (rule ++ (tasks ++ last)))
     where
       bytes : length first ≡ lengthOf Frame.Header + 1
       bytes = line-length Frame.Header (headerValues (set .header))
 
-      whole : length (first ++ (masked ++ tasks)) ≡ length first + length masked + length tasks
-      whole = simp length-append (omega arith)
+      room : length first + (length masked + (length rule + (length tasks + length last))) ≤ length b
+      room = omega (arith, simp length-append at fits)
 
-      tasks-stored : listed ≡ stored b 0 (first ++ (masked ++ tasks))
-      tasks-stored =
-          tasks-put
-          ∙ ap (λ (o : List ℕ). stored o at tasks) (opened ∙ ap (λ (o : List ℕ). stored o second masked) (written ∙ ap (λ (vs : List ℕ). stored b 0 (lineOf Frame.Header vs)) e))
-          ∙ stored-three b 0 first masked tasks second at (omega (arith, bytes)) (omega (arith, bytes)) (omega (arith, simp length-append at fits))
+      opened-put : opened ≡ stored b 0 (first ++ masked)
+      opened-put = stored-behind b first masked (first-put ∙ ap (λ (vs : List ℕ). stored b 0 (lineOf Frame.Header vs)) e) (omega (arith, bytes, first-ends)) masked-put (omega (arith, room))
+
+      ruled-put : ruled ≡ stored b 0 ((first ++ masked) ++ rule)
+      ruled-put = stored-behind b (first ++ masked) rule opened-put (simp length-append (omega (arith, bytes, first-ends, masked-ends))) rule-put (simp length-append (omega (arith, room)))
+
+      listed-put : listed ≡ stored b 0 (((first ++ masked) ++ rule) ++ tasks)
+      listed-put = stored-behind b ((first ++ masked) ++ rule) tasks ruled-put (simp length-append (omega (arith, bytes, first-ends, masked-ends, rule-ends))) tasks-put (simp length-append (omega (arith, room)))

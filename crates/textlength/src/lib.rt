@@ -1,7 +1,7 @@
-// The length of a task set's text: one 01 line, the 05 line where the set has one, then the lines of the tasks and the 07 lines.
+// The length of a task set's text: one 01 line, the 05 line and the 06 line where the set has them, then the lines of the tasks and the 07 lines.
 use framelines_code::lines_length;
 use frames::table::Frame;
-use optionallines_code::masked_length;
+use optionallines_code::optional_length;
 use taskframe::task_frame;
 use tasks::set::TaskSet;
 ghost use mathlib.Core.Path.{_≡_};
@@ -18,8 +18,10 @@ pub fn text_length(set: TaskSet) -> usize
 {
     let first = lines_length(Frame::Header, 1);
     let header = set.header;
-    let line = header.masked;
-    let masked = masked_length(line);
+    let ticks = header.masked;
+    let masked = optional_length(Frame::Masked, ticks);
+    let number = header.rule;
+    let rule = optional_length(Frame::Rule, number);
     let n = set.count;
     let mut tasks = 0;
     let mut i = 0;
@@ -30,5 +32,5 @@ pub fn text_length(set: TaskSet) -> usize
         i += 1;
     }
     let last = lines_length(Frame::Interrupt, set.interrupts.count);
-    first + masked + tasks + last
+    first + masked + rule + tasks + last
 }

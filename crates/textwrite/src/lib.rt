@@ -1,9 +1,9 @@
-// The text of a task set: one 01 line, the 05 line where the set has one, then the lines of the tasks and the 07 lines, each in file order.
+// The text of a task set: one 01 line, the 05 line and the 06 line where the set has them, then the lines of the tasks and the 07 lines, each in file order.
 use framelines_code::lines_length;
 use frames::table::Frame;
 use framewrite_code::put_line;
-use optionallines_code::masked_length;
-use optionallines_code::put_masked;
+use optionallines_code::optional_length;
+use optionallines_code::put_optional;
 use put_interrupts::put_interrupts;
 use tasks::set::TaskSet;
 use tasktext_code::put_tasks;
@@ -27,8 +27,11 @@ pub fn put_text(out: &mut [u8], set: TaskSet)
     put_line(out, 0, Frame::Header, &first);
     let second = lines_length(Frame::Header, 1);
     let masked = header.masked;
-    put_masked(out, second, masked);
-    let at = second + masked_length(masked);
+    put_optional(out, second, Frame::Masked, masked);
+    let next = second + optional_length(Frame::Masked, masked);
+    let rule = header.rule;
+    put_optional(out, next, Frame::Rule, rule);
+    let at = next + optional_length(Frame::Rule, rule);
     let behind = put_tasks(out, at, set);
     put_interrupts(out, behind, set.interrupts);
 }

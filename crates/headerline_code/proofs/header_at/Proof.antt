@@ -54,7 +54,7 @@ cast-t22 c =
 
 returns : tie.Need-returns
 unfolding headerAt
-returns c = λ i. record { processors = c .before .before .before .before .before .before .field .ensures i; slot = c .before .before .before .before .before .field2 .ensures i; relj = c .before .before .before .before .field3 .ensures i; relo = c .before .before .before .field4 .ensures i; ctswo = c .before .before .field5 .ensures i; resd = c .before .field6 .ensures i; cpmdo = c .field7 .ensures i; masked = Absent }
+returns c = λ i. record { processors = c .before .before .before .before .before .before .field .ensures i; slot = c .before .before .before .before .before .field2 .ensures i; relj = c .before .before .before .before .field3 .ensures i; relo = c .before .before .before .field4 .ensures i; ctswo = c .before .before .field5 .ensures i; resd = c .before .field6 .ensures i; cpmdo = c .field7 .ensures i; masked = Absent; rule = Absent }
 
 pub header-at-spec : {M : Type 1} → statement M
 header-at-spec =

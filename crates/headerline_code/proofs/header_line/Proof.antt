@@ -1,14 +1,11 @@
 -- `header_line` meets its contract: what line 1 is, and what it then answers.
-use mathlib.Core.Logic.{inl, inr, ⊎-elim}
 use mathlib.Core.Path.{_≡_, sym, ap, _∙_}
 use mathlib.Core.Bool.{true, false}
 use mathlib.Core.List.{List}
 use Prim.Native.Nat.{ℕ}
 use native.Mathlib.Omega.{arith}
-use denote.Enum.Declared.{tagOf}
 use denote.Ref.{now}
 use Rattle.frameread.specs.Line.{formed, kindAt}
-use Rattle.frames.proofs.table.Frame.{the-type}
 use Rattle.frames.specs.declared.table.Frame.{Frame}
 use Rattle.frameread.specs.declared.Found.{Found}
 use Rattle.refusals.specs.declared.Outcome.{Outcome}
@@ -17,8 +14,8 @@ use Rattle.taskfile.specs.File.{lineOutcome, headerAt, empty}
 use Rattle.headerline.specs.Answer.{headerOr}
 use Rattle.frameread.proofs.KindLaws.{kind-formed, kind-none}
 use Rattle.taskfile.proofs.Past.{nothing-left}
-use Rattle.taskfile.proofs.Lines.{admits-none, first-missing, first-header, first-task, first-masked, first-interrupt, first-other}
-use Rattle.taskfile.proofs.Standing.{byte-there, tag-formed, tag-task, other-frame}
+use Rattle.taskfile.proofs.Lines.{admits-none, first-missing, first-header, first-other}
+use Rattle.taskfile.proofs.Standing.{byte-there, first-said, other-frame}
 use borrow.Author.Needs.{needs}
 use Rattle.headerline_code.proofs.header_line.Statement.{statement}
 use Rattle.headerline_code.proofs.header_line.Tie as tie
@@ -56,26 +53,16 @@ returns-3 c =
     let header : formed Frame.Header text ≡ true = ap (λ (f : Frame). formed f text) (sym (c .before .enum-told2 .given .1)) ∙ is-formed (c .before .before .before) in
     ap HeaderLine.Header (c .header-at .ensures) ∙ sym (ap (given text) (first-header text header))
 
-returns-4 : tie.Need-returns-4
-returns-4 c =
-    let text : List ℕ = now (c .before .before .before .before .before .before .before .args .text) in
-    let frame : Frame = c .before .before .found .given .0 .0 in
-    sym
-    (ap (given text)
-    (⊎-elim
-    (λ (task : tagOf the-type frame ≡ 1). first-task text (tag-task frame text (inl task) (is-formed (c .before)) .0))
-    (⊎-elim
-    (λ (task : tagOf the-type frame ≡ 2). first-task text (tag-task frame text (inr task) (is-formed (c .before)) .0))
-    (⊎-elim
-    (λ (masked : tagOf the-type frame ≡ 3). first-masked text (tag-formed frame Frame.Masked text masked (is-formed (c .before))))
-    (λ (interrupt : tagOf the-type frame ≡ 4). first-interrupt text (tag-formed frame Frame.Interrupt text interrupt (is-formed (c .before))))))
-    (c .match2 .keys2)))
-
 returns-5 : tie.Need-returns-5
 returns-5 c =
     let text : List ℕ = now (c .before .before .before .before .before .before .before .args .text) in
     let other = other-frame (c .before .before .found .given .0 .0) text (c .match2 .keys3) (is-formed (c .before)) in
     sym (ap (given text) (first-other text (there (c .before .before .before .before .before)) other))
+
+returns-4 : tie.Need-returns-4
+returns-4 c =
+    let text : List ℕ = now (c .before .before .before .before .before .before .before .args .text) in
+    sym (ap (given text) (first-said (c .before .before .found .given .0 .0) text (is-formed (c .before)) (c .match2 .keys2)))
 
 pub header-line-spec : {M : Type 1} → statement M
 header-line-spec =

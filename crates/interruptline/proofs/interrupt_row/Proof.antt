@@ -1,21 +1,18 @@
 -- `interrupt_row` meets its contract: what a line behind the tasks is, and what it then answers.
-use mathlib.Core.Logic.{inl, inr, ⊎-elim}
 use mathlib.Core.Path.{_≡_, sym, ap, _∙_}
 use mathlib.Core.Bool.{true}
 use mathlib.Core.List.{List}
 use Prim.Native.Nat.{ℕ}
 use native.Mathlib.Omega.{arith}
-use denote.Enum.Declared.{tagOf}
 use denote.Ref.{now}
 use lib.ListN.{drop}
 use Rattle.frameread.specs.Line.{formed, kindAt}
-use Rattle.frames.proofs.table.Frame.{the-type}
 use Rattle.frames.specs.declared.table.Frame.{Frame}
 use Rattle.frameread.specs.declared.Found.{Found}
 use Rattle.frameread.proofs.KindLaws.{kind-formed, kind-none}
 use Rattle.tasks.specs.Set.{mostInterrupts}
 use Rattle.taskfile.proofs.Lines.{admits-none}
-use Rattle.taskfile.proofs.Standing.{tag-formed, tag-task, other-frame, said-line, said-order, said-masked, said-late, said-full, said-done}
+use Rattle.taskfile.proofs.Standing.{other-frame, said-line, said-behind, said-full, said-done}
 use borrow.Author.Needs.{needs}
 use Rattle.interruptline.proofs.interrupt_row.Statement.{statement}
 use Rattle.interruptline.proofs.interrupt_row.Tie as tie
@@ -46,30 +43,21 @@ returns-2 c =
     let full : s .args .count ≡ mostInterrupts = omega (arith, c .if1 .taken, s .pre .1 .1, s .pre .0 .taken .fewer) in
     sym (said-full (s .pre .0 .taken) (interrupt (c .before)) (s .args .count) (s .pre .1 .1) full)
 
-returns-3 : tie.Need-returns-3
-returns-3 c =
-    let s = c .before .before .before .before .before .before in
-    let frame : Frame = c .before .before .found .given .0 .0 in
-    sym
-    (⊎-elim
-    (λ (header : tagOf the-type frame ≡ 0). said-order (s .pre .0 .taken) (tag-formed frame Frame.Header (rest s) header (is-formed (c .before))))
-    (⊎-elim
-    (λ (task : tagOf the-type frame ≡ 1). said-late (s .pre .0) (tag-task frame (rest s) (inl task) (is-formed (c .before)) .0))
-    (⊎-elim
-    (λ (task : tagOf the-type frame ≡ 2). said-late (s .pre .0) (tag-task frame (rest s) (inr task) (is-formed (c .before)) .0))
-    (λ (masked : tagOf the-type frame ≡ 3). said-masked (s .pre .0 .taken) (tag-formed frame Frame.Masked (rest s) masked (is-formed (c .before))))))
-    (c .match2 .keys1))
-
-returns-4 : tie.Need-returns-4
-returns-4 c =
-    let s = c .before .before .before .before .before .before .before .before in
-    sym (said-done (s .pre .0 .taken) (interrupt (c .before)) (s .args .count) (s .pre .1 .1) (λ (full : s .args .count ≡ mostInterrupts). omega (arith, c .if1 .left)))
-
 returns-5 : tie.Need-returns-5
 returns-5 c =
     let s = c .before .before .before .before .before .before in
     let other = other-frame (c .before .before .found .given .0 .0) (rest s) (c .match2 .keys3) (is-formed (c .before)) in
     sym (said-line (s .pre .0 .taken) (s .pre .1 .0) other)
+
+returns-3 : tie.Need-returns-3
+returns-3 c =
+    let s = c .before .before .before .before .before .before in
+    sym (said-behind (s .pre .0) (c .before .before .found .given .0 .0) (is-formed (c .before)) (c .match2 .keys1))
+
+returns-4 : tie.Need-returns-4
+returns-4 c =
+    let s = c .before .before .before .before .before .before .before .before in
+    sym (said-done (s .pre .0 .taken) (interrupt (c .before)) (s .args .count) (s .pre .1 .1) (λ (full : s .args .count ≡ mostInterrupts). omega (arith, c .if1 .left)))
 
 pub interrupt-row-spec : {M : Type 1} → statement M
 interrupt-row-spec =

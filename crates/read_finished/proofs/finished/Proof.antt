@@ -22,7 +22,7 @@ returns c =
     c .answered .ensures ∙ rest-refused (s .pre .1 .1) (lines .interrupt-lines .ensures) (told .0 .0) (told .1)
 
 -- the lines are few
-few-lines : (c : tie.After-interrupt-lines) → (c .interrupt-lines .result .lines ≤ mostTasks + mostInterrupts + 2) × (c .before .before .args .lines ≤ mostTasks + mostInterrupts + 2)
+few-lines : (c : tie.After-interrupt-lines) → (c .interrupt-lines .result .lines ≤ mostTasks + mostInterrupts + 3) × (c .before .before .args .lines ≤ mostTasks + mostInterrupts + 3)
 few-lines c = let taken = c .before .before .pre .0 .taken in (c .interrupt-lines .ensures .lines, omega (arith, taken .lines, taken .few, taken .fewer))
 
 add-place : tie.Need-add-place

@@ -1,15 +1,11 @@
 -- `task_line` meets its contract: what a later line is, and what it then answers.
-use mathlib.Core.Logic.{⊎-elim}
 use mathlib.Core.Path.{_≡_, sym, ap, _∙_}
 use mathlib.Core.Bool.{true}
 use mathlib.Core.List.{List}
 use Prim.Native.Nat.{ℕ}
-use denote.Enum.Declared.{tagOf}
 use denote.Ref.{now}
 use lib.ListN.{drop}
 use Rattle.frameread.specs.Line.{formed, kindAt}
-use Rattle.frames.proofs.table.Frame.{the-type}
-use Rattle.frames.specs.declared.table.Frame.{Frame}
 use Rattle.frameread.specs.declared.Found.{Found}
 use Rattle.refusals.specs.declared.Outcome.{Outcome}
 use Rattle.listedline.specs.declared.TaskLine.{TaskLine}
@@ -17,7 +13,7 @@ use Rattle.taskfile.specs.File.{taskAt}
 use Rattle.listedline.specs.Answer.{taskOr}
 use Rattle.frameread.proofs.KindLaws.{kind-formed, kind-none}
 use Rattle.taskfile.proofs.Lines.{admits-none}
-use Rattle.taskfile.proofs.Standing.{tag-formed, tag-task, other-task, said-line, said-order, said-masked}
+use Rattle.taskfile.proofs.Standing.{tag-task, other-task, said-line, said-order}
 use borrow.Author.Needs.{needs}
 use Rattle.taskline.proofs.task_line.Statement.{statement}
 use Rattle.taskline.proofs.task_line.Tie as tie
@@ -45,22 +41,16 @@ listed-line-requires c κs =
     let s = c .before .before .before .before .before .before .before in
     (s .pre .0, (s .pre .1 .1 .0, tag-task (c .before .before .found .given .0 .0) (rest s) (c .match2 .keys2) (is-formed (c .before))))
 
-returns-2 : tie.Need-returns-2
-returns-2 c =
-    let s = c .before .before .before .before .before .before .before in
-    let frame : Frame = c .before .before .found .given .0 .0 in
-    sym
-    (ap (given s)
-    (⊎-elim
-    (λ (header : tagOf the-type frame ≡ 0). said-order (s .pre .0 .taken) (tag-formed frame Frame.Header (rest s) header (is-formed (c .before))))
-    (λ (masked : tagOf the-type frame ≡ 3). said-masked (s .pre .0 .taken) (tag-formed frame Frame.Masked (rest s) masked (is-formed (c .before))))
-    (c .match2 .keys1)))
-
 returns-4 : tie.Need-returns-4
 returns-4 c =
     let s = c .before .before .before .before .before .before .before in
     let other = other-task (c .before .before .found .given .0 .0) (rest s) (c .match2 .keys3) (is-formed (c .before)) (s .pre .1 .1 .1) in
     sym (ap (given s) (said-line (s .pre .0 .taken) (s .pre .1 .0) other))
+
+returns-2 : tie.Need-returns-2
+returns-2 c =
+    let s = c .before .before .before .before .before .before .before in
+    sym (ap (given s) (said-order (s .pre .0 .taken) (c .before .before .found .given .0 .0) (is-formed (c .before)) (c .match2 .keys1)))
 
 pub task-line-spec : {M : Type 1} → statement M
 task-line-spec =
