@@ -1,0 +1,3 @@
+pub mod Rules
+pub mod Turns
+pub mod Claims

@@ -1,0 +1,2 @@
+pub mod ServerLaws
+pub mod HorizonLaws

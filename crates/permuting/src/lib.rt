@@ -1,0 +1,2 @@
+// The order of a server's members changes nothing of what the server asks.
+// Laws alone.

@@ -1,0 +1,3 @@
+pub mod RuleLaws
+pub mod TurnLaws
+pub mod CallerLaws
