@@ -8,21 +8,21 @@ use mathlib.Core.Logic.{_⊎_, inl, inr, ⊎-elim}
 use mathlib.Core.Bool.{Bool, true}
 use Rattle.search.specs.Search.{firstAfter, orElse, NoneIn, Next}
 use Rattle.search.proofs.Bounded.{after-none, after-zero, after-found, after-is}
-use Rattle.joining.specs.Join.{Rule, firstFit, join, Picks}
+use Rattle.joining.specs.Join.{FitRule, firstFit, join, Picks}
 
 -- the first number stands where it is not 0
 or-else-some : (a b : ℕ) → 1 ≤ a → orElse a b ≡ a
 or-else-some zero b h = absurd (omega arith)
 or-else-some (suc a) b h = refl
 
-module _ (rule : Rule) (candidate : ℕ → Bool) (lo hi : ℕ) where
+module _ (rule : FitRule) (candidate : ℕ → Bool) (lo hi : ℕ) where
   -- what the rule picks
-  join-picked : {q : ℕ} → rule candidate lo hi ≡ q → 1 ≤ q → join rule candidate lo hi ≡ q
+  pub join-picked : {q : ℕ} → rule candidate lo hi ≡ q → 1 ≤ q → join rule candidate lo hi ≡ q
   unfolding join
   join-picked {q} e h = ap (λ (t : ℕ). orElse t (suc hi)) e ∙ or-else-some q (suc hi) h
 
   -- nothing: a new server
-  join-nothing : rule candidate lo hi ≡ 0 → join rule candidate lo hi ≡ suc hi
+  pub join-nothing : rule candidate lo hi ≡ 0 → join rule candidate lo hi ≡ suc hi
   unfolding join
   join-nothing e = ap (λ (t : ℕ). orElse t (suc hi)) e
 

@@ -8,6 +8,7 @@ use Rattle.tasks.specs.Set.{mostTasks}
 use Rattle.places.specs.Places.{chosen}
 use Rattle.loads.specs.Figures.{Figures}
 use Rattle.loads.specs.Charge.{cacheOf}
+use Rattle.shares.specs.declared.Share.{Share}
 use Rattle.shares.specs.Totals.{workIn, jobsIn}
 use Rattle.shares.specs.Soonest.{soonestIn}
 
@@ -22,3 +23,7 @@ pub record Kept (h : Header) (H : ℕ) (done : List Figures) (placement work job
   pub often : Row (jobsIn H) done placement jobs
   pub costs : Row cacheOf done placement cache
   pub first : Row (soonestIn h) done placement soonest
+
+-- place k of the rows: what is kept of server k + 1
+abbrev pub keptAt : (work jobs cache soonest : List ℕ) → (k : ℕ) → Share
+keptAt work jobs cache soonest k = record { work = getD work k 0; jobs = getD jobs k 0; cache = getD cache k 0; due = getD soonest k 0 }

@@ -1,3 +1,4 @@
 pub mod Join
+pub mod Fits
 pub mod Kept
 pub mod Soonest

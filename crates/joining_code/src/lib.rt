@@ -1,11 +1,9 @@
 // One step of placing by first fit: the server for a task.
-// What it means stands in joining/specs/Join.antt, joining/specs/Kept.antt and joining/specs/Soonest.antt. The server of each task stands in a slice, of which
-// the first i are placed.
+// What it means stands in joining/specs/Join.antt and joining/specs/Kept.antt. The server of each task stands in a slice, of which the first i
+// are placed.
+use candidate::kept_at;
+use candidate::may_take;
 use shares::Share;
-use shares_code::larger;
-use shares_code::total;
-use soonest::masked_out;
-use taking_code::takes_task;
 use tasks::set::Header;
 ghost use mathlib.Core.Path.{_≡_};
 ghost use Prim.Native.Nat.{_+_, _≤_};
@@ -18,9 +16,7 @@ ghost use Rattle.taking.specs.Takes.{takes};
 ghost use Rattle.joining.specs.Join.{firstFit, join};
 ghost use Rattle.joining.specs.Kept.{Kept};
 
-// One step of placing: the lowest-numbered server above lo that takes task i, otherwise a new one. A server that would ask more than the
-// horizon with the task in it, or that B alone keeps the task out of, cannot take it, and its members are not looked at. B is asked first,
-// so that the compiler makes one branch of both.
+// One step of placing: the lowest-numbered server above lo that takes task i, otherwise a new one.
 pub fn server_for(
     header: Header,
     figures: &[u64],
@@ -43,20 +39,23 @@ pub fn server_for(
     requires { ⌜ Kept header horizon (figuresTo (now figures) i) (take i (now placement)) (now work) (now jobs) (now cache) (now soonest) ⌝ }
     ensures { λ r. ⌜ r ≡ join firstFit (takes (boardOf header (now (interrupts .entry))) (figuresTo (now (figures .entry)) i) (take i (now (placement .entry))) (figuresAt (now (figures .entry)) i)) lo count ⌝ }
 {
-    let masked = header.masked_ticks() as u64;
     let mut q = lo;
     while q < count {
         let at = q as usize;
         q += 1;
-        let apart = masked_out(share.due, soonest[at], masked);
-        let cost = larger(cache[at], share.cache);
-        let asked = total(work[at] + share.work, jobs[at] + share.jobs, cost);
-        if asked <= horizon {
-            if !apart {
-                if takes_task(header, cost, figures, placement, i, q, interrupts, horizon) {
-                    return q;
-                }
-            }
+        let own = kept_at(work, jobs, cache, soonest, at);
+        if may_take(
+            header,
+            figures,
+            placement,
+            i,
+            q,
+            own,
+            share,
+            interrupts,
+            horizon,
+        ) {
+            return q;
         }
     }
     count + 1

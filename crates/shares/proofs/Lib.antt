@@ -1,1 +1,2 @@
 pub mod TotalLaws
+pub mod ScaledLaws

@@ -1,0 +1,81 @@
+// One step of placing: the server for a task, by the fit.
+// What it means stands in joining/specs/Join.antt, joining/specs/Fits.antt and joining/specs/Kept.antt. The server of each task stands in a
+// slice, of which the first i are placed.
+use joining_code::server_for;
+use packing::Fit;
+use server_by_room::server_by_room;
+use shares::Share;
+use tasks::set::Header;
+ghost use mathlib.Core.Path.{_≡_};
+ghost use Prim.Native.Nat.{_+_, _-_, _≤_};
+ghost use lib.ListN.{length, take};
+ghost use Rattle.tasks.specs.Set.{mostTasks};
+ghost use Rattle.places.specs.Places.{chosen};
+ghost use Rattle.loads.specs.Figures.{figuresAt, figuresTo};
+ghost use Rattle.members.specs.Server.{boardOf, Filed, Bounded};
+ghost use Rattle.shares.specs.Share.{shareOf};
+ghost use Rattle.shares.specs.Totals.{totalIn};
+ghost use Rattle.taking.specs.Takes.{takes};
+ghost use Rattle.joining.specs.Join.{join};
+ghost use Rattle.joining.specs.Fits.{fitBy};
+ghost use Rattle.joining.specs.Kept.{Kept};
+
+// One step of placing: the server above lo that the fit names of those that take task i, by their room before it joins, otherwise a new
+// one.
+pub fn server_by(
+    fit: Fit,
+    header: Header,
+    figures: &[u64],
+    placement: &[u64],
+    work: &[u64],
+    jobs: &[u64],
+    cache: &[u64],
+    soonest: &[u64],
+    i: usize,
+    share: Share,
+    lo: u64,
+    count: u64,
+    interrupts: &[u64],
+    horizon: u64,
+) -> u64
+    requires { ⌜ Filed header (now figures) (i + 1) horizon ⌝ }
+    requires { ⌜ Bounded header (now interrupts) horizon ⌝ }
+    requires { ⌜ (i ≤ length (now placement)) × (count ≤ mostTasks) ⌝ }
+    requires { ⌜ share ≡ shareOf header horizon (figuresAt (now figures) i) ⌝ }
+    requires { ⌜ Kept header horizon (figuresTo (now figures) i) (take i (now placement)) (now work) (now jobs) (now cache) (now soonest) ⌝ }
+    ensures { λ r. ⌜ r ≡ join (fitBy fit (λ q. horizon - totalIn header horizon (chosen (figuresTo (now (figures .entry)) i) (take i (now (placement .entry))) q))) (takes (boardOf header (now (interrupts .entry))) (figuresTo (now (figures .entry)) i) (take i (now (placement .entry))) (figuresAt (now (figures .entry)) i)) lo count ⌝ }
+{
+    match fit {
+        Fit::First => server_for(
+            header,
+            figures,
+            placement,
+            work,
+            jobs,
+            cache,
+            soonest,
+            i,
+            share,
+            lo,
+            count,
+            interrupts,
+            horizon,
+        ),
+        _ => server_by_room(
+            fit,
+            header,
+            figures,
+            placement,
+            work,
+            jobs,
+            cache,
+            soonest,
+            i,
+            share,
+            lo,
+            count,
+            interrupts,
+            horizon,
+        ),
+    }
+}
