@@ -1,16 +1,17 @@
 -- Placing grows by one task at a time, and what is placed stays, whatever the step: the laws that the loop over tasks goes by.
-use Prim.Native.Nat.{ℕ, suc, _+_, _≤_, max}
+use Prim.Native.Nat.{ℕ, _+_, max}
 use native.Mathlib.Omega.{arith}
 use mathlib.Core.Path.{_≡_, sym, ap, subst, _∙_}
-use mathlib.Core.Logic.{_⊎_}
 use mathlib.Core.List.{List, [], _∷_, _++_, append-assoc, append-nil}
 use lib.ListN.{length, length-append}
 use Rattle.loads.specs.Figures.{Figures}
-use Rattle.search.specs.Search.{NoneIn, Next}
-use Rattle.members.specs.Server.{Board}
-use Rattle.taking.specs.Takes.{takes}
-use Rattle.joining.proofs.JoinLaws.{join-first-view}
-use Rattle.servers.specs.Placement.{serversIn, Step, placeBy, fit, placementOf}
+use Rattle.demand.proofs.Demand.{each-length}
+use Rattle.packing.specs.declared.Fit.{Fit}
+use Rattle.packing.specs.Turns.{inFileOrder}
+use Rattle.packing.proofs.TurnsLaws.{turns-length}
+use Rattle.tasks.specs.Set.{ruleNumber}
+use Rattle.members.specs.Server.{Board, serverHorizon}
+use Rattle.servers.specs.Placement.{serversIn, Step, placeBy, joinBy, placedBy, placementBy, placementOf}
 
 -- one task more: its server is among those that there are, or is the highest
 pub servers-more : (placement : List ℕ) (a : ℕ) → serversIn (placement ++ (a ∷ [])) ≡ max (serversIn placement) a
@@ -89,20 +90,25 @@ module _ (step : Step) where
                 append-assoc (placed before) (w .0) (q ∷ []),
           )
 
+-- ---- by a fit
+
+module _ (fit : Fit) (b : Board) (H : ℕ) where
+  pub by-fit-length : (tasks : List Figures) → length (placedBy fit b H tasks) ≡ length tasks
+  unfolding placedBy
+  by-fit-length tasks = placed-length (joinBy fit b H) tasks
+
+  pub by-fit-more : (tasks : List Figures) (l : Figures) →
+      placedBy fit b H (tasks ++ (l ∷ [])) ≡ placedBy fit b H tasks ++ (joinBy fit b H tasks (placedBy fit b H tasks) l ∷ [])
+  unfolding placedBy
+  by-fit-more tasks l = placed-more (joinBy fit b H) tasks l
+
 -- ---- the planner's placement
 
-pub placement-length : (b : Board) (figures : List Figures) → length (placementOf b figures) ≡ length figures
-unfolding placementOf
-placement-length b figures = placed-length (fit b) figures
+module _ (b : Board) where
+  pub placement-by-length : (rule H : ℕ) (figures : List Figures) → length (placementBy rule b H figures) ≡ length figures
+  unfolding placementBy inFileOrder
+  placement-by-length rule H figures = each-length _ _ ∙ turns-length _ figures
 
-pub placement-more : (b : Board) (figures : List Figures) (l : Figures) →
-    placementOf b (figures ++ (l ∷ [])) ≡ placementOf b figures ++ (fit b figures (placementOf b figures) l ∷ [])
-unfolding placementOf
-placement-more b figures l = placed-more (fit b) figures l
-
--- the planner's step: the lowest-numbered server that takes the task, or a new one where none does
-pub fit-view : (b : Board) (done : List Figures) (placement : List ℕ) (l : Figures) →
-    ((fit b done placement l ≡ suc (serversIn placement)) × NoneIn (takes b done placement l) 0 (serversIn placement))
-    ⊎ ((fit b done placement l ≤ serversIn placement) × Next (takes b done placement l) 0 (fit b done placement l))
-unfolding fit
-fit-view b done placement l = join-first-view (takes b done placement l) 0 (serversIn placement)
+  pub placement-length : (figures : List Figures) → length (placementOf b figures) ≡ length figures
+  unfolding placementOf
+  placement-length figures = placement-by-length (ruleNumber (b .header)) (serverHorizon b figures) figures

@@ -2,7 +2,7 @@
 -- kept of them. What is known of it, and the same with one task more.
 use Prim.Native.Nat.{ℕ, _+_, _-_, _≤_, _<_, max}
 use native.Mathlib.Omega.{arith}
-use mathlib.Core.Path.{_≡_, refl, sym, ap, subst, _∙_}
+use mathlib.Core.Path.{_≡_, refl, sym, ap, ap₂, subst, _∙_}
 use mathlib.Core.List.{List, [], _∷_, _++_}
 use lib.ListN.{length, getD, set, take, replicate, length-append}
 use Rattle.demand.specs.Load.{Every}
@@ -13,6 +13,11 @@ use Rattle.places.specs.Padded.{padded, upTo}
 use Rattle.places.specs.Places.{chosen}
 use Rattle.places.proofs.PaddedLaws.{padded-length, padded-take, padded-more, up-length}
 use Rattle.loads.specs.Figures.{Figures}
+use Rattle.packing.specs.declared.Fit.{Fit}
+use Rattle.packing.specs.declared.Order.{Order}
+use Rattle.packing.specs.Turns.{turnsOf, inTurn, inFileOrder}
+use Rattle.packing.proofs.PermutedLaws.{permuted-back}
+use Rattle.packing.proofs.TurnedLaws.{chosen-turned}
 use Rattle.loads.specs.Charge.{cacheOf, serverLoads, Member}
 use Rattle.loads.proofs.ChargeLaws.{cache-more}
 use Rattle.members.specs.Server.{Board, totalOf}
@@ -23,24 +28,27 @@ use Rattle.shares.specs.Totals.{workIn, jobsIn}
 use Rattle.shares.specs.Soonest.{soonestIn}
 use Rattle.shares.proofs.TotalLaws.{work-more, jobs-more}
 use Rattle.taking.specs.Takes.{takes}
-use Rattle.joining.specs.Join.{firstFit, join}
+use Rattle.joining.specs.Join.{join}
+use Rattle.joining.specs.Fits.{fitBy}
 use Rattle.joining.specs.Kept.{Kept}
 use Rattle.joining.specs.Soonest.{soonestWith}
 use Rattle.joining.proofs.SoonestLaws.{soonest-more}
-use Rattle.servers.specs.Placement.{serversIn, fit, placeBy, placementOf, cacheIn, cachesOf, placed}
+use Rattle.servers.specs.Placement.{serversIn, placeBy, roomIn, joinBy, placedBy, placementOf, cacheIn, cachesOf, placed}
 use Rattle.servers.specs.Claims.{TakesOrNew}
 use Rattle.servers.specs.declared.placement.Placed.{Placed}
-use Rattle.servers.proofs.PlacementLaws.{servers-more, placement-length, placement-more}
+use Rattle.servers.proofs.PlacementLaws.{servers-more, by-fit-length, by-fit-more, placement-length}
 use Rattle.servers.proofs.FittingLaws.{in-none, in-range}
+use Rattle.permuting.proofs.ServerLaws.{cache-permuted}
+use Rattle.servers.proofs.TurnedLaws.{servers-turned}
 use Rattle.servers.proofs.KeptLaws.{kept-none, kept-at, kept-next, row-padded}
-use Rattle.servers.proofs.Claims.{fit-takes-or-opens, servers-few}
+use Rattle.servers.proofs.Claims.{fit-takes-or-opens, by-fit-few, servers-few}
 
-pub record SoFar (b : Board) (H : ℕ) (figures : List Figures) (i : ℕ) (placement work jobs cache soonest : List ℕ) (count : ℕ) : Type 0 where
+pub record SoFar (fit : Fit) (b : Board) (H : ℕ) (figures : List Figures) (i : ℕ) (placement work jobs cache soonest : List ℕ) (count : ℕ) : Type 0 where
   pub tasks : length figures ≡ i
   pub few : i ≤ mostTasks
-  pub placement-is : placement ≡ padded (placementOf b figures)
-  pub count-is : count ≡ serversIn (placementOf b figures)
-  pub kept : Kept (b .header) H figures (placementOf b figures) work jobs cache soonest
+  pub placement-is : placement ≡ padded (placedBy fit b H figures)
+  pub count-is : count ≡ serversIn (placedBy fit b H figures)
+  pub kept : Kept (b .header) H figures (placedBy fit b H figures) work jobs cache soonest
 
 -- no task yet
 abbrev zeros : List ℕ
@@ -56,9 +64,9 @@ kept-zeros h H =
       first = kept-none (soonestIn h) refl;
     }
 
-pub so-far-none : (b : Board) (H : ℕ) → SoFar b H [] 0 (replicate mostTasks 0) (replicate mostTasks 0) (replicate mostTasks 0) (replicate mostTasks 0) (replicate mostTasks 0) 0
-unfolding placementOf placeBy serversIn
-so-far-none b H =
+pub so-far-none : (fit : Fit) (b : Board) (H : ℕ) → SoFar fit b H [] 0 (replicate mostTasks 0) (replicate mostTasks 0) (replicate mostTasks 0) (replicate mostTasks 0) (replicate mostTasks 0) 0
+unfolding placedBy placeBy serversIn
+so-far-none fit b H =
     record {
       tasks = refl;
       few = omega arith;
@@ -95,84 +103,110 @@ module _ {h : Header} {H : ℕ} {done : List Figures} {placement work jobs cache
             sym (soonest-more h own f (every-chosen (Member h) done placement q members)));
       }
 
-module _ {b : Board} {H : ℕ} {figures : List Figures} {i : ℕ} {placement work jobs cache soonest : List ℕ} {count : ℕ}
-    (w : SoFar b H figures i placement work jobs cache soonest count) where
+module _ {fit : Fit} {b : Board} {H : ℕ} {figures : List Figures} {i : ℕ} {placement work jobs cache soonest : List ℕ} {count : ℕ}
+    (w : SoFar fit b H figures i placement work jobs cache soonest count) where
   -- one server for each task
-  as-long : length (placementOf b figures) ≡ i
-  as-long = placement-length b figures ∙ w .tasks
+  as-long : length (placedBy fit b H figures) ≡ i
+  as-long = by-fit-length fit b H figures ∙ w .tasks
 
   -- every place is there
   pub so-far-room : length placement ≡ mostTasks
-  so-far-room = ap length (w .placement-is) ∙ padded-length (placementOf b figures) (omega (arith, as-long, w .few))
+  so-far-room = ap length (w .placement-is) ∙ padded-length (placedBy fit b H figures) (omega (arith, as-long, w .few))
 
   -- the placed tasks stand at its front
-  pub so-far-front : take i placement ≡ placementOf b figures
-  so-far-front = ap (take i) (w .placement-is) ∙ padded-take (placementOf b figures) i as-long
+  pub so-far-front : take i placement ≡ placedBy fit b H figures
+  so-far-front = ap (take i) (w .placement-is) ∙ padded-take (placedBy fit b H figures) i as-long
 
   -- the servers are counted, and few
   pub so-far-count : count ≡ serversIn (take i placement)
   so-far-count = w .count-is ∙ ap serversIn (sym so-far-front)
 
   pub so-far-few : count ≤ i
-  so-far-few = omega (arith, w .count-is, w .tasks, servers-few b figures)
+  so-far-few = omega (arith, w .count-is, w .tasks, by-fit-few fit b H figures)
 
   -- what is kept is of the tasks at the front
   pub so-far-kept : Kept (b .header) H figures (take i placement) work jobs cache soonest
   so-far-kept = subst (λ (p : List ℕ). Kept (b .header) H figures p work jobs cache soonest) (sym so-far-front) (w .kept)
 
-  -- the server that first fit answers for the next task is that of the planner's step
-  pub so-far-fit : (f : Figures) (q : ℕ) → q ≡ join firstFit (takes b figures (take i placement) f) 0 count → q ≡ fit b figures (take i placement) f
-  unfolding fit
-  so-far-fit f q e = e ∙ ap (join firstFit (takes b figures (take i placement) f) 0) so-far-count
+  -- the server that the fit names for the next task is that of the step
+  pub so-far-fit : (f : Figures) (q : ℕ) → q ≡ join (fitBy fit (roomIn b H figures (take i placement))) (takes b figures (take i placement) f) 0 count → q ≡ joinBy fit b H figures (take i placement) f
+  unfolding joinBy
+  so-far-fit f q e = e ∙ ap (join (fitBy fit (roomIn b H figures (take i placement))) (takes b figures (take i placement) f) 0) so-far-count
 
   -- it is one that takes the task, or new
-  pub so-far-takes : (f : Figures) (q : ℕ) → q ≡ fit b figures (take i placement) f → TakesOrNew b figures (take i placement) f q
-  so-far-takes f q e = subst (TakesOrNew b figures (take i placement) f) (sym e) (fit-takes-or-opens b figures (take i placement) f)
+  pub so-far-takes : (f : Figures) (q : ℕ) → q ≡ joinBy fit b H figures (take i placement) f → TakesOrNew b figures (take i placement) f q
+  so-far-takes f q e = subst (TakesOrNew b figures (take i placement) f) (sym e) (fit-takes-or-opens fit b H figures (take i placement) f)
 
   -- and at most one more than there are
-  pub so-far-range : (f : Figures) (q : ℕ) → q ≡ fit b figures (take i placement) f → (1 ≤ q) × (q ≤ i + 1)
+  pub so-far-range : (f : Figures) (q : ℕ) → q ≡ joinBy fit b H figures (take i placement) f → (1 ≤ q) × (q ≤ i + 1)
   so-far-range f q e =
       let r = in-range b figures (take i placement) f q (so-far-takes f q e) in
       (r .0, omega (arith, r .1, so-far-count, so-far-few))
 
   -- one task more, in the server that the step answers
-  pub so-far-next : (f : Figures) (q at more : ℕ) {share : Share} {v j c s : ℕ} → i < mostTasks → Every (Member (b .header)) figures → q ≡ fit b figures (take i placement) f →
+  pub so-far-next : (f : Figures) (q at more : ℕ) {share : Share} {v j c s : ℕ} → i < mostTasks → Every (Member (b .header)) figures → q ≡ joinBy fit b H figures (take i placement) f →
       at ≡ q - 1 → more ≡ max count q → share ≡ shareOf (b .header) H f → v ≡ getD work at 0 + share .work → j ≡ getD jobs at 0 + share .jobs →
       c ≡ max (getD cache at 0) (share .cache) → s ≡ soonestWith (getD soonest at 0) (share .due) →
-      SoFar b H (figures ++ (f ∷ [])) (i + 1) (set placement i q) (set work at v) (set jobs at j) (set cache at c) (set soonest at s) more
+      SoFar fit b H (figures ++ (f ∷ [])) (i + 1) (set placement i q) (set work at v) (set jobs at j) (set cache at c) (set soonest at s) more
   so-far-next f q at more {v = v} {j = j} {c = c} {s = s} room members picked here m brings is-work is-jobs is-cost is-due =
       record {
         tasks = length-append figures (f ∷ []) ∙ ap (λ (k : ℕ). k + 1) (w .tasks);
         few = omega arith;
         placement-is =
             ap (λ (ns : List ℕ). set ns i q) (w .placement-is) ∙
-            ap (λ (k : ℕ). set (padded (placementOf b figures)) k q) (sym as-long) ∙
-            padded-more (placementOf b figures) q (omega (arith, as-long)) ∙
+            ap (λ (k : ℕ). set (padded (placedBy fit b H figures)) k q) (sym as-long) ∙
+            padded-more (placedBy fit b H figures) q (omega (arith, as-long)) ∙
             ap padded (sym next);
-        count-is = omega (arith, m, w .count-is, servers-more (placementOf b figures) q, ap serversIn next);
+        count-is = omega (arith, m, w .count-is, servers-more (placedBy fit b H figures) q, ap serversIn next);
         kept =
             subst (λ (p : List ℕ). Kept (b .header) H (figures ++ (f ∷ [])) p (set work at v) (set jobs at j) (set cache at c) (set soonest at s)) (sym next)
-            (kept-joined (w .kept) (so-far-range f q picked .0) (omega (arith, so-far-range f q picked .1)) here f (placement-length b figures) members brings
+            (kept-joined (w .kept) (so-far-range f q picked .0) (omega (arith, so-far-range f q picked .1)) here f (by-fit-length fit b H figures) members brings
             is-work is-jobs is-cost is-due);
       }
     where
-      q-is : q ≡ fit b figures (placementOf b figures) f
-      q-is = picked ∙ ap (λ (p : List ℕ). fit b figures p f) so-far-front
+      q-is : q ≡ joinBy fit b H figures (placedBy fit b H figures) f
+      q-is = picked ∙ ap (λ (p : List ℕ). joinBy fit b H figures p f) so-far-front
 
-      next : placementOf b (figures ++ (f ∷ [])) ≡ placementOf b figures ++ (q ∷ [])
-      next = placement-more b figures f ∙ ap (λ (x : ℕ). placementOf b figures ++ (x ∷ [])) (sym q-is)
+      next : placedBy fit b H (figures ++ (f ∷ [])) ≡ placedBy fit b H figures ++ (q ∷ [])
+      next = by-fit-more fit b H figures f ∙ ap (λ (x : ℕ). placedBy fit b H figures ++ (x ∷ [])) (sym q-is)
 
   -- the struct of such a placement
-  pub so-far-placed : record { count = count; placement = placement; cache = cache } ≡ placed figures (placementOf b figures)
+  pub so-far-placed : record { count = count; placement = placement; cache = cache } ≡ placed figures (placedBy fit b H figures)
   unfolding placed cachesOf cacheOf
   so-far-placed = rw (w .count-is, w .placement-is, costs)
     where
-      costs : cache ≡ padded (upTo (cacheIn figures (placementOf b figures)) (serversIn (placementOf b figures)))
+      costs : cache ≡ padded (upTo (cacheIn figures (placedBy fit b H figures)) (serversIn (placedBy fit b H figures)))
       costs =
-          row-padded (w .kept .costs) (serversIn (placementOf b figures)) (omega (arith, w .tasks, w .few, servers-few b figures))
-          (λ q past. ap cacheOf (in-none figures (placementOf b figures) q past))
+          row-padded (w .kept .costs) (serversIn (placedBy fit b H figures)) (omega (arith, w .tasks, w .few, by-fit-few fit b H figures))
+          (λ q past. ap cacheOf (in-none figures (placedBy fit b H figures) q past))
 
 -- and back: what the struct of a placement holds
+pub record Holds (figures : List Figures) (own : List ℕ) (n : ℕ) (placement cache : List ℕ) (count : ℕ) : Type 0 where
+  pub placement-is : placement ≡ padded own
+  pub cache-is : cache ≡ padded (cachesOf figures own)
+  pub count-is : count ≡ serversIn own
+  pub room : length placement ≡ mostTasks
+  pub cache-room : length cache ≡ mostTasks
+  pub front : take n placement ≡ own
+  pub few : count ≤ mostTasks
+
+pub holds : (figures : List Figures) (own : List ℕ) (n : ℕ) (p : Placed) → length own ≡ n → serversIn own ≤ n → n ≤ mostTasks → p ≡ placed figures own →
+    Holds figures own n (p .placement) (p .cache) (p .count)
+unfolding placed cachesOf
+holds figures own n p long few small e =
+    let is : p .placement ≡ padded own = ap (λ (k : Placed). k .placement) e in
+    let count : p .count ≡ serversIn own = ap (λ (k : Placed). k .count) e in
+    record {
+      placement-is = is;
+      cache-is = ap (λ (k : Placed). k .cache) e;
+      count-is = count;
+      room = ap length is ∙ padded-length own (omega (arith, long));
+      cache-room = ap length (ap (λ (k : Placed). k .cache) e) ∙ padded-length (cachesOf figures own) (omega (arith, up-length (cacheIn figures own) (serversIn own)));
+      front = ap (take n) is ∙ padded-take own n long;
+      few = omega (arith, count);
+    }
+
+-- that of the planner's placement
 pub record Held (b : Board) (figures : List Figures) (n : ℕ) (placement cache : List ℕ) (count : ℕ) : Type 0 where
   pub placement-is : placement ≡ padded (placementOf b figures)
   pub cache-is : cache ≡ padded (cachesOf figures (placementOf b figures))
@@ -184,17 +218,34 @@ pub record Held (b : Board) (figures : List Figures) (n : ℕ) (placement cache 
 
 pub held : (b : Board) (figures : List Figures) (n : ℕ) (p : Placed) → length figures ≡ n → n ≤ mostTasks → p ≡ placed figures (placementOf b figures) →
     Held b figures n (p .placement) (p .cache) (p .count)
-unfolding placed cachesOf
 held b figures n p long small e =
-    let is : p .placement ≡ padded (placementOf b figures) = ap (λ (k : Placed). k .placement) e in
-    let count : p .count ≡ serversIn (placementOf b figures) = ap (λ (k : Placed). k .count) e in
-    let as-long : length (placementOf b figures) ≡ n = placement-length b figures ∙ long in
+    let w = holds figures (placementOf b figures) n p (placement-length b figures ∙ long) (omega (arith, servers-few b figures)) small e in
     record {
-      placement-is = is;
-      cache-is = ap (λ (k : Placed). k .cache) e;
-      count-is = count;
-      room = ap length is ∙ padded-length (placementOf b figures) (omega (arith, as-long));
-      cache-room = ap length (ap (λ (k : Placed). k .cache) e) ∙ padded-length (cachesOf figures (placementOf b figures)) (omega (arith, up-length (cacheIn figures (placementOf b figures)) (serversIn (placementOf b figures)), servers-few b figures));
-      front = ap (take n) is ∙ padded-take (placementOf b figures) n as-long;
-      few = omega (arith, count, servers-few b figures);
+      placement-is = w .placement-is;
+      cache-is = w .cache-is;
+      count-is = w .count-is;
+      room = w .room;
+      cache-room = w .cache-room;
+      front = w .front;
+      few = w .few;
     }
+
+-- ---- a placement of the tasks in turn, put into file order
+
+module _ (order : Order) (figures : List Figures) (p : List ℕ) (even : length p ≡ length figures) where
+  -- the servers' cache costs are the same
+  pub caches-turned : cachesOf figures (inFileOrder (turnsOf order figures) p) ≡ cachesOf (inTurn (turnsOf order figures) figures) p
+  unfolding cachesOf
+  caches-turned =
+      ap₂ (upTo {A = ℕ}) (λ i q. cache-permuted (permuted-back (chosen-turned order figures p even q)) i) (servers-turned order figures p even)
+
+  -- and so the struct
+  pub placed-turned :
+      record {
+        count = serversIn p;
+        placement = padded (inFileOrder (turnsOf order figures) p);
+        cache = padded (cachesOf (inTurn (turnsOf order figures) figures) p);
+      } ≡
+      placed figures (inFileOrder (turnsOf order figures) p)
+  unfolding placed
+  placed-turned = rw (caches-turned, servers-turned order figures p even)

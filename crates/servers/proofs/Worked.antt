@@ -16,12 +16,17 @@ use Rattle.tasks.specs.declared.set.Optional.the-variants.{Absent}
 use Rattle.places.specs.Places.{chosen}
 use Rattle.loads.specs.Charge.{cacheOf, chargedIn, serverLoads, serverLoss}
 use Rattle.members.specs.Server.{uninterrupted, passesWith, fits}
-use Rattle.servers.specs.Placement.{serversIn, placeBy, fit, placementOf}
+use Rattle.servers.specs.Placement.{serversIn, placeBy, joinBy, placedBy, placementBy, placementOf}
+use Rattle.packing.specs.Rules.{orderOf, fitOf}
+use Rattle.packing.specs.Turns.{insert, sorted, turnsOf, serverAt, inFileOrder}
+use Rattle.demand.specs.Load.{each}
+use Rattle.members.specs.Server.{totalOf}
 use Rattle.joining.specs.Join.{join}
+use Rattle.joining.specs.Fits.{preferred, bestUpTo, fitBy}
 use Rattle.taking.specs.Takes.{takes}
 
 abbrev twoProcessors : Header
-twoProcessors = record { processors = 2; slot = 10; relj = 0; relo = 0; ctswo = 0; resd = 0; cpmdo = 0; masked = Absent }
+twoProcessors = record { processors = 2; slot = 10; relj = 0; relo = 0; ctswo = 0; resd = 0; cpmdo = 0; masked = Absent; rule = Absent }
 
 -- a task that server 1 cannot take goes to 2, and a later one that it can take goes back to 1
 pub goes-back :
@@ -29,5 +34,5 @@ pub goes-back :
     (uninterrupted twoProcessors)
     (record { cost = 6; deadline = 10; period = 10; cache = 0 } ∷ record { cost = 6; deadline = 10; period = 10; cache = 0 } ∷ record { cost = 4; deadline = 10; period = 10; cache = 0 } ∷ [])
     ≡ 1 ∷ 2 ∷ 1 ∷ []
-unfolding placementOf placeBy fit join takes serversIn chosen fits passesWith serverLoads serverLoss cacheOf chargedIn effectiveDeadline effectiveCost entryLoss passing verdictOf verdictAt firstFailing firstUpTo firstAfter failing ownHorizon leastMultipleOf leastMultiple commonMeasure measureIn maskedDemand gaining gainOf gainAt soonest soonestOf latest greatest interruptDemand boundTo demand jobs supply supplyPast
+unfolding placementOf placementBy orderOf fitOf turnsOf sorted insert inFileOrder serverAt each placedBy placeBy joinBy fitBy bestUpTo preferred totalOf join takes serversIn chosen fits passesWith serverLoads serverLoss cacheOf chargedIn effectiveDeadline effectiveCost entryLoss passing verdictOf verdictAt firstFailing firstUpTo firstAfter failing ownHorizon leastMultipleOf leastMultiple commonMeasure measureIn maskedDemand gaining gainOf gainAt soonest soonestOf latest greatest interruptDemand boundTo demand jobs supply supplyPast
 goes-back = refl

@@ -1,5 +1,5 @@
--- A placement that fits: each task has one server, no server is empty, and every server passes. The planner makes one by first fit;
--- an edit or a mended plan has one without being that. Document 01, "From tasks to servers to ring", rule 1 (RULES 3.1).
+-- A placement that fits: each task has one server, no server is empty, and every server passes. The planner makes one by the rule of
+-- the file; an edit or a mended plan has one without being that. Document 01, "From tasks to servers to ring", rule 1 (RULES 3.1).
 use Prim.Native.Nat.{ℕ, _≤_, _<_}
 use mathlib.Core.Path.{_≡_}
 use mathlib.Core.List.{List}

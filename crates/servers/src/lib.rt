@@ -1,3 +1,3 @@
-// Placing: from tasks to servers, by first fit in file order.
-// Types, definitions and laws; the code stands in servers_code.
+// Placing: from tasks to servers, by the packing rule of the file.
+// Types, definitions and laws; the code stands in placed_in, placed_in_turn and servers_code.
 pub mod placement; // placement.rt: the servers of all tasks

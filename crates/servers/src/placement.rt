@@ -1,4 +1,4 @@
-// Placing by first fit in file order: the servers of all tasks.
+// Placing by the packing rule of the file: the servers of all tasks.
 // What they mean stands in specs/Placement.antt.
 use tasks::set::TaskSet;
 

@@ -1,60 +1,36 @@
-// Placing by first fit in file order: the servers of all tasks.
+// Placing by the packing rule of the file: the servers of all tasks.
 // What they mean stands in servers/specs/Placement.antt.
-use joining_code::server_for;
+use packing::Order;
+use placed_in::placed_in;
+use placed_in_turn::placed_in_turn;
 use servers::placement::Placed;
-use share_of::share_of;
-use shares_code::larger;
-use soonest::soonest_with;
 use tasks::set::Header;
-use tasks::set::TaskSet;
+use turns_code::fit_of;
+use turns_code::order_of;
 ghost use mathlib.Core.Path.{_≡_};
 ghost use Rattle.loads.specs.Figures.{figuresTo};
 ghost use Rattle.members.specs.Server.{boardOf, Filed, Bounded};
 ghost use Rattle.servers.specs.Placement.{placementOf, placed};
 
+// By the rule of the header. In file order the tasks are placed as they stand.
 pub fn place(header: Header, figures: &[u64], n: usize, interrupts: &[u64], horizon: u64) -> Placed
     requires { ⌜ Filed header (now figures) n horizon ⌝ }
     requires { ⌜ Bounded header (now interrupts) horizon ⌝ }
     ensures { λ r. ⌜ r ≡ placed (figuresTo (now (figures .entry)) n) (placementOf (boardOf header (now (interrupts .entry))) (figuresTo (now (figures .entry)) n)) ⌝ }
 {
-    let mut count: u64 = 0;
-    let mut placement = [0u64; TaskSet::MOST_TASKS];
-    let mut work = [0u64; TaskSet::MOST_TASKS];
-    let mut jobs = [0u64; TaskSet::MOST_TASKS];
-    let mut cache = [0u64; TaskSet::MOST_TASKS];
-    let mut soonest = [0u64; TaskSet::MOST_TASKS];
-    let mut i: usize = 0;
-    while i < n {
-        let share = share_of(header, figures, i, horizon);
-        let q = server_for(
+    let rule = header.rule_number();
+    let fit = fit_of(rule);
+    let order = order_of(rule);
+    match order {
+        Order::File => placed_in(header, figures, n, interrupts, horizon, fit),
+        Order::Falling | Order::Rising => placed_in_turn(
             header,
             figures,
-            &placement,
-            &work,
-            &jobs,
-            &cache,
-            &soonest,
-            i,
-            share,
-            0,
-            count,
+            n,
             interrupts,
             horizon,
-        );
-        let at = q as usize - 1;
-        placement[i] = q;
-        work[at] += share.work;
-        jobs[at] += share.jobs;
-        cache[at] = larger(cache[at], share.cache);
-        soonest[at] = soonest_with(soonest[at], share.due);
-        if count < q {
-            count = q;
-        }
-        i += 1;
-    }
-    Placed {
-        count,
-        placement,
-        cache,
+            order,
+            fit,
+        ),
     }
 }
