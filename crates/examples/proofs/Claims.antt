@@ -8,7 +8,7 @@ use Rattle.planfile.specs.Tool.{answered}
 use Rattle.quoted.specs.Quoted.{bytesOf}
 use Rattle.examples.specs.Asked.{rowsIn, RowsRefuse}
 use Rattle.examples.specs.Asked.Answer.{text}
-use Rattle.examples.specs.Examples.{AtoL, Masked, Interrupted, fileK}
+use Rattle.examples.specs.Examples.{AtoL, Masked, Interrupted, Packed, fileK}
 use Rattle.examples.proofs.Computing.{computing}
 use Rattle.examples.proofs.RowLaws.{refused-prints}
 use Rattle.examples.proofs.RowLaws as rows
@@ -40,3 +40,7 @@ masked = (refl, (refl, (refl, (refl, (refl, (refl, (refl, (refl, (refl, (refl, t
 pub interrupted : Interrupted
 unfolding computing
 interrupted = (refl, (refl, (refl, (refl, (refl, (refl, (refl, (refl, (refl, (refl, tt))))))))))
+
+pub packed : Packed
+unfolding computing
+packed = (refl, (refl, (refl, (refl, (refl, (refl, (refl, (refl, (refl, (refl, (refl, (refl, tt))))))))))))

@@ -10,15 +10,16 @@ use Rattle.framesizes.specs.Overflow.{lineOverflows, someTooLarge}
 use Rattle.framelines.specs.Lines.{joined}
 use Rattle.tasks.specs.Set.{interruptsWith, setOf}
 use Rattle.tasks.specs.Search.{some, firstFrom}
-use Rattle.taskask.specs.Ask.{countRow, twiceRow, headerOverflows, taskOverflows, maskedOverflows, interruptOverflows, askRow}
+use Rattle.taskask.specs.Ask.{countRow, twiceRow, headerOverflows, taskOverflows, optionalOverflows, interruptOverflows, askRow}
 use Rattle.taskrows.specs.Rows.{boardRow, rangeRow, interruptRow, figuresOutcome}
 use Rattle.refusals.specs.First.{till}
-use Rattle.taskfile.specs.File.{past, among, lineRow, orderRow, countLineRow, twiceLineRow, lineOutcome, headerAt, taskFormed, taskKind, cacheAt, taskAt, interruptAt, maskedAt, fileHeader}
+use Rattle.taskfile.specs.File.{past, among, lineRow, orderRow, countLineRow, twiceLineRow, lineOutcome, headerAt, taskFormed, taskKind, cacheAt, taskAt, interruptAt, maskedAt, ruleLine, ruleAt, fileHeader}
 use Rattle.taskread.specs.Read.{fileSet, readOutcome, readOf}
 use Rattle.wholes.specs.Ceiling.{ceilingOf}
 use Rattle.wholes.specs.Measure.{measureIn, commonMeasure}
 use Rattle.wholes.specs.Multiple.{leastMultiple, leastMultipleOf}
 use Rattle.charging.specs.Charging.{effectiveDeadline, effectiveCost, entryLoss}
+use Rattle.demand.specs.Load.{each}
 use Rattle.demand.specs.Demand.{jobs, demand}
 use Rattle.demand.specs.Passes.{fake}
 use Rattle.demand.specs.Supply.{gap, supplyPast, supply}
@@ -32,8 +33,11 @@ use Rattle.slack.specs.Slack.{slack}
 use Rattle.verdict.specs.Verdict.{failing, ownHorizon, firstFailing, closest, readingAt, verdictAt, verdictOf, passing}
 use Rattle.places.specs.Places.{placesFrom, chosen}
 use Rattle.loads.specs.Charge.{cacheOf, chargedIn, serverLoads, serverLoss}
-use Rattle.members.specs.Server.{passesWith, fits, reserveFor, verdictFor}
-use Rattle.servers.specs.Placement.{serversIn, fit, placeBy, placementOf, cachesOf}
+use Rattle.members.specs.Server.{passesWith, fits, reserveFor, verdictFor, totalOf}
+use Rattle.servers.specs.Placement.{serversIn, joinBy, placeBy, placementOf, cachesOf, placedBy, placementBy}
+use Rattle.packing.specs.Rules.{orderOf, fitOf}
+use Rattle.packing.specs.Turns.{insert, sorted, turnsOf, serverAt, inFileOrder}
+use Rattle.joining.specs.Fits.{preferred, bestUpTo, fitBy}
 use Rattle.joining.specs.Join.{join}
 use Rattle.taking.specs.Takes.{takes}
 use Rattle.sizing.specs.Reserve.{reservesOf}
@@ -66,5 +70,5 @@ use Rattle.planfile.specs.Tool.{answered}
 use Rattle.askfile.specs.OfFile.{whoIn, passIn}
 
 unfoldable pub computing : Unit {0}
-unfolding legal valueOf digitOf allLegal numberFrom hex kindOf widthsOf sum line after closed same formed fieldOf fields lineOf interruptsWith setOf some firstFrom countRow twiceRow boardRow rangeRow interruptRow figuresOutcome headerOverflows taskOverflows maskedOverflows interruptOverflows lineOverflows someTooLarge askRow past among lineRow orderRow countLineRow twiceLineRow lineOutcome till headerAt taskFormed taskKind cacheAt taskAt interruptAt maskedAt fileHeader fileSet readOutcome readOf ceilingOf measureIn commonMeasure leastMultiple leastMultipleOf effectiveDeadline effectiveCost entryLoss jobs demand boundTo interruptDemand greatest soonestOf soonest latest gainAt gaining gainOf maskedDemand fake gap supplyPast supply enough smallestReserve lastUpTo firstUpTo firstAfter short steps lesser leastUpTo slack failing ownHorizon firstFailing closest readingAt verdictAt verdictOf passing placesFrom chosen cacheOf chargedIn serverLoads serverLoss passesWith fits reserveFor verdictFor serversIn takes join fit placeBy placementOf cachesOf reservesOf covers covererUpTo standAt phase ringTicks wholes wholeFrom whoOf firstReserve onProcessor byProcessor setInterrupts setFigures slotRow tightRow horizonOf horizonRow chargedOutcome aloneRow upTo laidOut reservesWith cachesWith planWith setPlacement setReserves planMade alike sameFigures sameServer sameServers sameProcessors agrees needed fullRow planOutcome planOf makes allowed isProcessor isServer whoRuns doesPass joined serverFigures placedFigures processorFigures planLine serverLine placedLine processorLine planText refusalText plannedSet filedOf answered whoIn passIn
+unfolding legal valueOf digitOf allLegal numberFrom hex kindOf widthsOf sum line after closed same formed fieldOf fields lineOf interruptsWith setOf some firstFrom countRow twiceRow boardRow rangeRow interruptRow figuresOutcome headerOverflows taskOverflows optionalOverflows interruptOverflows lineOverflows someTooLarge askRow past among lineRow orderRow countLineRow twiceLineRow lineOutcome till headerAt taskFormed taskKind cacheAt taskAt interruptAt maskedAt ruleLine ruleAt fileHeader fileSet readOutcome readOf ceilingOf measureIn commonMeasure leastMultiple leastMultipleOf effectiveDeadline effectiveCost entryLoss jobs demand boundTo interruptDemand greatest soonestOf soonest latest gainAt gaining gainOf maskedDemand fake gap supplyPast supply enough smallestReserve lastUpTo firstUpTo firstAfter short steps lesser leastUpTo slack failing ownHorizon firstFailing closest readingAt verdictAt verdictOf passing placesFrom chosen cacheOf chargedIn serverLoads serverLoss passesWith fits reserveFor verdictFor serversIn takes join joinBy placeBy placementOf placementBy orderOf fitOf turnsOf sorted insert inFileOrder serverAt each placedBy fitBy bestUpTo preferred totalOf cachesOf reservesOf covers covererUpTo standAt phase ringTicks wholes wholeFrom whoOf firstReserve onProcessor byProcessor setInterrupts setFigures slotRow tightRow horizonOf horizonRow chargedOutcome aloneRow upTo laidOut reservesWith cachesWith planWith setPlacement setReserves planMade alike sameFigures sameServer sameServers sameProcessors agrees needed fullRow planOutcome planOf makes allowed isProcessor isServer whoRuns doesPass joined serverFigures placedFigures processorFigures planLine serverLine placedLine processorLine planText refusalText plannedSet filedOf answered whoIn passIn
 computing = tt

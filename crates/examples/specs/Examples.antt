@@ -1,5 +1,5 @@
--- Examples A to L of document 01, M of document 02, Req 04, and N and O of Req 08: lists of what is asked and what is given, and one statement for each,
--- that every row holds.
+-- Examples A to L of document 01, M of document 02, Req 04, N and O of Req 08, and R of Req 05: lists of what is asked and what is
+-- given, and one statement for each, that every row holds.
 -- It is proved in proofs/Claims.antt.
 use Prim.Native.Nat.{ℕ}
 use Prim.Native.String.{String}
@@ -205,3 +205,48 @@ interruptedExamples =
 
 abbrev pub Interrupted : Type 0
 Interrupted = Every interruptedExamples
+
+-- m 3, S 10, ResD 1, tasks 5, 6, 1, 5 and 1 of 10: without a 06 line; by first fit in file order, by first fit by falling load, by best fit
+-- and by worst fit in file order
+abbrev pub fileUnruled : String
+fileUnruled = "010300000A00000000000000010000\n020100000500000A00000A\n020200000600000A00000A\n020300000100000A00000A\n020400000500000A00000A\n020500000100000A00000A\n"
+
+abbrev pub fileR0 : String
+fileR0 = "010300000A00000000000000010000\n0600\n020100000500000A00000A\n020200000600000A00000A\n020300000100000A00000A\n020400000500000A00000A\n020500000100000A00000A\n"
+
+abbrev pub fileR1 : String
+fileR1 = "010300000A00000000000000010000\n0601\n020100000500000A00000A\n020200000600000A00000A\n020300000100000A00000A\n020400000500000A00000A\n020500000100000A00000A\n"
+
+abbrev pub fileR3 : String
+fileR3 = "010300000A00000000000000010000\n0603\n020100000500000A00000A\n020200000600000A00000A\n020300000100000A00000A\n020400000500000A00000A\n020500000100000A00000A\n"
+
+abbrev pub fileR6 : String
+fileR6 = "010300000A00000000000000010000\n0606\n020100000500000A00000A\n020200000600000A00000A\n020300000100000A00000A\n020400000500000A00000A\n020500000100000A00000A\n"
+
+-- three processors for three servers: what first fit gives, with rule 00 and without a line
+abbrev pub planR0 : String
+planR0 = "1100030300000A00000009\n12010000080000000003\n12020000070000000801\n12030000060000000F01\n130101\n130202\n130301\n130403\n130501\n140101000008\n140202000005\n140303000001\n"
+
+abbrev pub packedExamples : List Example
+packedExamples =
+    row (prints fileUnruled) (lines planR0)
+    ∷ row (prints fileR0) (lines planR0)
+    -- two servers on two processors, the largest tasks first
+    ∷ row (prints fileR1) (lines "1101010200000A00000001\n12010000090000000003\n120200000AFFFFFFFF02\n130102\n130201\n130301\n130402\n130501\n140101000009\n14020200000A\n")
+    -- task 3 goes to the fuller server, so that task 4 still fits beside task 1
+    ∷ row (prints fileR3) (lines "1101010200000A00000001\n120100000AFFFFFFFF02\n12020000090000000003\n130101\n130202\n130302\n130401\n130502\n140102000009\n14020100000A\n")
+    -- and to the emptier one, so that it does not
+    ∷ row (prints fileR6) (lines "1100030300000A00000009\n12010000070000000002\n12020000070000000701\n12030000070000000E02\n130101\n130202\n130301\n130403\n130503\n140101000007\n140202000004\n140303000001\n")
+    -- rule 09; a 06 line at line 1, a second one, one behind a task, one a digit short
+    ∷ row (prints "010300000A00000000000000010000\n0609\n020100000500000A00000A\n") (lines "1F0500\n")
+    ∷ row (prints "0600\n010300000A00000000000000010000\n020100000500000A00000A\n") (lines "1F0201\n")
+    ∷ row (prints "010300000A00000000000000010000\n0600\n0600\n020100000500000A00000A\n") (lines "1F0203\n")
+    ∷ row (prints "010300000A00000000000000010000\n020100000500000A00000A\n0600\n") (lines "1F0203\n")
+    ∷ row (prints "010300000A00000000000000010000\n060\n020100000500000A00000A\n") (lines "1F0102\n")
+    -- behind a 05 line it may stand, and a 05 line behind it may not
+    ∷ row (prints "010300000A00000000000000010000\n050000\n0608\n020100000500000A00000A\n") (lines "1100010100000A00000004\n12010000060000000001\n130101\n140101000006\n")
+    ∷ row (prints "010300000A00000000000000010000\n0608\n050000\n020100000500000A00000A\n") (lines "1F0203\n")
+    ∷ []
+
+abbrev pub Packed : Type 0
+Packed = Every packedExamples

@@ -1,6 +1,6 @@
 -- Each claim of specs/Claims.antt, proved.
 -- Assumes nothing.
-use Prim.Native.Nat.{ℕ, _+_, _-_, _≤_, _∣_}
+use Prim.Native.Nat.{ℕ, _+_, _-_, _≤_, _<_, _∣_}
 use mathlib.Core.Path.{_≡_, refl, ap, ap₂, subst, sym, _∙_}
 use mathlib.Core.Bool.{true}
 use mathlib.Core.List.{List, _++_, map}
@@ -19,17 +19,25 @@ use Rattle.verdict.proofs.Tells.{passes-told, told-within}
 use Rattle.tasks.specs.declared.set.Interrupt.{Interrupt}
 use Rattle.tasks.specs.declared.set.Task.{Task}
 use Rattle.tasks.specs.declared.set.TaskSet.{TaskSet}
-use Rattle.tasks.specs.Set.{mostTasks, maskedTicks, members as set-members, interruptsIn, zeroTask}
+use Rattle.tasks.specs.Set.{mostTasks, maskedTicks, ruleNumber, members as set-members, interruptsIn, zeroTask}
 use Rattle.loads.specs.Charge.{Member}
 use Rattle.loads.specs.Figures.{Figures, figuresOf}
 use Rattle.loads.proofs.ChargeLaws.{loads-many, loads-sound, loads-period}
-use Rattle.servers.specs.Placement.{placementOf}
+use Rattle.packing.specs.Rules.{orderOf}
+use Rattle.packing.proofs.Claims.{sorted}
+use Rattle.servers.specs.Placement.{placementBy, placementOf}
+use Rattle.servers.proofs.Claims.{any-multiple}
+use Rattle.servers.proofs.RuleLaws as own-horizon
+use Rattle.packing.proofs.EachLaws.{every-there}
+use Rattle.packing.specs.Turns.{taskAt}
+use Rattle.members.specs.Server.{serverHorizon}
 use Rattle.members.proofs.FiledLaws.{every-chosen}
 use Rattle.byprocessor.specs.Interrupts.{byProcessor}
 use Rattle.setfigures.specs.Figures.{setFigures}
 use Rattle.setfigures.specs.Board.{setInterrupts, setBoard}
 use Rattle.rows.specs.Rows.{horizonOf, Chargeable}
 use Rattle.setfigures.proofs.FigureLaws.{figures-length}
+use Rattle.taskrows.proofs.BoardLaws.{board-some}
 use Rattle.rows.proofs.InterruptLaws.{each-on, set-sound, figures-divide}
 use Rattle.rows.proofs.Clears.{horizon-least, horizon-short, interrupts-of-horizon, set-costs, set-filed}
 use Rattle.plan.specs.declared.plan.Plan.{Plan}
@@ -44,9 +52,9 @@ use Rattle.plan_claims.specs.Claims.{membersIn, allowedIn}
 use Rattle.plan_claims.proofs.Claims.{plan-checked, who-answers, pass-answers}
 use Rattle.planfile_claims.proofs.Claims.{text-tells-plan, nothing-cut-off}
 use Rattle.promises.proofs.Claims.{accepted-stands, plan-is-rota, printed-rota}
-use Rattle.filed_claims.specs.Claims.{setIn, planIn, demandIn, lossIn, loadsIn, PlacedFirst, ReportSmallest, GreatestOf, HorizonEnough, ClosestAt, yesAt, FileFull, FileFirstFit, FileSmallest, FileReport, FileMasked, FileInterrupts, FileNeverAlone, FileHorizon, FileChecked, FileStands, FileIsRota, FilePrintedRota, FileQuestions, FileClosest, FileCutsNothing, FileTellsPlan, RoomNeverShows}
-use Rattle.filed_claims.proofs.FiledLaws.{board-some, filed-full, filed-made, filed-interrupts, filed-never, filed-printed, filed-who, filed-pass}
-use Rattle.filed_claims.proofs.FirstLaws.{row-goes}
+use Rattle.filed_claims.specs.Claims.{setIn, planIn, demandIn, lossIn, loadsIn, PlacedFirst, ReportSmallest, GreatestOf, HorizonEnough, ClosestAt, yesAt, ByRule, FileFull, FileByRule, FileFirstFit, FileSmallest, FileReport, FileMasked, FileInterrupts, FileNeverAlone, FileHorizon, FileChecked, FileStands, FileIsRota, FilePrintedRota, FileQuestions, FileClosest, FileCutsNothing, FileTellsPlan, RoomNeverShows}
+use Rattle.filed_claims.proofs.FiledLaws.{filed-full, filed-made, filed-interrupts, filed-never, filed-printed, filed-who, filed-pass}
+use Rattle.filed_claims.proofs.RuleLaws.{turn-goes, first-goes}
 use Rattle.filed_claims.proofs.ReportLaws.{by-report}
 use Rattle.filed_claims.proofs.InterruptLaws.{greatest-is, by-on, least-in-order}
 use Rattle.filed_claims.proofs.StepLaws.{asks-lawful, steps-pass, asks-step, none-closer, earlier-wider}
@@ -64,12 +72,6 @@ module _ (set : TaskSet) (plan : Plan) (full : length (set .tasks) ≡ mostTasks
   placed-same : take (set .count) (plan .placement) ≡ placementOf (setBoard set) (setFigures set)
   unfolding setPlacement
   placed-same = known .placement
-
-  -- its tasks are placed by first fit
-  placed-first : (k : ℕ) → 1 ≤ k → k ≤ set .count → PlacedFirst set plan k
-  placed-first k some there =
-      row-goes (setBoard set) (setFigures set) (board set full (known .clear)) (members set full (known .clear)) (k - 1) (figuresOf (set .header) zeroTask)
-      (omega (arith, figures-length set (fits set full (known .clear)))) (plan .placement) (set .count) (omega arith) placed-same
 
   -- what holds of every figure holds of those of a server
   sound : (q : ℕ) → Every Sound (loadsIn set plan q)
@@ -105,6 +107,39 @@ module _ (set : TaskSet) (plan : Plan) (full : length (set .tasks) ≡ mostTasks
 
   periods : Every (λ (f : Figures). f .period ∣ horizonOf set) (setFigures set)
   periods = figures-divide (setFigures set) (setInterrupts set) (horizonOf set) (horizon-least set .of-others)
+
+  -- its tasks are placed by the rule of its header, with rooms in its horizon
+  placed-by : take (set .count) (plan .placement) ≡ placementBy (ruleNumber (set .header)) (setBoard set) (horizonOf set) (setFigures set)
+  unfolding placementOf
+  placed-by =
+      placed-same ∙
+      any-multiple (ruleNumber (set .header)) (setBoard set) (serverHorizon (setBoard set) (setFigures set)) (horizonOf set) (setFigures set)
+      (own-horizon.horizon-some (setBoard set) (setFigures set) (board set full (known .clear)) (members set full (known .clear))) horizon-some
+      (own-horizon.horizon-periods (setBoard set) (setFigures set) (board set full (known .clear)) (members set full (known .clear))) periods
+
+  many : length (setFigures set) ≡ set .count
+  many = figures-length set (fits set full (known .clear))
+
+  -- every task has a period
+  some-periods : (i : ℕ) → i < length (setFigures set) → 1 ≤ taskAt (setFigures set) i .period
+  some-periods i there =
+      let member = every-there (Member (set .header)) (record { cost = 0; deadline = 0; period = 0; cache = 0 }) (setFigures set) i there (members set full (known .clear)) in
+      omega (arith, member .some, member .meets, member .constrained)
+
+  by-rule : ByRule set plan
+  by-rule =
+      record {
+        turns = sorted (orderOf (ruleNumber (set .header))) (setFigures set) some-periods;
+        placed = λ j there.
+            turn-goes (ruleNumber (set .header)) (setBoard set) (horizonOf set) (setFigures set) (board set full (known .clear)) (members set full (known .clear))
+            (plan .placement) (set .count) many placed-by j (omega (arith, many));
+      }
+
+  placed-first : ruleNumber (set .header) ≡ 0 → (k : ℕ) → 1 ≤ k → k ≤ set .count → PlacedFirst set plan k
+  placed-first zeroth k some there =
+      first-goes (setBoard set) (horizonOf set) (setFigures set) (board set full (known .clear)) (members set full (known .clear)) (plan .placement) (set .count)
+      (placed-by ∙ ap (λ (rule : ℕ). placementBy rule (setBoard set) (horizonOf set) (setFigures set)) zeroth)
+      (k - 1) (figuresOf (set .header) zeroTask) (omega (arith, many)) (omega arith)
 
   divides : (q : ℕ) → Every (λ (l : Load). l .period ∣ horizonOf set) (loadsIn set plan q)
   divides q =
@@ -153,6 +188,9 @@ module _ (set : TaskSet) (plan : Plan) (full : length (set .tasks) ≡ mostTasks
 
 pub file-full : FileFull
 file-full = filed-full
+
+pub file-by-rule : FileByRule
+file-by-rule text ok = by-rule (setIn text) (planIn text) (filed-full text) (filed-made text ok)
 
 pub file-first-fit : FileFirstFit
 file-first-fit text ok = placed-first (setIn text) (planIn text) (filed-full text) (filed-made text ok)

@@ -4,12 +4,9 @@
 use Prim.Native.Nat.{ℕ, _-_, _≤_}
 use mathlib.Core.Path.{_≡_, refl, sym, ap, _∙_}
 use mathlib.Core.List.{List, []}
-use mathlib.Core.Bool.{true, false}
+use mathlib.Core.Bool.{true}
 use native.Mathlib.Omega.{arith}
-use borrow.Author.Tests.{leb-true, not-false}
-use lib.Dec.{leb, eqb}
 use lib.ListN.{length, replicate, length-append, length-replicate}
-use Rattle.laws.proofs.Tests.{and-left, or-left}
 use Rattle.refusals.specs.declared.Refusal.{Refusal}
 use Rattle.refusals.specs.declared.Refusal.the-variants.{Alone}
 use Rattle.refusals.proofs.FirstLaws.{done-refused}
@@ -19,9 +16,8 @@ use Rattle.tasks.specs.declared.set.Header.{Header}
 use Rattle.tasks.specs.declared.set.Interrupt.{Interrupt}
 use Rattle.tasks.specs.declared.set.Task.{Task}
 use Rattle.tasks.specs.declared.set.TaskSet.{TaskSet}
-use Rattle.tasks.specs.Set.{mostTasks, mostProcessors, interruptsIn, zeroTask, interruptsWith, setOf}
+use Rattle.tasks.specs.Set.{mostTasks, interruptsIn, zeroTask, interruptsWith, setOf}
 use Rattle.tasks.proofs.SetLaws.{interrupts-set}
-use Rattle.taskrows.specs.Rows.{boardRow}
 use Rattle.taskfile.specs.File.{fileHeader, fileTasks, fileInterrupts}
 use Rattle.taskread.specs.Read.{fileSet, answer, readOutcome, readOf}
 use Rattle.tasks_claims.proofs.Accepted.{read-accepted}
@@ -118,11 +114,6 @@ file-never text k Done r none whole e =
     count-none : (text : List ℕ) → fileInterrupts text ≡ [] → fileSet text .interrupts .count ≡ 0
     count-none text none = read-count text ∙ ap length none
 file-never text k (Refused q) r none whole e = absurd (omega (arith, read-refuses text (Alone k) (r ∙ e) .0))
-
--- m is at least 1
-pub board-some : (h : Header) → boardRow h ≡ false → 1 ≤ h .processors
-unfolding boardRow
-board-some h e = leb-true 1 (h .processors) (and-left (leb 1 (h .processors)) (leb (h .processors) mostProcessors) (not-false _ (or-left _ (eqb (h .slot) 0) e)))
 
 -- a file without 07 lines is not refused by row 13
 pub filed-never : (text : List ℕ) (k : ℕ) → fileInterrupts text ≡ [] → filedOf text .outcome ≡ Refused (Alone k) → ⊥

@@ -1,5 +1,5 @@
 pub mod FiledLaws
-pub mod FirstLaws
+pub mod RuleLaws
 pub mod ReportLaws
 pub mod InterruptLaws
 pub mod StepLaws

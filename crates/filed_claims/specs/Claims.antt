@@ -1,6 +1,6 @@
 -- What holds of the plan of every accepted task file, each claim as a type: nothing is asked but that the file is accepted. And that
 -- unused room never shows. The proofs stand under the same names in proofs/Claims.antt.
--- The note's demands 2 and 3; document 02, Req 04 and Req 08; document 01, "Demand, supply, and the report's test" (RULES 2) and "From tasks to servers to ring" (RULES 3).
+-- The note's demands 2 and 3; document 02, Req 04, Req 05 and Req 08; document 01, "Demand, supply, and the report's test" (RULES 2) and "From tasks to servers to ring" (RULES 3).
 use Prim.Native.Nat.{ℕ, _+_, _*_, _-_, _≤_, _<_}
 use mathlib.Core.Path.{_≡_}
 use mathlib.Core.Logic.{_↔_, _⊎_}
@@ -23,7 +23,7 @@ use Rattle.verdict.specs.declared.answer.Verdict.the-variants.{Yes}
 use Rattle.tasks.specs.declared.set.Interrupt.{Interrupt}
 use Rattle.tasks.specs.declared.set.Task.{Task}
 use Rattle.tasks.specs.declared.set.TaskSet.{TaskSet}
-use Rattle.tasks.specs.Set.{mostTasks, longestHorizon, maskedTicks, members, interruptsIn, zeroTask}
+use Rattle.tasks.specs.Set.{mostTasks, longestHorizon, maskedTicks, ruleNumber, members, interruptsIn, zeroTask}
 use Rattle.taskfile.specs.File.{fileInterrupts}
 use Rattle.tasktext.specs.Text.{textOf}
 use Rattle.taskwrite.specs.Write.{writeOf}
@@ -31,7 +31,13 @@ use Rattle.ring.specs.declared.clock.Tick.{Tick}
 use Rattle.loads.specs.Charge.{serverLoads, serverLoss}
 use Rattle.loads.specs.Figures.{Figures, figuresOf}
 use Rattle.members.specs.Server.{serverDemand}
-use Rattle.servers.specs.Claims.{Lowest, Opened}
+use Rattle.packing.specs.declared.Order.{Order}
+use Rattle.packing.specs.declared.Fit.{Fit}
+use Rattle.packing.specs.declared.Fit.the-variants.{First}
+use Rattle.packing.specs.Rules.{orderOf, fitOf}
+use Rattle.packing.specs.Turns.{taskAt, turnsOf, inTurn}
+use Rattle.packing.specs.Claims.{TurnsSorted}
+use Rattle.servers.specs.Claims.{Named, Opened}
 use Rattle.setfigures.specs.Figures.{setFigures}
 use Rattle.setfigures.specs.Board.{setInterrupts, setBoard}
 use Rattle.rows.specs.Rows.{horizonOf}
@@ -71,6 +77,48 @@ planIn text = filedOf text .plan
 abbrev pub FileFull : Type 0
 FileFull = (text : List ℕ) → length (setIn text .tasks) ≡ mostTasks
 
+-- ---- each task where the file's rule puts it
+
+-- the order and the fit of a set's packing rule, and the places of its tasks in their turns, from 0
+abbrev pub orderIn : TaskSet → Order
+orderIn set = orderOf (ruleNumber (set .header))
+
+abbrev pub fitIn : TaskSet → Fit
+fitIn set = fitOf (ruleNumber (set .header))
+
+abbrev pub turnsIn : TaskSet → List ℕ
+turnsIn set = turnsOf (orderIn set) (setFigures set)
+
+-- the tasks whose turns are before turn j, and the servers that the plan has them in
+abbrev pub comeBefore : TaskSet → (j : ℕ) → List Figures
+comeBefore set j = inTurn (take j (turnsIn set)) (setFigures set)
+
+abbrev pub serversBefore : TaskSet → Plan → (j : ℕ) → List ℕ
+serversBefore set plan j = map (λ (i : ℕ). getD (plan .placement) i 0) (take j (turnsIn set))
+
+-- the task that comes in turn j, and its server
+abbrev pub taskInTurn : TaskSet → (j : ℕ) → Figures
+taskInTurn set j = taskAt (setFigures set) (getD (turnsIn set) j 0)
+
+abbrev pub serverInTurn : TaskSet → Plan → (j : ℕ) → ℕ
+serverInTurn set plan j = getD (plan .placement) (getD (turnsIn set) j 0) 0
+
+-- The task of turn j is in the server that the fit names of those that pass with it, beside the tasks that came before it, by the rooms
+-- that these leave of the file's horizon; or it opened the next server, since none passes with it.
+abbrev pub PlacedByRule : TaskSet → Plan → (j : ℕ) → Type 0
+PlacedByRule set plan j =
+    Named (fitIn set) (setBoard set) (horizonOf set) (comeBefore set j) (serversBefore set plan j) (taskInTurn set j) (serverInTurn set plan j)
+    ⊎ Opened (setBoard set) (comeBefore set j) (serversBefore set plan j) (taskInTurn set j) (serverInTurn set plan j)
+
+-- The tasks come sorted by their exact loads as the rule says, each once, equal loads in file order, and each goes where the rule says.
+pub record ByRule (set : TaskSet) (plan : Plan) : Type 0 where
+  pub turns : TurnsSorted (orderIn set) (setFigures set)
+  pub placed : (j : ℕ) → j < set .count → PlacedByRule set plan j
+
+-- Each task's server, which its 13 line prints, is the one that the rule of the file gives it.
+abbrev pub FileByRule : Type 0
+FileByRule = (text : List ℕ) → FileAccepted text → ByRule (setIn text) (planIn text)
+
 -- ---- first fit in file order
 
 -- the own figures of task k; tasks count from 1
@@ -82,13 +130,14 @@ figuresAt set k = getD (setFigures set) (k - 1) (figuresOf (set .header) zeroTas
 abbrev pub PlacedFirst : TaskSet → Plan → (k : ℕ) → Type 0
 PlacedFirst set plan k =
     let n = k - 1 in
-    Lowest (setBoard set) (take n (setFigures set)) (take n (plan .placement)) (figuresAt set k) (serverOfTask plan k)
+    Named First (setBoard set) (horizonOf set) (take n (setFigures set)) (take n (plan .placement)) (figuresAt set k) (serverOfTask plan k)
     ⊎ Opened (setBoard set) (take n (setFigures set)) (take n (plan .placement)) (figuresAt set k) (serverOfTask plan k)
 
--- Each task's server, which its 13 line prints, is the one that first fit in file order gives it.
+-- Where the file names no rule, or rule 0, each task's server is the one that first fit in file order gives it.
 abbrev pub FileFirstFit : Type 0
 FileFirstFit =
-    (text : List ℕ) → FileAccepted text → (k : ℕ) → 1 ≤ k → k ≤ setIn text .count → PlacedFirst (setIn text) (planIn text) k
+    (text : List ℕ) → FileAccepted text → ruleNumber (setIn text .header) ≡ 0 → (k : ℕ) → 1 ≤ k → k ≤ setIn text .count →
+    PlacedFirst (setIn text) (planIn text) k
 
 -- ---- the smallest reserves
 

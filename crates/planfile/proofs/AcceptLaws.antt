@@ -5,14 +5,12 @@ use mathlib.Core.Path.{_≡_}
 use mathlib.Core.Bool.{true}
 use native.Mathlib.Nat.{min-le-left}
 use native.Mathlib.Omega.{arith}
-use lib.Dec.{leb}
 use lib.ListN.{length, length-take, length-map}
-use borrow.Author.Tests.{ltb-false, leb-true, not-false}
-use Rattle.laws.proofs.Tests.{and-right, or-left}
+use borrow.Author.Tests.{ltb-false}
 use Rattle.refusals.specs.declared.Outcome.the-variants.{Done}
 use Rattle.tasks.specs.declared.set.TaskSet.{TaskSet}
 use Rattle.tasks.specs.Set.{members, mostTasks, mostProcessors}
-use Rattle.taskrows.specs.Rows.{boardRow}
+use Rattle.taskrows.proofs.BoardLaws.{board-processors}
 use Rattle.taskask.proofs.Carried.{ask-count, count-within}
 use Rattle.servers.specs.Placement.{placementOf}
 use Rattle.sizing.proofs.Claims.{reserves-count}
@@ -39,10 +37,7 @@ module _ (set : TaskSet) (done : planOutcome set ≡ Done) where
   tasks-few = count-within set (ask-count set (clear .carried)) .1
 
   boards-few : set .header .processors ≤ mostProcessors
-  unfolding boardRow
-  boards-few =
-      leb-true (set .header .processors) mostProcessors
-      (and-right (leb 1 (set .header .processors)) _ (not-false _ (or-left _ _ (charged-clear set (clear .charged) .board))))
+  boards-few = board-processors (set .header) (charged-clear set (clear .charged) .board)
 
   pub needed-few : needed set ≤ mostProcessors
   unfolding fullRow

@@ -43,7 +43,8 @@ use Rattle.setfigures.proofs.FigureLaws.{figures-length, figures-back}
 use Rattle.setfigures.proofs.BoardLaws.{board-back}
 use Rattle.servers.proofs.Claims.{servers-few}
 use Rattle.sizing.proofs.Claims.{reserves-count}
-use Rattle.rows.proofs.Clears.{at-done, board-slot, charged-clear, figures-members, slot-small, set-costs, set-filed, set-board}
+use Rattle.taskrows.proofs.BoardLaws.{board-slot}
+use Rattle.rows.proofs.Clears.{at-done, charged-clear, figures-members, slot-small, set-costs, set-filed, set-board}
 use Rattle.alonerow.proofs.AloneLaws.{alone-clear}
 use Rattle.layout.proofs.Layouts.{processors-few}
 use Rattle.planner.proofs.Served.{front-reserves, layable, laid-is}

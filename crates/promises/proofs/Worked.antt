@@ -8,6 +8,7 @@ use Rattle.wholes.specs.Ceiling.{ceilingOf}
 use Rattle.wholes.specs.Measure.{measureIn, commonMeasure}
 use Rattle.wholes.specs.Multiple.{leastMultiple, leastMultipleOf}
 use Rattle.charging.specs.Charging.{effectiveDeadline, effectiveCost, entryLoss}
+use Rattle.demand.specs.Load.{each}
 use Rattle.demand.specs.Demand.{jobs, demand}
 use Rattle.demand.specs.Supply.{supplyPast, supply}
 use Rattle.search.specs.Search.{firstUpTo, firstAfter}
@@ -17,8 +18,11 @@ use Rattle.verdict.specs.Reserve.{enough, smallestReserve}
 use Rattle.places.specs.Padded.{upTo}
 use Rattle.places.specs.Places.{chosen}
 use Rattle.loads.specs.Charge.{cacheOf, chargedIn, serverLoads, serverLoss}
-use Rattle.members.specs.Server.{passesWith, fits, reserveFor}
-use Rattle.servers.specs.Placement.{serversIn, placeBy, fit, placementOf}
+use Rattle.members.specs.Server.{passesWith, fits, reserveFor, totalOf}
+use Rattle.servers.specs.Placement.{serversIn, placeBy, joinBy, placementOf, placedBy, placementBy}
+use Rattle.packing.specs.Rules.{orderOf, fitOf}
+use Rattle.packing.specs.Turns.{insert, sorted, turnsOf, serverAt, inFileOrder}
+use Rattle.joining.specs.Fits.{preferred, bestUpTo, fitBy}
 use Rattle.joining.specs.Join.{join}
 use Rattle.taking.specs.Takes.{takes}
 use Rattle.sizing.specs.Reserve.{reservesOf}
@@ -31,7 +35,7 @@ use Rattle.tasks.specs.Set.{setOf, interruptsWith}
 use Rattle.tasks.specs.Search.{some, firstFrom}
 use Rattle.frames.specs.Table.{widthsOf}
 use Rattle.framesizes.specs.Overflow.{lineOverflows, someTooLarge}
-use Rattle.taskask.specs.Ask.{countRow, twiceRow, headerOverflows, taskOverflows, maskedOverflows, interruptOverflows, askRow}
+use Rattle.taskask.specs.Ask.{countRow, twiceRow, headerOverflows, taskOverflows, optionalOverflows, interruptOverflows, askRow}
 use Rattle.taskrows.specs.Rows.{boardRow, rangeRow, interruptRow, figuresOutcome}
 use Rattle.setfigures.specs.Figures.{setFigures}
 use Rattle.setfigures.specs.Board.{setInterrupts}
@@ -50,7 +54,7 @@ task id C = record { id = id; cost = C; deadline = 10; period = 10; cache = Abse
 
 -- D: S 10, tasks 5/10/10, 5/10/10, 1/10/10
 abbrev pub setD : TaskSet
-setD = setOf (record { processors = 64; slot = 10; relj = 0; relo = 0; ctswo = 0; resd = 0; cpmdo = 0; masked = Absent }) (task 1 5 ∷ task 2 5 ∷ task 3 1 ∷ []) []
+setD = setOf (record { processors = 64; slot = 10; relj = 0; relo = 0; ctswo = 0; resd = 0; cpmdo = 0; masked = Absent; rule = Absent }) (task 1 5 ∷ task 2 5 ∷ task 3 1 ∷ []) []
 
 -- the reserves of D's rota
 abbrev reservesD : List ℕ
@@ -65,11 +69,11 @@ pub record WorkedD : Type 0 where
 
 -- each by computing
 accepted-D : Accepted setD
-unfolding setOf interruptsWith planOf planOutcome askRow countRow interruptOverflows interruptRow aloneRow setInterrupts byProcessor onProcessor greatest interruptDemand boundTo twiceRow some firstFrom boardRow rangeRow figuresOutcome headerOverflows taskOverflows maskedOverflows lineOverflows someTooLarge widthsOf chargedOutcome slotRow tightRow horizonRow horizonOf setReserves needed fullRow chosen cacheOf chargedIn serverLoads serverLoss passesWith fits reserveFor serversIn takes join placeBy fit placementOf reservesOf upTo setFigures reservesWith setPlacement smallestReserve enough passing verdictOf verdictAt firstFailing firstUpTo firstAfter failing ownHorizon leastMultipleOf leastMultiple commonMeasure measureIn maskedDemand gaining gainOf gainAt soonest soonestOf latest demand jobs supply supplyPast effectiveDeadline effectiveCost entryLoss ceilingOf ringTicks wholes
+unfolding setOf interruptsWith planOf planOutcome askRow countRow interruptOverflows interruptRow aloneRow setInterrupts byProcessor onProcessor greatest interruptDemand boundTo twiceRow some firstFrom boardRow rangeRow figuresOutcome headerOverflows taskOverflows optionalOverflows lineOverflows someTooLarge widthsOf chargedOutcome slotRow tightRow horizonRow horizonOf setReserves needed fullRow chosen cacheOf chargedIn serverLoads serverLoss passesWith fits reserveFor serversIn takes join placeBy joinBy placementOf placementBy orderOf fitOf turnsOf sorted insert inFileOrder serverAt each placedBy fitBy bestUpTo preferred totalOf reservesOf upTo setFigures reservesWith setPlacement smallestReserve enough passing verdictOf verdictAt firstFailing firstUpTo firstAfter failing ownHorizon leastMultipleOf leastMultiple commonMeasure measureIn maskedDemand gaining gainOf gainAt soonest soonestOf latest demand jobs supply supplyPast effectiveDeadline effectiveCost entryLoss ceilingOf ringTicks wholes
 accepted-D = refl
 
 reserves-D : reservesD ≡ 10 ∷ 1 ∷ []
-unfolding setOf interruptsWith setInterrupts byProcessor onProcessor greatest interruptDemand boundTo chosen cacheOf chargedIn serverLoads serverLoss passesWith fits reserveFor serversIn takes join placeBy fit placementOf reservesOf upTo setFigures reservesWith setPlacement smallestReserve enough passing verdictOf verdictAt firstFailing firstUpTo firstAfter failing ownHorizon leastMultipleOf leastMultiple commonMeasure measureIn maskedDemand gaining gainOf gainAt soonest soonestOf latest demand jobs supply supplyPast effectiveDeadline effectiveCost entryLoss
+unfolding setOf interruptsWith setInterrupts byProcessor onProcessor greatest interruptDemand boundTo chosen cacheOf chargedIn serverLoads serverLoss passesWith fits reserveFor serversIn takes join placeBy joinBy placementOf placementBy orderOf fitOf turnsOf sorted insert inFileOrder serverAt each placedBy fitBy bestUpTo preferred totalOf reservesOf upTo setFigures reservesWith setPlacement smallestReserve enough passing verdictOf verdictAt firstFailing firstUpTo firstAfter failing ownHorizon leastMultipleOf leastMultiple commonMeasure measureIn maskedDemand gaining gainOf gainAt soonest soonestOf latest demand jobs supply supplyPast effectiveDeadline effectiveCost entryLoss
 reserves-D = refl
 
 pub worked-D : WorkedD

@@ -2,11 +2,11 @@
 -- Assumes nothing.
 use Prim.Native.Nat.{ℕ, zero, suc, _^_, _≤_, _<_, _∣_}
 use mathlib.Core.Path.{_≡_, refl, sym, ap, subst, _∙_}
-use mathlib.Core.Bool.{true, false, not, _&&_}
+use mathlib.Core.Bool.{true, false}
 use mathlib.Core.List.{List, [], _∷_, _++_, map}
 use native.Mathlib.Omega.{arith}
-use borrow.Author.Tests.{leb-false, ltb-false, lt-ltb, le-ltb, eqb-false}
-use lib.Dec.{leb, ltb, eqb}
+use borrow.Author.Tests.{leb-false, ltb-false, lt-ltb, le-ltb}
+use lib.Dec.{leb, ltb}
 use lib.ListN.{length, getD}
 use Rattle.laws.proofs.Tests.{clash, or-left, or-right}
 use Rattle.refusals.specs.declared.Refusal.{Refusal}
@@ -25,7 +25,7 @@ use Rattle.tasks.specs.declared.set.Task.{Task}
 use Rattle.tasks.specs.declared.set.TaskSet.{TaskSet}
 use Rattle.tasks.specs.declared.set.Optional.{Optional}
 use Rattle.tasks.specs.declared.set.Optional.the-variants.{Absent, Given}
-use Rattle.tasks.specs.Set.{givenOr, mostTasks, mostInterrupts, mostProcessors, longestPeriod, members, interruptsIn, zeroTask, longestHorizon}
+use Rattle.tasks.specs.Set.{givenOr, mostTasks, mostInterrupts, longestPeriod, members, interruptsIn, zeroTask, longestHorizon}
 use Rattle.refusals.specs.First.{firstOf, when}
 use Rattle.frames.specs.Table.{widthsOf, widthOf, fieldsIn}
 use Rattle.frames.specs.declared.table.Frame.{Frame}
@@ -42,6 +42,7 @@ use Rattle.loads.specs.Figures.{Figures, figuresOf}
 use Rattle.members.specs.Server.{SoundBoard, fits, Filed, Bounded}
 use Rattle.members.proofs.ServerLaws.{alone-fits}
 use Rattle.setfigures.specs.Figures.{setFigures, figureNumbers}
+use Rattle.taskrows.proofs.BoardLaws.{board-slot}
 use Rattle.rows.specs.declared.rows.Rows.{Rows}
 use Rattle.rows.specs.declared.rows.Rows.the-variants.{Clear}
 use Rattle.tightrows.specs.Rows.{slotRow, ownLoad, tightRow}
@@ -51,12 +52,6 @@ use Rattle.setfigures.proofs.FigureLaws.{figures-back, numbers-there}
 use Rattle.rows.proofs.InterruptLaws.{in-range, set-sound, set-bounded, interrupts-divide, figures-divide, figures-positive, bounds-positive}
 
 -- ---- a header and a task
-
--- row 5 clear: the slot is at least 1
-pub board-slot : (h : Header) → boardRow h ≡ false → 1 ≤ h .slot
-unfolding boardRow
-board-slot h e =
-    omega (arith, eqb-false (h .slot) 0 (or-right (not (leb 1 (h .processors) && leb (h .processors) mostProcessors)) (eqb (h .slot) 0) e))
 
 range-figures : (t : Task) → rangeRow t ≡ false → (1 ≤ t .cost) × (t .cost ≤ t .deadline) × (t .deadline ≤ t .period) × (t .period ≤ longestPeriod)
 unfolding rangeRow

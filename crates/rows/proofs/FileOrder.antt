@@ -28,7 +28,8 @@ use Rattle.setfigures.proofs.FigureLaws.{figures-back, numbers-there}
 use Rattle.setfigures.proofs.BoardLaws.{counted-length}
 use Rattle.rows.specs.Rows.{horizonOf, Chargeable, PeriodsOf}
 use Rattle.rows.proofs.InterruptLaws.{each-ranged, each-on, bounds-divide}
-use Rattle.rows.proofs.Clears.{board-slot, task-periods, interrupt-periods, horizon-parts, tasks-positive, multiple-some, horizon-some}
+use Rattle.taskrows.proofs.BoardLaws.{board-slot}
+use Rattle.rows.proofs.Clears.{task-periods, interrupt-periods, horizon-parts, tasks-positive, multiple-some, horizon-some}
 
 -- ---- the periods, place by place
 
