@@ -16,11 +16,11 @@ use Rattle.planner.specs.declared.PlanAnswer.{PlanAnswer}
 use Rattle.frames.specs.Table.{widthsOf}
 use Rattle.framesizes.specs.Overflow.{lineOverflows, someTooLarge}
 use Rattle.taskrows.specs.Rows.{boardRow, figuresOutcome}
-use Rattle.taskask.specs.Ask.{countRow, headerOverflows, maskedOverflows, askRow}
+use Rattle.taskask.specs.Ask.{countRow, headerOverflows, optionalOverflows, askRow}
 use Rattle.loads.specs.Charge.{cacheOf, chargedIn, serverLoads, serverLoss}
 use Rattle.members.specs.Server.{passesWith, fits, reserveFor}
 use Rattle.taking.specs.Takes.{takes}
-use Rattle.servers.specs.Placement.{fit, placementOf}
+use Rattle.servers.specs.Placement.{joinBy, placedBy, placementBy, placementOf}
 use Rattle.sizing.specs.Reserve.{reservesOf}
 use Rattle.setfigures.specs.Figures.{setFigures}
 use Rattle.setfigures.specs.Board.{setInterrupts}
@@ -39,23 +39,26 @@ use Rattle.askfile.specs.OfFile.{whoOfFile, passOfFile, whoIn, passIn}
 use Rattle.planlines.specs.Line.{refusalText}
 use Rattle.switchlist.specs.Write.{planSwitches}
 use Rattle.switchfile.specs.OfFile.{switched, listed}
-use Rattle.before.specs.Earlier.{Earlier, before04, before07, before08}
+use Rattle.before.specs.Earlier.{Earlier, before04, before05, before07, before08}
 use Rattle.before.specs.Reading.{hadSet, hadReadOutcome, hadRead}
 use Rattle.before.specs.Planning.{hadPlan}
 use Rattle.before.specs.Answers.{hadPlanned, hadFiled, hadAnswered, hadSwitched, hadListed, hadWhoIn, hadPassIn}
 use Rattle.before.specs.Claims as claims
-use Rattle.before.proofs.ReadingLaws.{read-uncached, had-uncached, read-now, read-same}
+use Rattle.before.proofs.ReadingLaws.{read-unruled, read-uncached, had-uncached, read-now, read-same}
 use Rattle.before.proofs.PlanningLaws.{set-as-before}
-use Rattle.before.proofs.StateLaws.{as-now07, as-now08, as-now04}
+use Rattle.before.proofs.CacheLaws.{Costs}
+use Rattle.before.proofs.StateLaws.{AnyCost, as-now05, as-now07, as-now08, as-now04}
 
 -- ---- sets
 
 pub sets-as-before : claims.SetsAsBefore
 sets-as-before =
     record {
-      cached = λ set uncached. set-as-before before07 set (as-now07 set uncached);
-      interrupts = λ set uncached none. set-as-before before08 set (as-now08 set uncached none);
-      masked = λ set uncached none unmasked. set-as-before before04 set (as-now04 set uncached none unmasked);
+      packed = λ set unruled. set-as-before AnyCost before05 set (as-now05 set unruled);
+      cached = λ set unruled uncached. set-as-before (Costs (set .header)) before07 set (as-now07 set unruled uncached);
+      interrupts = λ set unruled uncached none. set-as-before (Costs (set .header)) before08 set (as-now08 set unruled uncached none);
+      masked = λ set unruled uncached none unmasked.
+          set-as-before (Costs (set .header)) before04 set (as-now04 set unruled uncached none unmasked);
     }
 
 -- ---- files
@@ -106,45 +109,66 @@ module _ (e : Earlier) (text : List ℕ) (read : readOf text ≡ hadRead e text)
         pass = λ q R. ap (passOfFile q R) filed-same ∙ ap (unless refusedPass (hadFiled e text .outcome)) (asked .pass (hadFiled e text .plan) q R);
       }
 
--- what a set had: no cache costs of tasks, before Req 08 no interrupts, and before Req 04 no 05 line
+-- so is a file of whose set, or of the all-zero set, something holds for which sets are planned as before
+module _ (P : TaskSet → Type 0) (e : Earlier) (by : (set : TaskSet) → P set → claims.SetAsBefore e set) (zeros : P zeroSet) where
+  file-by : (text : List ℕ) → P (hadSet e text) → readOf text ≡ hadRead e text → claims.FileAsBefore e text
+  file-by text lines read =
+      file-as-before e text read
+      (by (hadRead e text .set) (read-has P zeros e text lines))
+      (by (hadFiled e text .set) (filed-has P zeros e text lines))
+
+-- what a set had: before Req 05 no rule, before Req 07 no cache costs of tasks either, before Req 08 no interrupts, and before Req 04 no
+-- 05 line
+abbrev Costless : TaskSet → Type 0
+Costless set = claims.Unruled set × claims.Uncached set
+
 abbrev Uninterrupted : TaskSet → Type 0
-Uninterrupted set = claims.Uncached set × (set .interrupts .count ≡ 0)
+Uninterrupted set = claims.Unruled set × claims.Uncached set × (set .interrupts .count ≡ 0)
 
 abbrev Plain : TaskSet → Type 0
-Plain set = claims.Uncached set × (set .interrupts .count ≡ 0) × (set .header .masked ≡ Absent)
+Plain set = claims.Unruled set × claims.Uncached set × (set .interrupts .count ≡ 0) × (set .header .masked ≡ Absent)
+
+had-unruled : (text : List ℕ) → claims.Unruled (hadSet before05 text)
+unfolding hadSet setOf
+had-unruled text = refl
 
 module _ (text : List ℕ) (uncached : claims.NoCachedLine text) where
+  had-costless : Costless (hadSet before07 text)
+  unfolding hadSet setOf
+  had-costless = (refl, had-uncached text uncached before07)
+
   had-uninterrupted : Uninterrupted (hadSet before08 text)
   unfolding hadSet setOf interruptsWith
-  had-uninterrupted = (had-uncached text uncached before08, refl)
+  had-uninterrupted = (refl, had-uncached text uncached before08, refl)
 
   had-plain : Plain (hadSet before04 text)
   unfolding hadSet setOf interruptsWith headerAt
-  had-plain = (had-uncached text uncached before04, refl, refl)
+  had-plain = (refl, had-uncached text uncached before04, refl, refl)
 
 pub files-as-before : claims.FilesAsBefore
 files-as-before =
     record {
-      cached = λ text uncached.
-          file-as-before before07 text (read-uncached text uncached)
-          (sets-as-before .cached (hadRead before07 text .set) (read-has claims.Uncached tt before07 text (had-uncached text uncached before07)))
-          (sets-as-before .cached (hadFiled before07 text .set) (filed-has claims.Uncached tt before07 text (had-uncached text uncached before07)));
-      interrupts = λ text uncached without.
-          let read = read-has Uninterrupted (tt, refl) before08 text (had-uninterrupted text uncached) in
-          let filed = filed-has Uninterrupted (tt, refl) before08 text (had-uninterrupted text uncached) in
-          file-as-before before08 text (read-now text uncached without)
-          (sets-as-before .interrupts (hadRead before08 text .set) (read .0) (read .1))
-          (sets-as-before .interrupts (hadFiled before08 text .set) (filed .0) (filed .1));
-      masked = λ text uncached without uninterrupted.
-          let read = read-has Plain (tt, refl, refl) before04 text (had-plain text uncached) in
-          let filed = filed-has Plain (tt, refl, refl) before04 text (had-plain text uncached) in
-          file-as-before before04 text (read-same text uncached without uninterrupted)
-          (sets-as-before .masked (hadRead before04 text .set) (read .0) (read .1) (read .2))
-          (sets-as-before .masked (hadFiled before04 text .set) (filed .0) (filed .1) (filed .2));
+      packed = λ text unruled. file-by claims.Unruled before05 (sets-as-before .packed) refl text (had-unruled text) (read-unruled text unruled);
+      cached = λ text unruled uncached.
+          file-by Costless before07 (λ set had. sets-as-before .cached set (had .0) (had .1)) (refl, tt) text
+          (had-costless text uncached)
+          (read-uncached text unruled uncached);
+      interrupts = λ text unruled uncached without.
+          file-by Uninterrupted before08 (λ set had. sets-as-before .interrupts set (had .0) (had .1) (had .2)) (refl, tt, refl) text
+          (had-uninterrupted text uncached)
+          (read-now text unruled uncached without);
+      masked = λ text unruled uncached without uninterrupted.
+          file-by Plain before04 (λ set had. sets-as-before .masked set (had .0) (had .1) (had .2) (had .3)) (refl, tt, refl, refl) text
+          (had-plain text uncached)
+          (read-same text unruled uncached without uninterrupted);
     }
 
--- ---- a 05 line of 0 ticks: nothing that plans looks at more of it than its ticks
+-- ---- a 05 line of 0 ticks, or a 06 line of rule 00: nothing that plans looks at more of it than its figure
 
 pub zero-as-none : claims.ZeroAsNone
-unfolding planOf planOutcome askRow countRow headerOverflows maskedOverflows lineOverflows someTooLarge widthsOf chargedOutcome figuresOutcome boardRow slotRow tightRow horizonRow horizonOf setInterrupts chargedIn serverLoads serverLoss cacheOf setFigures aloneRow fits passesWith reserveFor fullRow needed setReserves setPlacement placementOf reservesWith reservesOf cachesWith planMade planWith fit takes
+unfolding planOf planOutcome askRow countRow headerOverflows optionalOverflows lineOverflows someTooLarge widthsOf chargedOutcome figuresOutcome boardRow slotRow tightRow horizonRow horizonOf setInterrupts chargedIn serverLoads serverLoss cacheOf setFigures aloneRow fits passesWith reserveFor fullRow needed setReserves setPlacement placementOf placementBy placedBy joinBy reservesWith reservesOf cachesWith planMade planWith takes
 zero-as-none set = refl
+
+pub zero-rule-as-none : claims.ZeroRuleAsNone
+unfolding planOf planOutcome askRow countRow headerOverflows optionalOverflows lineOverflows someTooLarge widthsOf chargedOutcome figuresOutcome boardRow slotRow tightRow horizonRow horizonOf setInterrupts chargedIn serverLoads serverLoss cacheOf setFigures aloneRow fits passesWith reserveFor fullRow needed setReserves setPlacement placementOf placementBy placedBy joinBy reservesWith reservesOf cachesWith planMade planWith takes
+zero-rule-as-none set = refl

@@ -1,14 +1,14 @@
--- A text without an 03 line is read as before Req 07, without a 07 line either as before Req 08, and that, without a 05 line, as before
--- Req 04: at each line that decides, the same rows hold. Its tasks have no cache costs of their own.
+-- A text without a 06 line is read as before Req 05, without an 03 line either as before Req 07, without a 07 line either as before Req 08,
+-- and that, without a 05 line, as before Req 04: at each line that decides, the same rows hold. Without an 03 line its tasks have no cache costs of their own.
 -- Assumes nothing.
 use Prim.Native.Nat.{ℕ, zero, suc, _+_, _-_, _≤_, _<_}
 use native.Mathlib.Omega.{arith}
 use mathlib.Core.List.{List, [], _∷_, _++_, append-nil}
-use mathlib.Core.Bool.{Bool, true, false, not, cond, _&&_, or-false, and-false}
+use mathlib.Core.Bool.{Bool, true, false, not, cond, _&&_, _||_, or-false, and-false}
 use mathlib.Core.Path.{_≡_, refl, sym, _∙_, ap, ap₂, subst}
 use lib.ListN.{length, replicate}
 use lib.Seq.{take-at}
-use lib.Dec.{eqb}
+use lib.Dec.{leb, ltb, eqb}
 use borrow.Author.Tests.{eqb-true}
 use Rattle.frames.specs.declared.table.Frame.{Frame}
 use Rattle.frameread.specs.Line.{formed, closed}
@@ -22,19 +22,21 @@ use Rattle.refusals.proofs.FirstLaws.{stays}
 use Rattle.demand.specs.Load.{Every}
 use Rattle.demand.proofs.Demand.{every-snoc}
 use Rattle.tasks.specs.declared.set.Interrupt.{Interrupt}
+use Rattle.tasks.specs.declared.set.Optional.{Optional}
 use Rattle.tasks.specs.declared.set.Optional.the-variants.{Absent}
 use Rattle.tasks.specs.declared.set.Task.{Task}
 use Rattle.tasks.specs.declared.set.TaskSet.{TaskSet}
-use Rattle.tasks.specs.Set.{mostTasks, members, interruptsIn, interruptsWith, setOf, zeroTask}
+use Rattle.tasks.specs.Set.{mostTasks, mostProcessors, lastRule, givenOr, withLines, members, interruptsIn, interruptsWith, setOf, zeroTask}
 use Rattle.tasks.specs.Search.{some, firstTask, atTask}
+use Rattle.tasks.specs.declared.set.Header.{Header}
 use Rattle.taskrows.specs.Rows.{boardRow, rangeRow, interruptRow, rangeAt, figuresOutcome}
-use Rattle.taskfile.specs.File.{past, present, empty, isHeader, isTask, isMasked, isInterrupt, taskFormed, taskAt, cacheAt, lateTask, lineRow, orderRow, countLineRow, lineOutcome, headerAt, maskedAt, fileHeader, among, tasksAmong, interruptsAmong, fileTasks}
+use Rattle.taskfile.specs.File.{past, present, empty, isHeader, isTask, isMasked, isInterrupt, taskFormed, taskAt, cacheAt, lateTask, lineRow, orderRow, countLineRow, lineOutcome, headerAt, maskedAt, ruleLine, ruleAt, fileHeader, among, tasksAmong, interruptsAmong, fileTasks, fileInterrupts}
 use Rattle.taskfile.proofs.AmongLaws.{task-counts}
 use Rattle.taskfile.proofs.Lines.{clear-header}
 use Rattle.taskread.specs.Read.{answer, fileSet, readOutcome, readOf}
-use Rattle.before.specs.Earlier.{Earlier, before04, before07, before08, known, oneTooMany, isPlain}
-use Rattle.before.specs.Reading.{hadLine, hadSet, hadFigures, hadReadOutcome, hadRead}
-use Rattle.before.specs.Claims.{NoCachedLine, NoMaskedLine, NoInterruptLine, Uncached}
+use Rattle.before.specs.Earlier.{Earlier, before04, before05, before07, before08, known, oneTooMany, isPlain, maskedHeader}
+use Rattle.before.specs.Reading.{hadLine, hadSet, hadBoard, hadFigures, hadReadOutcome, hadRead}
+use Rattle.before.specs.Claims.{NoRuleLine, NoCachedLine, NoMaskedLine, NoInterruptLine, Unruled, Uncached}
 
 -- outcomes that are alike up to n are alike there
 till-same : (f g : ℕ → Outcome) (n : ℕ) → ((j : ℕ) → j < n → f (suc j) ≡ g (suc j)) → till f n ≡ till g n
@@ -58,40 +60,102 @@ till-one : (f : ℕ → Outcome) → f 1 ≡ Done → till f 1 ≡ Done
 unfolding till
 till-one f e = e
 
--- rows 5 and 6 of a set whose interrupts were known
-pub figures-same : (e : Earlier) (set : TaskSet) → interruptsIn set ≡ known e (interruptsIn set) → figuresOutcome set ≡ hadFigures e set
+-- row 5 of a header without a rule
+board-same : (h : Header) → h .rule ≡ Absent → boardRow h ≡ hadBoard h
+unfolding boardRow hadBoard
+board-same h unruled =
+    let m = not (leb 1 (h .processors) && leb (h .processors) mostProcessors) in
+    ap (λ (rule : Optional). m || (eqb (h .slot) 0 || ltb lastRule (givenOr rule 0))) unruled ∙ ap (λ (b : Bool). m || b) (or-false (eqb (h .slot) 0))
+
+-- rows 5 and 6 of a set without a rule whose interrupts were known
+pub figures-same : (e : Earlier) (set : TaskSet) → Unruled set → interruptsIn set ≡ known e (interruptsIn set) → figuresOutcome set ≡ hadFigures e set
 unfolding figuresOutcome hadFigures
-figures-same e set all =
-    ap
-    (λ (is : List Interrupt).
-    firstOf (when (boardRow (set .header)) Board)
+figures-same e set unruled all =
+    ap₂
+    (λ (board : Bool) (is : List Interrupt).
+    firstOf (when board Board)
     (firstOf (atTask Range (firstTask rangeRow (members set))) (atTask rangeAt (firstTask (interruptRow (set .header .processors)) is))))
+    (board-same (set .header) unruled)
     all
 
 -- a text whose lines refuse it as they did, and hold the set that they held
 read-by : (e : Earlier) (text : List ℕ) → till (lineOutcome text) (length text + 2) ≡ till (hadLine e text) (length text + 2) → fileSet text ≡ hadSet e text →
-    interruptsIn (hadSet e text) ≡ known e (interruptsIn (hadSet e text)) → readOf text ≡ hadRead e text
+    Unruled (hadSet e text) → interruptsIn (hadSet e text) ≡ known e (interruptsIn (hadSet e text)) → readOf text ≡ hadRead e text
 unfolding readOf readOutcome hadRead hadReadOutcome
-read-by e text lines set all =
+read-by e text lines set unruled all =
     ap₂ (λ (o : Outcome) (set : TaskSet). answer (firstOf o (figuresOutcome set)) set) lines set
-    ∙ ap (λ (o : Outcome). answer (firstOf (till (hadLine e text) (length text + 2)) o) (hadSet e text)) (figures-same e (hadSet e text) all)
+    ∙ ap (λ (o : Outcome). answer (firstOf (till (hadLine e text) (length text + 2)) o) (hadSet e text)) (figures-same e (hadSet e text) unruled all)
+
+-- ---- without a 06 line, as before Req 05
+
+-- a 06 line may stand at line 2 or 3
+later : (text : List ℕ) → 1 ≤ ruleLine text
+unfolding ruleLine
+later text = go (isMasked text 2)
+  where
+    go : (b : Bool) → 1 ≤ cond b 3 2
+    go true = omega arith
+    go false = omega arith
+
+module _ (text : List ℕ) (unruled : NoRuleLine text) where
+  -- rows 1 and 2 at a line, and so all rows there
+  line-unruled : (n : ℕ) → lineRow text (suc n) ≡ before05 .line text (suc n)
+  unfolding lineRow some
+  line-unruled n = rw (unruled (suc n) (omega arith), or-false (isInterrupt text (suc n))) refl
+
+  order-unruled : (n : ℕ) → orderRow text (suc n) ≡ before05 .order text (suc n)
+  unfolding orderRow
+  order-unruled n = rw (unruled (suc n) (omega arith), or-false (isMasked text (suc n) && not (eqb (suc n) 2))) refl
+
+  rows-unruled : (n : ℕ) → lineOutcome text (suc n) ≡ hadLine before05 text (suc n)
+  unfolding lineOutcome hadLine
+  rows-unruled n = rw (line-unruled n, order-unruled n) refl
+
+  -- the line at which a 06 line may stand is none, so the header has no rule
+  rule-unruled : ruleAt text ≡ Absent
+  unfolding ruleAt
+  rule-unruled = rw (unruled (ruleLine text) (later text)) refl
+
+  header-unruled : fileHeader text ≡ maskedHeader text
+  unfolding fileHeader
+  header-unruled = ap (withLines (headerAt text) (maskedAt text)) rule-unruled
+
+  -- the set that the lines hold
+  set-unruled : fileSet text ≡ hadSet before05 text
+  unfolding fileSet hadSet
+  set-unruled = ap (λ (h : Header). setOf h (fileTasks text) (fileInterrupts text)) header-unruled
+
+  lines-unruled : (n : ℕ) → till (lineOutcome text) n ≡ till (hadLine before05 text) n
+  lines-unruled n = till-same (lineOutcome text) (hadLine before05 text) n (λ j lt. rows-unruled j)
+
+  pub read-unruled : readOf text ≡ hadRead before05 text
+  unfolding hadSet setOf
+  read-unruled = read-by before05 text (lines-unruled (length text + 2)) set-unruled refl refl
 
 -- ---- without an 03 line, as before Req 07
 
-module _ (text : List ℕ) (uncached : NoCachedLine text) where
-  line-uncached : (n : ℕ) → lineRow text (suc n) ≡ before07 .line text (suc n)
-  unfolding lineRow some
-  line-uncached n = rw (uncached (suc n) (omega arith), or-false (isInterrupt text (suc n))) refl
+module _ (text : List ℕ) (unruled : NoRuleLine text) (uncached : NoCachedLine text) where
+  -- row 1 at a line, and so all rows there
+  line-uncached : (n : ℕ) → before05 .line text (suc n) ≡ before07 .line text (suc n)
+  line-uncached n = rw (uncached (suc n) (omega arith)) refl
 
-  rows-uncached : (n : ℕ) → lineOutcome text (suc n) ≡ hadLine before07 text (suc n)
-  unfolding lineOutcome hadLine
+  rows-uncached : (n : ℕ) → hadLine before05 text (suc n) ≡ hadLine before07 text (suc n)
+  unfolding hadLine
   rows-uncached n = rw (line-uncached n) refl
 
-  pub read-uncached : readOf text ≡ hadRead before07 text
-  unfolding fileSet hadSet
-  read-uncached =
-      read-by before07 text (till-same (lineOutcome text) (hadLine before07 text) (length text + 2) (λ j lt. rows-uncached j)) refl refl
+  -- the set that the lines hold
+  set-uncached : fileSet text ≡ hadSet before07 text
+  unfolding hadSet
+  set-uncached = set-unruled text unruled
 
+  lines-uncached : (n : ℕ) → till (lineOutcome text) n ≡ till (hadLine before07 text) n
+  lines-uncached n = lines-unruled text unruled n ∙ till-same (hadLine before05 text) (hadLine before07 text) n (λ j lt. rows-uncached j)
+
+  pub read-uncached : readOf text ≡ hadRead before07 text
+  unfolding hadSet setOf
+  read-uncached = read-by before07 text (lines-uncached (length text + 2)) set-uncached refl refl
+
+module _ (text : List ℕ) (uncached : NoCachedLine text) where
   abbrev Own : Task → Type 0
   Own t = t .cache ≡ Absent
 
@@ -115,41 +179,43 @@ module _ (text : List ℕ) (uncached : NoCachedLine text) where
 
 -- ---- without a 07 line, as before Req 08
 
-module _ (text : List ℕ) (uncached : NoCachedLine text) (without : NoInterruptLine text) where
+module _ (text : List ℕ) (unruled : NoRuleLine text) (uncached : NoCachedLine text) (without : NoInterruptLine text) where
   none-among : (n : ℕ) → interruptsAmong text n ≡ []
   unfolding among
   none-among zero = refl
   none-among (suc n) = rw (none-among n, without (suc n) (omega arith)) refl
 
-  line-now : (n : ℕ) → lineRow text (suc n) ≡ before08 .line text (suc n)
-  unfolding lineRow some
-  line-now n = rw (uncached (suc n) (omega arith), without (suc n) (omega arith), or-false (isMasked text (suc n))) refl
+  line-now : (n : ℕ) → before07 .line text (suc n) ≡ before08 .line text (suc n)
+  line-now n = rw (without (suc n) (omega arith), or-false (isMasked text (suc n))) refl
 
   never-late : (n : ℕ) → lateTask text (suc n) ≡ false
   never-late n = rw (none-among n) (and-false (isTask text (suc n)))
 
-  order-now : (n : ℕ) → orderRow text (suc n) ≡ before08 .order text (suc n)
-  unfolding orderRow
+  order-now : (n : ℕ) → before07 .order text (suc n) ≡ before08 .order text (suc n)
   order-now n = rw (never-late n, or-false (isMasked text (suc n) && not (eqb (suc n) 2))) refl
 
-  count-now : (n : ℕ) → countLineRow text (suc n) ≡ before08 .count text (suc n)
+  count-now : (n : ℕ) → before07 .count text (suc n) ≡ before08 .count text (suc n)
   unfolding countLineRow oneTooMany
   count-now n = rw (without (suc n) (omega arith), or-false (isTask text (suc n) && eqb (length (tasksAmong text n)) mostTasks)) refl
 
-  rows-now : (n : ℕ) → lineOutcome text (suc n) ≡ hadLine before08 text (suc n)
-  unfolding lineOutcome hadLine
+  rows-now : (n : ℕ) → hadLine before07 text (suc n) ≡ hadLine before08 text (suc n)
+  unfolding hadLine
   rows-now n = rw (line-now n, order-now n, count-now n) refl
 
   set-now : fileSet text ≡ hadSet before08 text
-  unfolding fileSet hadSet
-  set-now = ap (setOf (fileHeader text) (fileTasks text)) (none-among (length text))
+  unfolding hadSet
+  set-now = set-unruled text unruled ∙ ap (setOf (maskedHeader text) (fileTasks text)) (none-among (length text))
 
   lines-now : (n : ℕ) → till (lineOutcome text) n ≡ till (hadLine before08 text) n
-  lines-now n = till-same (lineOutcome text) (hadLine before08 text) n (λ j lt. rows-now j)
+  lines-now n = lines-uncached text unruled uncached n ∙ till-same (hadLine before07 text) (hadLine before08 text) n (λ j lt. rows-now j)
+
+  -- line 1 is clear now where it was
+  pub clear-now : hadLine before08 text 1 ≡ Done → lineOutcome text 1 ≡ Done
+  clear-now clear = rows-unruled text unruled 0 ∙ (rows-uncached text unruled uncached 0 ∙ (rows-now 0 ∙ clear))
 
   pub read-now : readOf text ≡ hadRead before08 text
   unfolding hadSet setOf interruptsWith
-  read-now = read-by before08 text (lines-now (length text + 2)) set-now refl
+  read-now = read-by before08 text (lines-now (length text + 2)) set-now refl refl
 
 -- ---- without a 05 line, as before Req 04
 
@@ -159,7 +225,7 @@ unfolding formed closed
 header-there [] f = true-false (sym f)
 header-there (b ∷ bs) f = refl
 
-module _ (text : List ℕ) (uncached : NoCachedLine text) (without : NoMaskedLine text) (uninterrupted : NoInterruptLine text) where
+module _ (text : List ℕ) (unruled : NoRuleLine text) (uncached : NoCachedLine text) (without : NoMaskedLine text) (uninterrupted : NoInterruptLine text) where
   -- a line is refused, and as before
   abbrev Alike : ℕ → Type 0
   Alike k = (r : Refusal) × (hadLine before08 text k ≡ Refused r) × (hadLine before04 text k ≡ Refused r)
@@ -230,7 +296,7 @@ module _ (text : List ℕ) (uncached : NoCachedLine text) (without : NoMaskedLin
       by-first none (Refused r) e =
           till-first (hadLine before08 text) (hadLine before04 text) 0 n r (till-none (hadLine before08 text)) (till-none (hadLine before04 text)) e (sym first-same ∙ e) (omega arith)
       by-first none Done e =
-          let second = second-same none (clear-header text (rows-now text uncached uninterrupted 0 ∙ e)) in
+          let second = second-same none (clear-header text (clear-now text unruled uncached uninterrupted e)) in
           till-first (hadLine before08 text) (hadLine before04 text) 1 n (second .0)
           (till-one (hadLine before08 text) e)
           (till-one (hadLine before04 text) (sym first-same ∙ e))
@@ -243,11 +309,11 @@ module _ (text : List ℕ) (uncached : NoCachedLine text) (without : NoMaskedLin
       by-tasks true none = by-first none (hadLine before08 text 1) refl
 
   set-same : hadSet before08 text ≡ hadSet before04 text
-  unfolding hadSet fileHeader maskedAt headerAt
+  unfolding hadSet maskedAt headerAt
   set-same = rw (without 2 (omega arith)) refl
 
   pub read-same : readOf text ≡ hadRead before04 text
-  unfolding hadSet setOf interruptsWith
+  unfolding hadSet setOf interruptsWith headerAt
   read-same =
-      read-by before04 text (lines-now text uncached uninterrupted (length text + 2) ∙ lines-same (length text + 2) (omega arith))
-      (set-now text uncached uninterrupted ∙ set-same) refl
+      read-by before04 text (lines-now text unruled uncached uninterrupted (length text + 2) ∙ lines-same (length text + 2) (omega arith))
+      (set-now text unruled uncached uninterrupted ∙ set-same) refl refl

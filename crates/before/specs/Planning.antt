@@ -1,5 +1,5 @@
--- Planning a set, and the two questions, as they were before a request. Every member was charged with the header's cache cost, and so was
--- every server's entry loss.
+-- Planning a set, and the two questions, as they were before a request. The members of a server were charged with its cache cost, and so
+-- was its entry loss.
 use Prim.Native.Nat.{ℕ, _+_}
 use mathlib.Core.List.{List, [], _∷_, _++_, map}
 use mathlib.Core.Bool.{Bool, not, cond, _&&_, _||_}
@@ -48,12 +48,12 @@ use Rattle.before.specs.Reading.{hadFigures}
 
 -- ---- a server
 
--- its loads and its entry loss: CpmdO is the header's
-unfoldable pub hadLoads : Header → (members : List Figures) → List Load
-hadLoads h members = map (chargedIn h (h .cpmdo)) members
+-- its loads and its entry loss
+unfoldable pub hadLoads : Earlier → Header → (members : List Figures) → List Load
+hadLoads e h members = map (chargedIn h (e .cost h members)) members
 
-unfoldable pub hadLoss : Header → ℕ
-hadLoss h = entryLoss (h .resd) (h .cpmdo)
+unfoldable pub hadLoss : Earlier → Header → (members : List Figures) → ℕ
+hadLoss e h members = entryLoss (h .resd) (e .cost h members)
 
 -- the interrupts by processor, where there were any
 unfoldable pub hadBounds : Earlier → TaskSet → List Bound
@@ -61,21 +61,21 @@ hadBounds e set = byProcessor (set .header .processors) (known e (interruptsIn s
 
 -- the demand of a server of these members
 abbrev pub hadDemand : Earlier → TaskSet → (members : List Figures) → ℕ → ℕ
-hadDemand e set members t = e .demand (set .header) (hadLoads (set .header) members) t + greatest (set .header .processors) (hadBounds e set) t
+hadDemand e set members t = e .demand (set .header) (hadLoads e (set .header) members) t + greatest (set .header .processors) (hadBounds e set) t
 
 -- the least common multiple of S and the periods of the members and the interrupts
 abbrev pub ownHad : Earlier → TaskSet → (members : List Figures) → ℕ
-ownHad e set members = ownHorizon (set .header .slot) (hadLoads (set .header) members) (hadBounds e set)
+ownHad e set members = ownHorizon (set .header .slot) (hadLoads e (set .header) members) (hadBounds e set)
 
 -- it passes with R, its smallest reserve, and the whole answer
 unfoldable pub hadPasses : Earlier → TaskSet → (members : List Figures) → (R : ℕ) → Bool
-hadPasses e set members R = passing (hadDemand e set members) (ownHad e set members) (set .header .slot) (hadLoss (set .header)) R
+hadPasses e set members R = passing (hadDemand e set members) (ownHad e set members) (set .header .slot) (hadLoss e (set .header) members) R
 
 unfoldable pub hadReserve : Earlier → TaskSet → (members : List Figures) → ℕ
-hadReserve e set members = smallestReserve (hadDemand e set members) (ownHad e set members) (set .header .slot) (hadLoss (set .header))
+hadReserve e set members = smallestReserve (hadDemand e set members) (ownHad e set members) (set .header .slot) (hadLoss e (set .header) members)
 
 unfoldable pub hadVerdict : Earlier → TaskSet → (members : List Figures) → (R : ℕ) → Verdict
-hadVerdict e set members R = verdictOf (hadDemand e set members) (ownHad e set members) (set .header .slot) (hadLoss (set .header)) R
+hadVerdict e set members R = verdictOf (hadDemand e set members) (ownHad e set members) (set .header .slot) (hadLoss e (set .header) members) R
 
 -- ---- a set
 
@@ -94,17 +94,17 @@ hadMembers e set q = chosen (setFigures set) (hadPlacement e set) q
 unfoldable pub hadReserves : Earlier → TaskSet → List ℕ
 hadReserves e set = upTo (λ (q : ℕ). hadReserve e set (hadMembers e set q)) (serversIn (hadPlacement e set))
 
--- each server's cache cost is the header's
+-- each server's cache cost
 unfoldable pub hadCaches : Earlier → TaskSet → List ℕ
-hadCaches e set = upTo (λ (q : ℕ). set .header .cpmdo) (serversIn (hadPlacement e set))
+hadCaches e set = upTo (λ (q : ℕ). e .cost (set .header) (hadMembers e set q)) (serversIn (hadPlacement e set))
 
 unfoldable pub hadMade : Earlier → TaskSet → Plan
 hadMade e set = laidOut (set .header .slot) (hadCaches e set) (hadPlacement e set) (hadReserves e set)
 
 -- 8 TIGHT: a task has RelJ ≥ D or c > d
-unfoldable pub hadTight : Header → Task → Bool
-hadTight h t =
-    let l = chargedIn h (h .cpmdo) (figuresOf h t) in
+unfoldable pub hadTight : Earlier → Header → Task → Bool
+hadTight e h t =
+    let l = chargedIn h (e .own h t) (figuresOf h t) in
     leb (t .deadline) (h .relj) || ltb (l .deadline) (l .cost)
 
 -- the horizon H: the least common multiple of S and every T of the tasks and the interrupts
@@ -117,7 +117,7 @@ unfoldable pub hadCharged : Earlier → TaskSet → Outcome
 hadCharged e set =
     firstOf (hadFigures e set)
     (firstOf (atTask Slot (firstTask (slotRow (set .header)) (members set)))
-    (firstOf (atTask Tight (firstTask (hadTight (set .header)) (members set))) (when (ltb longestHorizon (horizonHad e set)) Horizon)))
+    (firstOf (atTask Tight (firstTask (hadTight e (set .header)) (members set))) (when (ltb longestHorizon (horizonHad e set)) Horizon)))
 
 -- 13 ALONE, where there were interrupts: a server of this task alone fails with a whole processor
 unfoldable pub hadAlone : Earlier → TaskSet → Task → Bool
@@ -152,6 +152,6 @@ hadWho e set plan p x =
 unfoldable pub hadPass : Earlier → TaskSet → Plan → (q R : ℕ) → PassAnswer
 hadPass e set plan q R =
     cond
-    (hadMakes e set plan && (isServer plan q && allowed (set .header .slot) (hadLoss (set .header)) R))
+    (hadMakes e set plan && (isServer plan q && allowed (set .header .slot) (hadLoss e (set .header) (hadMembers e set q)) R))
     (passAnswer (hadVerdict e set (hadMembers e set q) R))
     (refusedPass Ask)

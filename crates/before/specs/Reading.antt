@@ -1,14 +1,17 @@
 -- Reading a task file as it was before a request.
 use Prim.Native.Nat.{ℕ, _+_}
 use mathlib.Core.List.{List}
+use mathlib.Core.Bool.{Bool, not, _&&_, _||_}
+use lib.Dec.{leb, eqb}
 use lib.ListN.{length}
 use Rattle.refusals.specs.declared.Refusal.the-variants.{Line, Order, Count, Twice, Board, Range}
 use Rattle.refusals.specs.declared.Outcome.{Outcome}
 use Rattle.refusals.specs.First.{firstOf, when, till}
+use Rattle.tasks.specs.declared.set.Header.{Header}
 use Rattle.tasks.specs.declared.set.TaskSet.{TaskSet}
-use Rattle.tasks.specs.Set.{members, interruptsIn, setOf}
+use Rattle.tasks.specs.Set.{mostProcessors, members, interruptsIn, setOf}
 use Rattle.tasks.specs.Search.{firstTask, atTask}
-use Rattle.taskrows.specs.Rows.{boardRow, rangeRow, interruptRow, rangeAt}
+use Rattle.taskrows.specs.Rows.{rangeRow, interruptRow, rangeAt}
 use Rattle.taskfile.specs.File.{twiceLineRow, fileTasks, fileInterrupts}
 use Rattle.taskread.specs.declared.read.ReadAnswer.{ReadAnswer}
 use Rattle.taskread.specs.Read.{answer}
@@ -24,10 +27,14 @@ hadLine e text k =
 unfoldable pub hadSet : Earlier → List ℕ → TaskSet
 hadSet e text = setOf (e .header text) (fileTasks text) (known e (fileInterrupts text))
 
+-- 5 BOARD: m outside 1..64, or S = 0
+unfoldable pub hadBoard : Header → Bool
+hadBoard h = not (leb 1 (h .processors) && leb (h .processors) mostProcessors) || eqb (h .slot) 0
+
 -- rows 5 and 6
 unfoldable pub hadFigures : Earlier → TaskSet → Outcome
 hadFigures e set =
-    firstOf (when (boardRow (set .header)) Board)
+    firstOf (when (hadBoard (set .header)) Board)
     (firstOf (atTask Range (firstTask rangeRow (members set)))
     (atTask rangeAt (firstTask (interruptRow (set .header .processors)) (known e (interruptsIn set)))))
 
