@@ -29,7 +29,7 @@ optionalFrom ns at = cond (eqb (numberAt ns at) 0) Absent (Given (halfAt ns (at 
 
 -- where the tasks of a set start, and where the count of the interrupts stands
 abbrev pub tasksAt : ℕ
-tasksAt = 10
+tasksAt = 12
 
 abbrev pub interruptsAt : ℕ
 interruptsAt = tasksAt + 6 * mostTasks

@@ -12,7 +12,7 @@ pub const HALF: u64 = 65_536;
 
 pub const WORD: u64 = 4_294_967_296;
 
-pub const TASKS: usize = 10;
+pub const TASKS: usize = 12;
 
 pub const INTERRUPTS: usize = TASKS + 6 * TaskSet::MOST_TASKS;
 

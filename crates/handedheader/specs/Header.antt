@@ -1,4 +1,4 @@
--- The header of a set that is handed in as numbers: its seven figures and the two of the 05 line.
+-- The header of a set that is handed in as numbers: its seven figures and the two of the 05 line and of the 06 line.
 use Prim.Native.Nat.{ℕ}
 use mathlib.Core.List.{List}
 use Rattle.tasks.specs.declared.set.Header.{Header}
@@ -15,4 +15,5 @@ headerFrom ns =
       resd = halfAt ns 6;
       cpmdo = halfAt ns 7;
       masked = optionalFrom ns 8;
+      rule = optionalFrom ns 10;
     }

@@ -1,4 +1,4 @@
-// The header of a set of numbers: its seven figures, whether there is a 05 line (0 for none) and its figure.
+// The header of a set of numbers: its seven figures, whether there is a 05 line (0 for none) and its figure, and the same of a 06 line.
 use handed::BYTE;
 use handed::HALF;
 use handed::WORD;
@@ -20,5 +20,6 @@ pub fn header_from(numbers: &[u64]) -> Header
         resd: (number_at(numbers, 6) % HALF) as u16,
         cpmdo: (number_at(numbers, 7) % HALF) as u16,
         masked: optional_from(numbers, 8),
+        rule: optional_from(numbers, 10),
     }
 }

@@ -1,5 +1,5 @@
--- The set that is handed in as numbers: its count, the seven figures of the header, the two of the 05 line, then each place of the tasks,
--- the count of the interrupts and each place of them.
+-- The set that is handed in as numbers: its count, the seven figures of the header, the two of the 05 line and of the 06 line, then
+-- each place of the tasks, the count of the interrupts and each place of them.
 use Prim.Native.Nat.{ℕ, _+_, _*_, _-_}
 use mathlib.Core.List.{List}
 use Rattle.tasks.specs.declared.set.Task.{Task}

@@ -1,6 +1,6 @@
-// The set of numbers: its count, the seven figures of the header, whether there is a 05 line (0 for none) and its figure, then id, cost,
-// deadline, period, whether there is a cache cost of its own (0 for none) and that cost of each place of the tasks, the count of the
-// interrupts, and processor, cost, deadline, period and jitter of each place of these.
+// The set of numbers: its count, the seven figures of the header, whether there is a 05 line (0 for none) and its figure, the same of a
+// 06 line, then id, cost, deadline, period, whether there is a cache cost of its own (0 for none) and that cost of each place of the
+// tasks, the count of the interrupts, and processor, cost, deadline, period and jitter of each place of these.
 use handed::BYTE;
 use handed::TASKS;
 use handed::WORD;

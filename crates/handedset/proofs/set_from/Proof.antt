@@ -5,13 +5,14 @@ use native.Mathlib.Omega.{arith}
 use borrow.Author.Needs.{needs}
 use Rattle.tasks.specs.Set.{mostTasks, zeroTask}
 use Rattle.places.proofs.PaddedLaws.{FilledWith, filled-none}
+use Rattle.handed.specs.Handed.{tasksAt}
 use Rattle.handedset.specs.Set.{taskFrom, setFrom}
 use Rattle.handed.proofs.HandedLaws.{filled-there, filled-up}
 use Rattle.handedset.proofs.set_from.Statement.{statement}
 use Rattle.handedset.proofs.set_from.Tie as tie
 
 abbrev Inv-loop : tie.InvT-loop
-Inv-loop numbers tasks₀ i₀ tasks i = (i ≤ mostTasks) × FilledWith zeroTask (λ (k : ℕ). taskFrom numbers (10 + 6 * (k - 1))) i tasks
+Inv-loop numbers tasks₀ i₀ tasks i = (i ≤ mostTasks) × FilledWith zeroTask (λ (k : ℕ). taskFrom numbers (tasksAt + 6 * (k - 1))) i tasks
 
 abbrev μ-loop : tie.MeasureT-loop
 μ-loop numbers tasks₀ i₀ tasks i = mostTasks - i
@@ -20,7 +21,7 @@ loop-holds : tie.Need-loop-holds Inv-loop μ-loop
 loop-holds c = (omega arith, filled-none _)
 
 loop-again : tie.Need-loop-again Inv-loop μ-loop
-loop-again c = (omega arith, filled-there (λ (i : ℕ). taskFrom (c .before .before .before .before .args .numbers .now) (10 + 6 * i)) (c .before .before .loop .inv .1) (omega arith) (c .task-from .ensures))
+loop-again c = (omega arith, filled-there (λ (i : ℕ). taskFrom (c .before .before .before .before .args .numbers .now) (tasksAt + 6 * i)) (c .before .before .loop .inv .1) (omega arith) (c .task-from .ensures))
 
 returns : tie.Need-returns Inv-loop μ-loop
 unfolding setFrom
