@@ -7,6 +7,14 @@ function board() {
   print "  " counted(processors, "processor", "processors") ", slots of " counted(slot, "tick", "ticks")
   print "  overheads: RelJ " jitter ", RelO " release ", CtswO " switching ", ResD " entering ", CpmdO " caching
   if (masked != "") print "  a job can hold interrupts off for " counted(masked, "tick", "ticks")
+  if (rule != "") print "  packing: " packing(rule) " (rule 0" rule ")"
+}
+
+# Which server takes a task, and in which order tasks are placed.
+function packing(rule,  fit, order) {
+  split("first fit,best fit,worst fit", fit, ",")
+  split("in file order,by falling load,by rising load", order, ",")
+  return fit[int(rule / 3) + 1] " " order[rule % 3 + 1]
 }
 
 function rota() {

@@ -19,6 +19,7 @@ function order_fault(n, text) {
   if (n == 1) return "the first line must be the header, kind 01"
   if (text ~ /^01/) return "there is one header, on line 1: take this one out"
   if (text ~ /^05/) return "the 05 line must be line 2"
+  if (text ~ /^06/) return "a file has one 06 line at most, directly behind the " (line[2] ~ /^05/ ? "05 line" : "header")
   return "all tasks stand before the first 07 line, which is line " interrupt_line[1]
 }
 

@@ -2,8 +2,10 @@
 
 function board_fault() {
   if (slot == 0) return "the slot S is 0: it must be at least 1"
+  if (board_is_good()) return "there is no packing rule " substr(line[rule_line], 3, 2) ": it must be 00 to 08"
   return "m is " processors ": it must be 1 to 64"
 }
+function board_is_good() { return slot > 0 && processors >= 1 && processors <= 64 }
 
 # Row 6, of a task, and of an interrupt.
 function range_fault(C, D, T) {
@@ -44,7 +46,7 @@ function horizon_line(  i) {
 
 function full_fault(needed) {
   return "the plan needs " needed " processors and the board has " processors ": m must be at least " needed \
-    ", or the tasks must need fewer (less C, longer D or T, lower overheads)"
+    ", or the tasks must need fewer (less C, longer D or T, lower overheads, another packing rule)"
 }
 
 function alone_fault() {

@@ -24,6 +24,7 @@ function counted(number, one, many) { return grouped(number) " " (number == 1 ? 
   jitter = field(11, 4); release = field(15, 4); switching = field(19, 4); entering = field(23, 4); caching = field(27, 4)
 }
 /^05/ { masked = field(3, 4) }
+/^06/ { rule = field(3, 2); rule_line = FNR }
 /^0[23]/ {
   tasks++
   id[tasks] = field(3, 2); cost[tasks] = field(5, 6); deadline[tasks] = field(11, 6); period[tasks] = field(17, 6)

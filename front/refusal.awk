@@ -40,7 +40,8 @@ function say_set(number, place) {
     return "the slot and the periods up to here have the least common multiple " grouped(horizon) \
       ": choose periods that divide each other"
   }
-  if (number < 11) at(1, ", the header")
+  if (number == 5 && board_is_good()) at(rule_line, "")
+  else if (number < 11) at(1, ", the header")
   if (number == 5) return board_fault()
   if (number == 10) return full_fault(place)
   return number == 11 ? question_fault() : ""

@@ -5,8 +5,8 @@
  * memory is read or written only within its length, and what is written must not overlap what is read or what else
  * is written.
  *
- * A task file is the text of documents 01 and 02: one 01 line, a 05 line or none, then 02 and 03 lines, then 07 lines or none, in
- * hexadecimal. */
+ * A task file is the text of documents 01 and 02: one 01 line, a 05 line or none, a 06 line or none, then 02 and 03 lines, then
+ * 07 lines or none, in hexadecimal. */
 #ifndef RACK_H
 #define RACK_H
 
@@ -20,10 +20,10 @@ extern "C" {
 /* No function takes more stack than this, its own return address included: reckoned from the built code, in which no
  * function calls itself and no call is indirect. What memcpy and memset take below their return address is assumed small
  * and not in it. */
-#define RACK_STACK_BYTES 53248
+#define RACK_STACK_BYTES 57344
 
 /* Of a task file no more than this is looked at, which is more than any good file has: a caller need not read on. */
-#define RACK_TASKS_BYTES 2661
+#define RACK_TASKS_BYTES 2666
 
 /* The longest text that rack_plan stores. */
 #define RACK_PLAN_BYTES 2647

@@ -1,4 +1,4 @@
-// What an archive of the tool answers to some 58,000 task files, with 05 lines and without, none with a 03 or 07 line: one line a
+// What an archive of the tool answers to some 74,000 task files, with 03, 05 and 07 lines and without, none with a 06 line: one line a
 // file, a fingerprint of its plan's bytes and of what the questions say. Two builds that answer alike print alike; tests/same
 // compares them.
 mod files;
@@ -6,7 +6,7 @@ mod files;
 mod oracle;
 mod random;
 
-use files::{damaged, good, masked, masked_anywhere};
+use files::{cached, caches_anywhere, damaged, good, interrupted, interrupts_anywhere, masked, masked_anywhere};
 use oracle::{Set, Task};
 use random::Random;
 
@@ -29,8 +29,8 @@ impl Print {
 }
 
 fn tell(file: &[u8], random: &mut Random) {
-    let later = |line: &[u8]| line.starts_with(b"03") || line.starts_with(b"07");
-    if file.split(|b| *b == b'\n').any(|line| later(line) && line.len() == 26) {
+    let ruled = |line: &[u8]| line.len() == 4 && line.starts_with(b"06");
+    if file.split(|b| *b == b'\n').any(ruled) {
         return;
     }
     let mut print = Print(0xcbf2_9ce4_8422_2325);
@@ -96,6 +96,17 @@ fn main() {
         if i % 3 == 0 {
             damaged(&mut random, &mut file);
         }
+        tell(&file, &mut random);
+    }
+    let mut random = Random(33);
+    for i in 0..8000 {
+        let (one, anywhere): (Set, fn(&mut Random, &mut Vec<u8>)) = match i % 2 {
+            0 => (cached(&mut random), caches_anywhere),
+            _ => (interrupted(&mut random), interrupts_anywhere),
+        };
+        let mut file = oracle::file(&one).into_bytes();
+        tell(&file, &mut random);
+        anywhere(&mut random, &mut file);
         tell(&file, &mut random);
     }
     let mut random = Random(17);

@@ -1,4 +1,4 @@
-// The same files, without 03 and 07 lines, planned and asked about by this build and by another one, in one run, turn by turn.
+// The same files, without 03, 06 and 07 lines, planned and asked about by this build and by another one, in one run, turn by turn.
 mod bench_files;
 mod random;
 

@@ -48,6 +48,25 @@ pub fn with_line(file: &[u8], b: u64) -> Vec<u8> {
     [&file[..31], format!("05{:04X}\n", b).as_bytes(), &file[31..]].concat()
 }
 
+// A file without a 05 line, with a 06 line behind its header.
+pub fn with_rule(file: &[u8], rule: u64) -> Vec<u8> {
+    [&file[..31], format!("06{:02X}\n", rule).as_bytes(), &file[31..]].concat()
+}
+
+// n tasks with implicit deadlines and loads from a few thousandths to twice `mean` hundredths of a processor, and what they sum to.
+pub fn shared(random: &mut Random, n: u64, mean: u64) -> (Vec<u8>, f64) {
+    let periods: Vec<u64> = (14_400..=1_000_000).filter(|d| 9_979_200 % d == 0).collect();
+    let mut text = String::from("01400005A00014000A002800280064\n");
+    let mut sum = 0.0;
+    for i in 0..n {
+        let t = random.one(&periods);
+        let c = t * random.within(mean / 2, 20 * mean - mean / 2) / 1000;
+        sum += c as f64 / t as f64;
+        text += &format!("02{:02X}{:06X}{:06X}{:06X}\n", i, c, t, t);
+    }
+    (text.into_bytes(), sum)
+}
+
 // A good file without 07 lines, its 02 lines as 03 lines, with the costs that are given.
 pub fn with_costs(file: &[u8], mut cost: impl FnMut() -> u64) -> Vec<u8> {
     let text = std::str::from_utf8(file).unwrap();

@@ -5,7 +5,7 @@ mod files;
 mod oracle;
 mod random;
 
-use files::{cached, caches, caches_anywhere, damaged, good, interrupted, interrupts, interrupts_anywhere, masked, masked_anywhere, other_slot};
+use files::{cached, caches, caches_anywhere, damaged, even, good, interrupted, interrupts, interrupts_anywhere, masked, masked_anywhere, other_slot, packed, rules_anywhere};
 use oracle::{Interrupt, Plan, Set, Task};
 use random::Random;
 use std::collections::HashSet;
@@ -53,7 +53,7 @@ fn refusal(file: &[u8]) -> usize {
 }
 
 fn examples() {
-    for name in ["a", "b", "c", "d", "e", "f", "g", "h1", "h2", "i", "j", "k", "m", "n1", "n2", "o", "p1", "p2", "q"] {
+    for name in ["a", "b", "c", "d", "e", "f", "g", "h1", "h2", "i", "j", "k", "m", "n1", "n2", "o", "p1", "p2", "q", "r0", "r1", "r3", "r6"] {
         let file = std::fs::read(format!("examples/{}.tasks", name)).unwrap();
         let plan = std::fs::read(format!("examples/{}.plan", name)).unwrap();
         assert_eq!(plan_text(&file), plan, "example {}", name);
@@ -599,6 +599,288 @@ fn cached_reserves() {
     assert!(unlike > 500, "only {} reserves were allowed for one server and not for another", unlike);
 }
 
+// The set with another 06 line, or with none.
+fn ruled(set: &Set, rule: Option<u64>) -> Set {
+    Set { rule, ..set.clone() }
+}
+
+// Each set by every rule, and without a 06 line, which gives the plan of rule 00.
+fn ruled_files() {
+    let mut random = Random(51);
+    let (mut seen, mut unlike) = ([0u32; 14], [0u32; 9]);
+    for _ in 0..1500 {
+        let set = packed(&mut random);
+        let none = plan_text(oracle::file(&ruled(&set, None)).as_bytes());
+        for rule in 0..9 {
+            let file = oracle::file(&ruled(&set, Some(rule))).into_bytes();
+            same_plan(&file);
+            unlike[rule as usize] += (plan_text(&file) != none) as u32;
+        }
+        seen[refusal(oracle::file(&set).as_bytes())] += 1;
+    }
+    assert!(seen[0] > 700 && seen[10] > 100 && seen[13] > 20, "refusals: {:?}", seen);
+    assert_eq!(unlike[0], 0);
+    assert!(unlike[1..].iter().all(|n| *n > 200), "files with another plan than by rule 00: {:?}", unlike);
+}
+
+// Sets of few loads by every rule: tasks of one load in unlike figures, servers with the same room, tasks that weigh more than their
+// load says, and costs that a task brings into a server.
+fn even_files() {
+    let mut random = Random(52);
+    let (mut alike, mut level, mut heavier, mut dearer) = (0, 0, 0, 0);
+    for i in 0..6000 {
+        let set = ruled(&even(&mut random), Some(i % 9));
+        same_plan(oracle::file(&set).as_bytes());
+        let plan = match oracle::plan(&set) {
+            Ok(plan) => plan,
+            Err(_) => continue,
+        };
+        let pairs = || set.tasks.iter().flat_map(|a| set.tasks.iter().map(move |b| (a, b)));
+        let charged = |t: &Task| t.c + set.relo + set.cache(t);
+        alike += pairs().any(|(a, b)| a.c * b.t == b.c * a.t && a.t != b.t) as u32;
+        heavier += pairs().any(|(a, b)| a.c * b.t < b.c * a.t && charged(a) * b.t > charged(b) * a.t) as u32;
+        let rooms: Vec<u128> = plan.servers.iter().map(|server| oracle::room(server, 120)).collect();
+        level += (rooms.len() > 2 && rooms.iter().collect::<HashSet<_>>().len() < rooms.len()) as u32;
+        dearer += (plan.servers.iter().map(|server| server.cache).collect::<HashSet<_>>().len() > 1) as u32;
+    }
+    assert!(alike > 2000, "only {} sets with tasks of one load in unlike figures", alike);
+    assert!(level > 1000, "only {} plans with servers of the same room", level);
+    assert!(heavier > 400, "only {} sets with a task that outweighs one of more load", heavier);
+    assert!(dearer > 400, "only {} plans with servers of several costs", dearer);
+}
+
+// The servers of a set's tasks, as its 13 lines say, which stand in file order.
+fn placement(set: &Set) -> Vec<u64> {
+    let text = String::from_utf8(plan_text(oracle::file(set).as_bytes())).unwrap();
+    let number = |digits: &str| u64::from_str_radix(digits, 16).unwrap();
+    let lines: Vec<&str> = text.lines().filter(|l| l.starts_with("13")).collect();
+    assert!(lines.iter().map(|l| number(&l[2..4])).eq(set.tasks.iter().map(|t| t.id)), "{}", text);
+    lines.iter().map(|l| number(&l[4..6])).collect()
+}
+
+// Tasks of the C, T and cache cost given, D = T, ids from 9 down.
+fn tasks_of(figures: &[(u64, u64, Option<u64>)]) -> Vec<Task> {
+    figures.iter().zip((0..10).rev()).map(|((c, t, cache), id)| Task { id, c: *c, d: *t, t: *t, cache: *cache }).collect()
+}
+
+// The servers of some tasks, worked out by hand, by each of the nine rules. Without overheads a server is full where the loads of its
+// tasks add up to 1.
+fn by_hand() {
+    // C and T of each task, then the rules by which they are placed so.
+    let cases: [(&[(u64, u64)], &[(&[u64], &[u64])]); 5] = [
+        // Tenths: 6, 5, 3, 4, 2.
+        (
+            &[(36, 60), (30, 60), (18, 60), (24, 60), (12, 60)],
+            &[(&[0, 3, 7], &[1, 2, 1, 2, 3]), (&[1, 4, 6], &[1, 2, 2, 1, 2]), (&[2, 5, 8], &[3, 2, 1, 1, 1])],
+        ),
+        // 5, 7, 3, 5: best fit leaves the room that the last one needs.
+        (
+            &[(30, 60), (42, 60), (18, 60), (30, 60)],
+            &[(&[0, 6], &[1, 2, 1, 3]), (&[3], &[1, 2, 2, 1]), (&[1, 4, 7], &[2, 1, 1, 2]), (&[2, 5, 8], &[1, 3, 1, 2])],
+        ),
+        // 1/2 three times, as 30/60, 60/120 and 30/60: equal loads in file order, either way.
+        (&[(30, 60), (60, 120), (30, 60)], &[(&[0, 1, 2, 3, 4, 5, 6, 7, 8], &[1, 1, 2])]),
+        // 6, 6, 2: two servers with the same room, the lower one takes it. By rising load 2 comes first, then a 6 joins it.
+        (&[(36, 60), (36, 60), (12, 60)], &[(&[0, 1, 3, 4, 6, 7], &[1, 2, 1]), (&[2, 5, 8], &[1, 2, 1])]),
+        // 7, 6, 6 and 1, as 1/10 and 2/20: best fit fills server 1, worst fit goes to servers 2 and 3.
+        (
+            &[(42, 60), (36, 60), (72, 120), (6, 60), (12, 120)],
+            &[(&[0, 1, 3, 4], &[1, 2, 3, 1, 1]), (&[6, 7], &[1, 2, 3, 2, 3]), (&[2, 5, 8], &[3, 1, 2, 1, 1])],
+        ),
+    ];
+    for (tasks, placed) in cases {
+        let tasks = tasks_of(&tasks.iter().map(|(c, t)| (*c, *t, None)).collect::<Vec<_>>());
+        let set = Set { m: 64, s: 60, tasks, ..Set::default() };
+        let mut rules: Vec<u64> = vec![];
+        for (those, servers) in placed {
+            for rule in those.iter() {
+                assert_eq!(placement(&ruled(&set, Some(*rule))), *servers, "rule {}\n{}", rule, oracle::file(&set));
+                rules.push(*rule);
+            }
+        }
+        rules.sort();
+        assert_eq!(rules, (0..9).collect::<Vec<u64>>());
+    }
+    // 10/20 is less than 31/60; with RelO 2 it would be 12/20 against 33/60, which is more. Neither has room beside the other.
+    let set = Set { m: 64, s: 20, relo: 2, tasks: tasks_of(&[(10, 20, None), (31, 60, None)]), ..Set::default() };
+    for rule in 0..9 {
+        assert_eq!(placement(&ruled(&set, Some(rule))), if rule % 3 == 1 { [2, 1] } else { [1, 2] }, "rule {}", rule);
+    }
+    // Servers of 36 and of 26 + 9: rooms of 24 and 25. The last task has a cache cost of 3, which would leave 21 and 19.
+    let tasks = tasks_of(&[(36, 60, None), (26, 60, None), (9, 60, None), (4, 60, Some(3))]);
+    let set = Set { m: 64, s: 60, rule: Some(6), tasks, ..Set::default() };
+    assert_eq!(placement(&set), [1, 2, 2, 2]);
+    // Servers of 36 and of 25 + 8, a cost of 2 for the 25: both are charged with it, so the rooms are 24 and 23. By each task's own cost
+    // they would be 24 and 25.
+    let tasks = tasks_of(&[(36, 60, None), (25, 60, Some(2)), (8, 60, None), (2, 60, None)]);
+    assert_eq!(placement(&Set { tasks, ..set }), [1, 2, 2, 1]);
+}
+
+// Loads that differ by a millionth or less, and rooms of millions of ticks.
+fn near_loads() {
+    let mut random = Random(53);
+    let periods: Vec<u64> = (100_000..=1_000_000).filter(|d| 10_000_000 % d == 0).collect();
+    let mut unlike = [0u32; 9];
+    for _ in 0..120 {
+        let shares: Vec<u64> = (0..random.within(2, 4)).map(|_| random.within(50_000, 500_000)).collect();
+        let tasks = (0..random.within(6, 24)).map(|id| {
+            let t = random.one(&periods);
+            Task { id, c: t * random.one(&shares) / 1_000_000 + random.within(0, 1), d: t, t, cache: None }
+        });
+        let set = Set { m: 64, s: 100, tasks: tasks.collect(), ..Set::default() };
+        let none = plan_text(oracle::file(&set).as_bytes());
+        for rule in 0..9 {
+            let file = oracle::file(&ruled(&set, Some(rule))).into_bytes();
+            same_plan(&file);
+            unlike[rule as usize] += (plan_text(&file) != none) as u32;
+        }
+    }
+    assert!(unlike[0] == 0 && unlike[1..].iter().all(|n| *n > 10), "files with another plan than by rule 00: {:?}", unlike);
+}
+
+// 06 lines anywhere, 05, 03 and 07 lines too, whole and damaged: on line 1, before the 05 line, twice, behind a task, with no task.
+fn rule_lines() {
+    let mut random = Random(54);
+    let mut seen = [0u32; 14];
+    for i in 0..16000 {
+        let set = match i % 5 {
+            0 => good(&mut random),
+            1 => masked(&mut random),
+            2 => Set { tasks: vec![], ..masked(&mut random) },
+            3 => ruled(&cached(&mut random), None),
+            _ => packed(&mut random),
+        };
+        let mut file = oracle::file(&set).into_bytes();
+        rules_anywhere(&mut random, &mut file);
+        if i % 6 == 0 {
+            masked_anywhere(&mut random, &mut file);
+        }
+        if i % 4 == 0 {
+            damaged(&mut random, &mut file);
+        }
+        if i % 7 == 0 {
+            file.truncate(random.within(0, 60) as usize);
+        }
+        same_plan(&file);
+        seen[refusal(&file)] += 1;
+    }
+    for number in [0, 1, 2, 3, 5, 10, 13] {
+        assert!(seen[number] > 10, "hardly a file met refusal {}: {:?}", number, seen);
+    }
+}
+
+// A 06 line put in at every line of a file, with a 05 line and without, with 07 lines and without: whole, twice, with every number of
+// interest, and damaged. It may stand at line 2, or at line 3 where line 2 is a 05 line; at line 2 a 05 line behind it is out of order.
+fn rule_lines_one_by_one() {
+    for (line, interrupts) in [(None, 0), (Some(2), 0), (None, 2), (Some(0), 2)] {
+        let set = Set { masked: line, interrupts: vec![LIGHT; interrupts], ..three_tasks(2) };
+        let lines: Vec<String> = oracle::file(&set).lines().map(|line| format!("{}\n", line)).collect();
+        let own = if line.is_some() { 2 } else { 1 };
+        for at in 0..=lines.len() {
+            let put = |text: &str| [lines[..at].concat(), text.to_string(), lines[at..].concat()].concat();
+            let meets = |text: &str, number: usize, place: usize| {
+                let file = put(text);
+                same_plan(file.as_bytes());
+                let got = String::from_utf8(plan_text(file.as_bytes())).unwrap();
+                let expected = format!("1F{:02X}{:02X}\n", number, place);
+                assert!(if number == 0 { got.starts_with("11") } else { got == expected }, "{}\n{}", file, got);
+            };
+            for damaged in ["06\n", "060\n", "06000\n", "0600000\n", "060a\n", "060G\n", "06 0\n", " 0600\n", "0600 \n", "0600\r\n", "0600", "600\n"] {
+                meets(damaged, 1, at + 1);
+            }
+            for (text, rule) in [("0600\n", 0), ("0604\n", 4), ("0608\n", 8), ("0609\n", 9), ("060A\n", 10), ("0610\n", 16), ("06FF\n", 255)] {
+                let twice = [text, "0600\n"].concat();
+                if at == own {
+                    meets(text, if rule > 8 { 5 } else { 0 }, 0);
+                    meets(&twice, 2, at + 2);
+                } else if at == 1 {
+                    meets(text, 2, 3);
+                    meets(&twice, 2, 3);
+                } else {
+                    meets(text, 2, at + 1);
+                    meets(&twice, 2, at + 1);
+                }
+            }
+        }
+        // With no task the line after the last is named, wherever that is.
+        let none = Set { tasks: vec![], ..set };
+        for rule in [0, 8, 9, 255] {
+            refused(&ruled(&none, Some(rule)), 3, 3 + own - 1 + interrupts);
+        }
+    }
+    refused(&ruled(&Set { tasks: vec![], ..three_tasks(1) }, Some(3)), 3, 3);
+    for file in ["0600\n", "0600", "06", "0609\n0609\n", "050001\n0600\n"] {
+        same_plan(file.as_bytes());
+    }
+}
+
+// Every number that a 06 line can carry, among the rows before and after: lines first, then a number above 08 as m and S, then tasks.
+fn every_rule() {
+    for rule in 0..=255 {
+        let set = ruled(&three_tasks(2), Some(rule));
+        let file = oracle::file(&set).into_bytes();
+        same_plan(&file);
+        assert_eq!(refusal(&file), if rule > 8 { 5 } else { 0 });
+        for wrong in [Set { m: 0, ..set.clone() }, Set { m: 65, ..set.clone() }, Set { s: 0, ..set.clone() }] {
+            refused(&wrong, 5, 0);
+        }
+        for place in 0..3 {
+            let mut wrong = set.clone();
+            wrong.tasks[place].c = 0;
+            refused(&wrong, if rule > 8 { 5 } else { 6 }, if rule > 8 { 0 } else { place + 1 });
+        }
+        let mut wrong = set.clone();
+        wrong.tasks[2].id = wrong.tasks[0].id;
+        refused(&wrong, 4, 5);
+        refused(&ruled(&Set { masked: Some(1), ..wrong }, Some(rule)), 4, 6);
+        let late = [&file[..], b"0600\n"].concat();
+        assert_eq!(plan_text(&late), b"1F0206\n");
+        same_plan(&late);
+    }
+}
+
+// The longest files: 64 tasks of 03 lines and 32 interrupts behind a 05 line and a 06 line, and what is past them.
+fn longest_files() {
+    for (line, rule) in [(None, Some(5)), (Some(1), Some(7)), (Some(1), Some(9)), (Some(1), None)] {
+        for (count, interrupts) in [(64, 32), (64, 33), (65, 32), (63, 32), (64, 31)] {
+            let tasks = (0..count).map(|id| Task { id, c: 1, d: 700, t: 720, cache: Some(id % 4) }).collect();
+            let interrupts = vec![Interrupt { t: 720, ..LIGHT }; interrupts];
+            let set = Set { m: 64, s: 20, masked: line, rule, tasks, interrupts, ..Set::default() };
+            let file = oracle::file(&set).into_bytes();
+            same_plan(&file);
+            assert_eq!(plan_text(&file), plan_text(&file[..file.len().min(LOOKED_AT)]));
+            for more in ["0", "0600\n", "0240000001000064000064\n", "070100000100003200006400000"] {
+                let file = [&file[..], more.as_bytes()].concat();
+                same_plan(&file);
+                assert_eq!(plan_text(&file), plan_text(&file[..file.len().min(LOOKED_AT)]));
+            }
+            if line.is_some() && rule.is_some() && count == 64 && set.interrupts.len() == 32 {
+                assert_eq!(file.len() + 31, LOOKED_AT);
+            }
+        }
+    }
+}
+
+fn ruled_lengths() {
+    let mut random = Random(55);
+    let (mut asked, mut several) = (0, 0);
+    while asked < 600 {
+        let mut set = Set { masked: random.one(&[0, 0, 1, 4]).checked_sub(1), ..small(&mut random) };
+        if random.next() % 4 == 0 {
+            interrupts(&mut random, &mut set, 3);
+        }
+        if random.next() % 2 == 0 {
+            other_slot(&mut random, &mut set);
+            caches(&mut random, &mut set);
+        }
+        set.rule = Some(random.within(1, 8));
+        let mut servers = 0;
+        asked += every_length(&set, |plan, _, _, _| servers = plan.servers.len()) as u32;
+        several += (servers > 1) as u32;
+    }
+    assert!(several > 250, "only {} plans with several servers", several);
+}
+
 fn damaged_files() {
     let mut random = Random(12);
     let mut seen = [0u32; 14];
@@ -614,7 +896,7 @@ fn damaged_files() {
 }
 
 // RACK_TASKS_BYTES of include/rack.h.
-const LOOKED_AT: usize = 2661;
+const LOOKED_AT: usize = 2666;
 
 // Past the last task that fits, whatever follows, the answer is that of the bytes that are looked at.
 fn long_files() {
@@ -658,7 +940,7 @@ fn who_runs() {
     let mut random = Random(14);
     let mut asked = 0;
     while asked < 400 {
-        let set = [good, interrupted, cached][asked % 3](&mut random);
+        let set = [good, interrupted, cached, packed][asked % 4](&mut random);
         let file = oracle::file(&set).into_bytes();
         let plan = match oracle::plan(&set) {
             Ok(plan) => plan,
@@ -684,7 +966,7 @@ fn does_pass() {
     let mut random = Random(15);
     let mut asked = 0;
     while asked < 1000 {
-        let set = if asked % 2 == 0 { good(&mut random) } else { interrupted(&mut random) };
+        let set = [good, interrupted, packed][asked % 3](&mut random);
         let plan = match oracle::plan(&set) {
             Ok(plan) => plan,
             Err(_) => continue,
@@ -723,10 +1005,12 @@ fn long_horizons() {
             set.cpmdo = costs.within(0, 9);
             set.tasks.iter_mut().for_each(|t| t.cache = costs.one(&[0, 1, 1 + costs.0 % 20, 1 + costs.0 % 300]).checked_sub(1));
         }
+        set.rule = (i as u64 % 10).checked_sub(1);
         let (file, plan) = match oracle::plan(&set) {
             Ok(plan) => (oracle::file(&set).into_bytes(), plan),
             Err(_) => continue,
         };
+        assert_eq!(plan_text(&file), oracle::text(&set, &plan).into_bytes(), "{}", oracle::file(&set));
         for (q, (server, own)) in plan.servers.iter().zip(&plan.reserves).enumerate() {
             let mut reserves = vec![own - 1, *own, own + 1, set.s];
             reserves.extend((0..8).map(|_| random.within(1, set.s)));
@@ -794,6 +1078,15 @@ fn main() {
         ("one cost for all in 03 lines", costs_of_all),
         ("does it pass with 03 lines, at every length", cached_lengths),
         ("does it pass with 03 lines, every reserve", cached_reserves),
+        ("files by every rule", ruled_files),
+        ("few loads by every rule", even_files),
+        ("by every rule, by hand", by_hand),
+        ("loads close to each other", near_loads),
+        ("06 lines everywhere", rule_lines),
+        ("06 lines one by one", rule_lines_one_by_one),
+        ("every number of a rule", every_rule),
+        ("the longest files", longest_files),
+        ("does it pass by every rule, at every length", ruled_lengths),
         ("damaged files", damaged_files),
         ("long files", long_files),
         ("short buffers", short_buffers),

@@ -118,6 +118,50 @@ pub fn cached(random: &mut Random) -> Set {
     set
 }
 
+// A set of few loads: many tasks have the same, in figures that differ, as 1/2 and 2/4, and servers fill up alike. Half of the sets
+// have overheads, by which a short period weighs more than its load says; half of them costs by task, mostly of a few ticks.
+pub fn even(random: &mut Random) -> Set {
+    let s = random.one(&[4, 5, 10, 20]);
+    let mut set = Set { m: random.one(&[64, 64, 64, 3]), s, ..Set::default() };
+    let loads: Vec<u64> = (0..random.within(1, 4)).map(|_| random.within(1, 12)).collect();
+    let late = random.next() % 2 == 0;
+    for id in 0..random.within(2, 18) {
+        let t = 20 * random.one(&[1, 1, 2, 3, 6]);
+        let c = t / 20 * random.one(&loads);
+        let d = if late && random.next() % 2 == 0 { random.within(s.max(c), t) } else { t };
+        set.tasks.push(Task { id, c, d, t, cache: None });
+    }
+    if random.next() % 2 == 0 {
+        set.relo = random.within(0, 2);
+        set.cpmdo = random.within(0, 2);
+    }
+    match random.next() % 6 {
+        0 => caches(random, &mut set),
+        1 | 2 => set.tasks.iter_mut().for_each(|t| t.cache = random.one(&[0, 1, 1, 2, 3, 5]).checked_sub(1)),
+        _ => (),
+    }
+    set
+}
+
+// A set of any kind with a 06 line of any rule, with a 05 line or without, with 03 lines or without, with interrupts or without.
+pub fn packed(random: &mut Random) -> Set {
+    let mut set = match random.next() % 8 {
+        0 => good(random),
+        1 => masked(random),
+        2 => interrupted(random),
+        3 => cached(random),
+        4 => Set { masked: Some(random.within(0, 3)), ..even(random) },
+        5 => {
+            let mut set = even(random);
+            interrupts(random, &mut set, 3);
+            set
+        }
+        _ => even(random),
+    };
+    set.rule = Some(random.within(0, 8));
+    set
+}
+
 // Where a file's lines start, and its end where a line ends there.
 fn line_starts(file: &[u8]) -> Vec<usize> {
     (0..=file.len()).filter(|at| *at == 0 || file[*at - 1] == b'\n').collect()
@@ -129,6 +173,25 @@ pub fn masked_anywhere(random: &mut Random, file: &mut Vec<u8>) {
         let lines = line_starts(file);
         let at = lines[random.within(0, lines.len().min(6) as u64 - 1) as usize];
         let line = format!("05{:0width$X}\n", random.within(0, 255), width = [4, 4, 4, 4, 3, 5][random.within(0, 5) as usize]);
+        file.splice(at..at, line.into_bytes());
+    }
+}
+
+// 06 lines put in at any of the first lines, mostly where one may stand, some of them a digit short or long, in lower case, without
+// their LF, or with a number that no rule has.
+pub fn rules_anywhere(random: &mut Random, file: &mut Vec<u8>) {
+    for _ in 0..random.within(1, 2) {
+        let lines = line_starts(file);
+        let most = random.one(&[2, 3, 6]).min(lines.len() as u64);
+        let at = lines[random.within(most / 2, most - 1) as usize];
+        let rule = if random.next() % 8 == 0 { random.one(&[9, 10, 0xFF]) } else { random.within(0, 8) };
+        let width = if random.next() % 8 == 0 { random.one(&[1, 3]) as usize } else { 2 };
+        let mut line = format!("06{:0width$X}\n", rule, width = width);
+        match random.next() % 16 {
+            0 => line = line.to_lowercase(),
+            1 => drop(line.pop()),
+            _ => (),
+        }
         file.splice(at..at, line.into_bytes());
     }
 }

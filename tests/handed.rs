@@ -4,7 +4,7 @@ mod files;
 mod oracle;
 mod random;
 
-use files::{cached, good, interrupted, masked};
+use files::{cached, good, interrupted, masked, packed};
 use oracle::{Interrupt, Plan, Refusal, Set, Task};
 use random::Random;
 use std::sync::atomic::{AtomicUsize, Ordering};
@@ -20,7 +20,7 @@ extern "C" {
 }
 
 // where a set's tasks start among its numbers, where the number of its interrupts stands, how many these numbers are, and a plan's
-const FIRST: usize = 10;
+const FIRST: usize = 12;
 const INTERRUPTS: usize = FIRST + 6 * 64;
 const SET: usize = INTERRUPTS + 1 + 5 * 32;
 const PLAN: usize = 5 + 68 * 64 + 64 + 2 * 64;
@@ -90,8 +90,8 @@ fn bits(i: usize) -> u32 {
         0 => 64,
         1 => 8,
         2 => 32,
-        3..=7 | 9 => 16,
-        8 | INTERRUPTS => 64,
+        3..=7 | 9 | 11 => 16,
+        8 | 10 | INTERRUPTS => 64,
         _ if i < INTERRUPTS => [8, 32, 32, 32, 64, 16][(i - FIRST) % 6],
         _ => [8, 32, 32, 32, 16][(i - INTERRUPTS - 1) % 5],
     }
@@ -176,7 +176,7 @@ impl Case {
 // A set as numbers, its unused room at zero.
 fn numbers_of(set: &Set) -> Vec<u64> {
     let mut numbers = vec![set.tasks.len() as u64, set.m, set.s, set.relj, set.relo, set.ctswo, set.resd, set.cpmdo];
-    numbers.extend([set.masked.is_some() as u64, set.b()]);
+    numbers.extend([set.masked.is_some() as u64, set.b(), set.rule.is_some() as u64, set.packing()]);
     set.tasks.iter().for_each(|t| numbers.extend([t.id, t.c, t.d, t.t, t.cache.is_some() as u64, t.cache.unwrap_or(0)]));
     numbers.resize(INTERRUPTS, 0);
     numbers.push(set.interrupts.len() as u64);
@@ -191,12 +191,13 @@ fn junk(random: &mut Random, at: usize) -> u64 {
     random.one(&[1, most, random.0 & most, random.0 % 100])
 }
 
-// A set with a 05 line or without, with 03 lines or without, with interrupts or without.
+// A set with a 05 line or without, with a 06 line or without, with 03 lines or without, with interrupts or without.
 fn any(random: &mut Random) -> Set {
-    match random.next() % 6 {
+    match random.next() % 9 {
         0 => good(random),
         1 => masked(random),
         2 | 3 => cached(random),
+        4 | 5 | 6 => packed(random),
         _ => interrupted(random),
     }
 }
@@ -213,11 +214,11 @@ fn planned(random: &mut Random, tasks: usize) -> (Set, Case) {
     panic!("no set with a plan was found");
 }
 
-// 64 tasks with a plan, half of them with a cache cost of their own.
+// 64 tasks with a plan by best fit, half of them with a cache cost of their own.
 fn full(random: &mut Random) -> Set {
     let caches = [None, Some(0), None, Some(2)];
     let tasks = (0..64).map(|i| Task { id: 255 - i * 3, c: random.within(1, 20), d: 100, t: 100, cache: caches[i as usize % 4] }).collect();
-    Set { m: 64, s: 10, cpmdo: 1, tasks, ..Set::default() }
+    Set { m: 64, s: 10, cpmdo: 1, rule: Some(3), tasks, ..Set::default() }
 }
 
 // The first of them, with 32 interrupts.
@@ -230,7 +231,7 @@ fn crowded(random: &mut Random, tasks: usize) -> Set {
 
 fn examples() {
     let mut random = Random(21);
-    for name in ["a", "b", "c", "d", "e", "f", "g", "h1", "h2", "i", "j", "k", "m", "n1", "n2", "o", "p1", "p2", "q"] {
+    for name in ["a", "b", "c", "d", "e", "f", "g", "h1", "h2", "i", "j", "k", "m", "n1", "n2", "o", "p1", "p2", "q", "r0", "r1", "r3", "r6"] {
         let set = oracle::read(&std::fs::read(format!("examples/{}.tasks", name)).unwrap()).unwrap();
         Case::of(numbers_of(&set)).all(&mut random);
     }
@@ -359,13 +360,15 @@ fn broken_rows() {
                 t.t = 999_983;
             }
             if breaks(10) {
+                // Three tasks that each fill all time up to their deadline.
                 set.m = 1;
-                set.tasks.iter_mut().take(3).for_each(|t| t.c = t.d);
+                let (overheads, cpmdo) = (set.relj + set.relo + 2 * set.ctswo, set.cpmdo);
+                set.tasks.iter_mut().take(3).for_each(|t| t.c = t.d.saturating_sub(overheads + t.cache.unwrap_or(cpmdo)).max(1));
             }
             if breaks(5) {
                 match round {
-                    0 => set.m = 0,
-                    1 => set.m = 65,
+                    0 => set.m = if breaks(6) { 0 } else { 65 },
+                    1 => set.rule = Some(if breaks(6) { 9 } else { 255 }),
                     2 => set.s = 0,
                     _ => (set.m, set.s) = (255, 0),
                 }
@@ -376,6 +379,7 @@ fn broken_rows() {
                     1 if which >= 128 => set.interrupts[task() % 4].d = 0x100_0000,
                     1 => set.s = 0x100_0000,
                     2 => set.tasks[4].id = set.tasks[0].id,
+                    _ if breaks(7) => set.rule = Some(256),
                     _ => set.tasks.clear(),
                 }
             }
@@ -398,6 +402,9 @@ fn unused_room() {
         let used = INTERRUPTS + 1 + 5 * set.interrupts.len();
         for at in (FIRST + 6 * set.tasks.len()..INTERRUPTS).chain(used..SET) {
             numbers[at] = junk(&mut random, at);
+        }
+        if set.rule.is_none() {
+            numbers[11] = junk(&mut random, 11);
         }
         let case = Case::of(numbers);
         assert_eq!(case.figures, clean.figures);
@@ -445,7 +452,7 @@ fn other_plans() {
     for _ in 0..200 {
         let (mut set, case) = planned(&mut random, 2);
         case.with(&last.made(), &mut random);
-        match random.next() % 9 {
+        match random.next() % 11 {
             0 => set.m = random.within(1, 64),
             1 => set.tasks[1].c += 1,
             2 => set.cpmdo += 1,
@@ -454,6 +461,8 @@ fn other_plans() {
             5 => set.interrupts.truncate(1),
             6 => set.tasks[1].cache = Some(set.cache(&set.tasks[1])),
             7 => set.tasks[1].cache = [None, Some(0), Some(set.cpmdo + 1)][random.next() as usize % 3],
+            8 => set.rule = if set.packing() == 0 { set.rule.map_or(Some(0), |_| None) } else { Some(0) },
+            9 => set.rule = Some(random.within(0, 9)),
             _ => set.tasks.reverse(),
         }
         let other = Case::of(numbers_of(&set));
@@ -466,6 +475,54 @@ fn other_plans() {
         last = case;
     }
     assert!(kept > 10 && refused > 10, "{} plans kept, {} refused", kept, refused);
+}
+
+// Every number of a rule of interest behind every mark of a 06 line. Without the mark the number does not count; 9 to 255 is a line
+// that no plan comes from, and what is above fits no line.
+fn rules() {
+    let mut random = Random(31);
+    let mut unlike = 0;
+    for i in 0..6 {
+        let set = if i == 0 { full(&mut random) } else { planned(&mut random, 6).0 };
+        let none = Case::of(numbers_of(&Set { rule: None, ..set.clone() }));
+        for (mark, rule) in [0, 1, 2, u64::MAX].iter().flat_map(|mark| {
+            let rules = (0..=10).chain([15, 16, 127, 128, 254, 255, 256, 257, 264, 4096, 65_535, 65_536, 65_540, u64::MAX]);
+            rules.map(move |rule| (*mark, rule))
+        }) {
+            let mut numbers = none.numbers.clone();
+            (numbers[10], numbers[11]) = (mark, rule);
+            let case = Case::of(numbers);
+            match rule & 0xFFFF {
+                _ if mark == 0 => assert_eq!((&case.set, &case.figures), (&none.set, &none.figures)),
+                0 => assert_eq!(case.figures, none.figures),
+                1..=8 => unlike += (case.figures != none.figures) as u32,
+                9..=255 => assert_eq!(case.plan.as_ref().err(), Some(&(5, 0))),
+                _ => assert_eq!(case.set.as_ref().err(), Some(&(11, 0))),
+            }
+            if mark < 2 || rule % 4 == 0 {
+                case.all(&mut random);
+                case.with(&none.made(), &mut random);
+            }
+        }
+    }
+    assert!(unlike > 40, "only {} plans were others than without a 06 line", unlike);
+}
+
+// Texts with 06 lines, read and written again: they keep their bytes, and rule 00 with its line is another text than without.
+fn texts() {
+    let mut random = Random(32);
+    for _ in 0..200 {
+        let set = packed(&mut random);
+        for rule in [None, Some(0), Some(8), set.rule] {
+            let text = oracle::file(&Set { rule, ..set.clone() });
+            let read = oracle::read(text.as_bytes()).unwrap();
+            assert_eq!(read.rule, rule);
+            let (case, numbers) = (Case::of(numbers_of(&read)), numbers_of(&read));
+            let (p, n) = (numbers.as_ptr(), numbers.len());
+            same_text(Ok(&text), |out, room, length| unsafe { handed_write(p, n, out, room, length) }, "a text written again");
+            case.alone();
+        }
+    }
 }
 
 // Slices that end early, and numbers wider than their field's type.
@@ -491,7 +548,7 @@ fn short_and_wide() {
 }
 
 fn main() {
-    let tests: [(&str, fn()); 10] = [
+    let tests: [(&str, fn()); 12] = [
         ("examples handed in", examples),
         ("good sets", good_sets),
         ("counts of tasks and interrupts", counts),
@@ -501,6 +558,8 @@ fn main() {
         ("unused room", unused_room),
         ("altered plans", altered_plans),
         ("plans of other sets", other_plans),
+        ("rules", rules),
+        ("texts with a 06 line", texts),
         ("short slices and wide numbers", short_and_wide),
     ];
     let mut failed = 0;

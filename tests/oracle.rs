@@ -30,6 +30,7 @@ pub struct Set {
     pub resd: u64,
     pub cpmdo: u64,
     pub masked: Option<u64>,
+    pub rule: Option<u64>,
     pub tasks: Vec<Task>,
     pub interrupts: Vec<Interrupt>,
 }
@@ -38,6 +39,11 @@ impl Set {
     // The ticks for which a job can hold interrupts off.
     pub fn b(&self) -> u64 {
         self.masked.unwrap_or(0)
+    }
+
+    // The number of the packing rule.
+    pub fn packing(&self) -> u64 {
+        self.rule.unwrap_or(0)
     }
 
     // The cache cost of a task by itself: that of its 03 line, or the header's.
@@ -71,6 +77,7 @@ enum Line {
     Header(Vec<u64>),
     Task(Vec<u64>),
     Masked(u64),
+    Rule(u64),
     Interrupt(Vec<u64>),
     Malformed,
 }
@@ -99,6 +106,11 @@ fn classify(line: &[u8], closed: bool) -> Line {
             return Line::Masked(f[0]);
         }
     }
+    if line.starts_with(b"06") {
+        if let Some(f) = hex_fields(line, &[2]) {
+            return Line::Rule(f[0]);
+        }
+    }
     if line.starts_with(b"07") {
         if let Some(f) = hex_fields(line, &[2, 6, 6, 6, 4]) {
             return Line::Interrupt(f);
@@ -125,6 +137,9 @@ pub fn read(text: &[u8]) -> Result<Set, Refusal> {
             (Line::Header(_), _) => return Err((2, number)),
             (Line::Masked(b), 2) => set.masked = Some(b),
             (Line::Masked(_), _) => return Err((2, number)),
+            (Line::Rule(rule), 2) => set.rule = Some(rule),
+            (Line::Rule(rule), 3) if set.masked.is_some() => set.rule = Some(rule),
+            (Line::Rule(_), _) => return Err((2, number)),
             (Line::Task(_) | Line::Interrupt(_), 1) => return Err((2, 1)),
             (Line::Task(f), _) => {
                 if !set.interrupts.is_empty() {
@@ -159,7 +174,7 @@ pub fn read(text: &[u8]) -> Result<Set, Refusal> {
 }
 
 fn figures(set: &Set) -> Option<Refusal> {
-    if set.m < 1 || set.m > 64 || set.s == 0 {
+    if set.m < 1 || set.m > 64 || set.s == 0 || set.packing() > 8 {
         return Some((5, 0));
     }
     let ordered = |c: u64, d: u64, t: u64| 1 <= c && c <= d && d <= t && t <= 1_000_000;
@@ -358,6 +373,39 @@ impl Plan {
     }
 }
 
+// The places of the tasks in the order in which they are placed: a task's turn is how many tasks come before it. By falling or
+// rising load C/T, both over one denominator; equal loads by the file.
+pub fn turns(set: &Set) -> Vec<usize> {
+    let before = |j: usize, i: usize| {
+        let (first, second) = (&set.tasks[j], &set.tasks[i]);
+        let (own, other) = (first.c as u128 * second.t as u128, second.c as u128 * first.t as u128);
+        match set.packing() % 3 {
+            0 => j < i,
+            1 => own > other || (own == other && j < i),
+            _ => own < other || (own == other && j < i),
+        }
+    };
+    let all = 0..set.tasks.len();
+    let turn: Vec<usize> = all.clone().map(|i| all.clone().filter(|j| before(*j, i)).count()).collect();
+    all.map(|k| turn.iter().position(|own| *own == k).unwrap()).collect()
+}
+
+// What is left of a horizon when a server's tasks have run all through it, each charged as the server is.
+pub fn room(server: &Server, h: u128) -> u128 {
+    server.loads.iter().fold(h, |left, load| left - load.c as u128 * (h / load.t as u128))
+}
+
+// Of the candidates with their rooms, in number order: the first, the one with the least room, or the one with the most.
+fn chosen(fit: u64, candidates: &[usize], rooms: &[u128]) -> Option<usize> {
+    let sought = match fit {
+        0 => rooms.first(),
+        1 => rooms.iter().min(),
+        _ => rooms.iter().max(),
+    };
+    let at = rooms.iter().position(|room| Some(room) == sought)?;
+    Some(candidates[at])
+}
+
 pub fn plan(set: &Set) -> Result<Plan, Refusal> {
     if let Some(refusal) = figures(set) {
         return Err(refusal);
@@ -369,7 +417,8 @@ pub fn plan(set: &Set) -> Result<Plan, Refusal> {
     if let Some(i) = set.tasks.iter().position(|t| set.relj >= t.d || own(t) > t.d - set.relj) {
         return Err((8, i + 1));
     }
-    if lcm(set.s, set.tasks.iter().map(|t| t.t).chain(set.interrupts.iter().map(|i| i.t))) > 10_000_000 {
+    let h = lcm(set.s, set.tasks.iter().map(|t| t.t).chain(set.interrupts.iter().map(|i| i.t)));
+    if h > 10_000_000 {
         return Err((9, 0));
     }
     let board = Board::of(set);
@@ -379,19 +428,16 @@ pub fn plan(set: &Set) -> Result<Plan, Refusal> {
         return Err((13, i + 1));
     }
     let mut members: Vec<Vec<usize>> = Vec::new();
-    let mut placed = Vec::new();
-    for i in 0..set.tasks.len() {
-        match members.iter().position(|held| passes(&[&held[..], &[i]].concat())) {
-            Some(q) => {
-                members[q].push(i);
-                placed.push(q + 1);
-            }
-            None => {
-                members.push(vec![i]);
-                placed.push(members.len());
-            }
+    for i in turns(set) {
+        let candidates: Vec<usize> = (0..members.len()).filter(|q| passes(&[&members[*q][..], &[i]].concat())).collect();
+        let rooms: Vec<u128> = candidates.iter().map(|q| room(&server(&members[*q]), h)).collect();
+        match chosen(set.packing() / 3, &candidates, &rooms) {
+            Some(q) => members[q].push(i),
+            None => members.push(vec![i]),
         }
     }
+    members.iter_mut().for_each(|held| held.sort());
+    let placed = (0..set.tasks.len()).map(|i| members.iter().position(|held| held.contains(&i)).unwrap() + 1).collect();
     let servers: Vec<Server> = members.iter().map(|held| server(held)).collect();
     let reserves: Vec<u64> = servers.iter().map(|server| board.smallest_reserve(server)).collect();
     let mut ring: Vec<usize> = Vec::new();
@@ -488,6 +534,9 @@ pub fn file(set: &Set) -> String {
     if let Some(b) = set.masked {
         out += &format!("05{:04X}\n", b);
     }
+    if let Some(rule) = set.rule {
+        out += &format!("06{:02X}\n", rule);
+    }
     for t in &set.tasks {
         let figures = format!("{:02X}{:06X}{:06X}{:06X}", t.id, t.c, t.d, t.t);
         out += &t.cache.map_or(format!("02{}\n", figures), |cache| format!("03{}{:04X}\n", figures, cache));
@@ -498,22 +547,23 @@ pub fn file(set: &Set) -> String {
     out
 }
 
-// A set that a caller hands in as numbers: its count, the seven figures of the header, whether there is a 05 line and its B, then
-// id, C, D, T, whether there is a cache cost and the cost of 64 places, how many interrupts there are, and processor, C, D, T and
-// J of 32 places.
+// A set that a caller hands in as numbers: its count, the seven figures of the header, whether there is a 05 line and its B, whether
+// there is a 06 line and its rule, then id, C, D, T, whether there is a cache cost and the cost of 64 places, how many interrupts
+// there are, and processor, C, D, T and J of 32 places.
 // Row 11: a count that is not 1 to 64, or of interrupts above 32, an id that repeats, or a figure with more digits than its field.
 pub fn handed(numbers: &[u64]) -> Result<Set, Refusal> {
-    let (count, interrupts) = (numbers[0], numbers[394]);
+    let (count, interrupts) = (numbers[0], numbers[396]);
     if !(1..=64).contains(&count) || interrupts > 32 {
         return Err((11, 0));
     }
     let digits = |values: &[u64], widths: &[usize]| values.iter().zip(widths).any(|(v, w)| format!("{:X}", v).len() > *w);
     let header = &numbers[1..8];
-    let tasks: Vec<&[u64]> = numbers[10..394].chunks(6).take(count as usize).collect();
-    let interrupts: Vec<&[u64]> = numbers[395..].chunks(5).take(interrupts as usize).collect();
+    let tasks: Vec<&[u64]> = numbers[12..396].chunks(6).take(count as usize).collect();
+    let interrupts: Vec<&[u64]> = numbers[397..].chunks(5).take(interrupts as usize).collect();
     let ids: std::collections::HashSet<u64> = tasks.iter().map(|t| t[0]).collect();
     if ids.len() < tasks.len()
         || digits(header, &[2, 6, 4, 4, 4, 4, 4])
+        || (numbers[10] != 0 && digits(&numbers[11..], &[2]))
         || tasks.iter().any(|t| digits(t, &[2, 6, 6, 6]))
         || interrupts.iter().any(|i| digits(i, &[2, 6, 6, 6, 4]))
     {
@@ -528,6 +578,7 @@ pub fn handed(numbers: &[u64]) -> Result<Set, Refusal> {
         resd: header[5],
         cpmdo: header[6],
         masked: if numbers[8] == 0 { None } else { Some(numbers[9]) },
+        rule: if numbers[10] == 0 { None } else { Some(numbers[11]) },
         tasks: tasks.iter().map(|t| Task { id: t[0], c: t[1], d: t[2], t: t[3], cache: if t[4] == 0 { None } else { Some(t[5]) } }).collect(),
         interrupts: interrupts.iter().map(|i| Interrupt { p: i[0], c: i[1], d: i[2], t: i[3], j: i[4] }).collect(),
     })

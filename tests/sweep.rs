@@ -394,17 +394,18 @@ fn lists_in_pieces() {
     }
 }
 
-// A folder of files by chance: good ones, some with 03, 05 or 07 lines, and damaged ones.
+// A folder of files by chance: good ones, some with 03, 05, 06 or 07 lines, and damaged ones.
 fn by_chance(random: &mut Random) -> Folder {
     let mut folder = Folder::of_each("chance");
     for i in 0..240 {
-        let set = [files::good, files::masked, files::interrupted, files::cached][i % 4](random);
+        let set = [files::good, files::masked, files::interrupted, files::cached, files::packed][i % 5](random);
         let mut file = oracle::file(&set).into_bytes();
         match i % 7 {
             0 => files::damaged(random, &mut file),
             1 => files::masked_anywhere(random, &mut file),
             2 => files::interrupts_anywhere(random, &mut file),
             3 => files::caches_anywhere(random, &mut file),
+            4 => files::rules_anywhere(random, &mut file),
             _ => (),
         }
         folder.put(format!("{}", i), &file);

@@ -6,7 +6,7 @@ mod files;
 mod oracle;
 mod random;
 
-use files::{cached, caches_anywhere, damaged, good, interrupted};
+use files::{cached, caches_anywhere, damaged, good, interrupted, packed, rules_anywhere};
 use oracle::{Plan, Refusal, Set, Task};
 use random::Random;
 use std::collections::BTreeMap;
@@ -87,7 +87,7 @@ fn same_list(file: &[u8]) -> Result<String, Refusal> {
 }
 
 fn examples() {
-    for name in ["a", "b", "c", "d", "e", "f", "g", "h1", "h2", "i", "j", "k", "m", "n1", "n2", "o", "p1", "p2", "q"] {
+    for name in ["a", "b", "c", "d", "e", "f", "g", "h1", "h2", "i", "j", "k", "m", "n1", "n2", "o", "p1", "p2", "q", "r0", "r1", "r3", "r6"] {
         same_list(&std::fs::read(format!("examples/{}.tasks", name)).unwrap()).ok();
     }
     let list = |name: &str| oracle::switch_list(&std::fs::read(format!("examples/{}.tasks", name)).unwrap());
@@ -125,6 +125,21 @@ fn cached_files() {
         seen[same_list(&file).map_or_else(|refusal| refusal.0 as usize, |_| 0)] += 1;
     }
     assert!(seen[0] > 700 && seen[1] > 200 && seen[8] > 50, "refusals: {:?}", seen);
+}
+
+// 06 lines of every rule, every third time put in anywhere and damaged.
+fn ruled_files() {
+    let mut random = Random(27);
+    let mut seen = [0u32; 14];
+    for i in 0..2000 {
+        let mut file = oracle::file(&packed(&mut random)).into_bytes();
+        if i % 3 == 0 {
+            rules_anywhere(&mut random, &mut file);
+            damaged(&mut random, &mut file);
+        }
+        seen[same_list(&file).map_or_else(|refusal| refusal.0 as usize, |_| 0)] += 1;
+    }
+    assert!(seen[0] > 500 && seen[1] > 100 && seen[2] > 100, "refusals: {:?}", seen);
 }
 
 fn damaged_files() {
@@ -345,6 +360,7 @@ fn main() {
         ("good files' switches", good_files),
         ("switches of files with 07 lines", interrupt_files),
         ("switches of files with 03 lines", cached_files),
+        ("switches of files with a 06 line", ruled_files),
         ("damaged files' switches", damaged_files),
         ("refused files' switches", refused_files),
         ("buffers for switches", buffers),
