@@ -1,7 +1,7 @@
 // Placing tasks in the order in which they come, by a fit: the servers of all of them.
 // What they mean stands in servers/specs/Placement.antt.
+use joining_code::server_for;
 use packing::Fit;
-use server_by::server_by;
 use servers::placement::Placed;
 use share_of::share_of;
 use shares_code::larger;
@@ -36,7 +36,7 @@ pub fn placed_in(
     let mut i: usize = 0;
     while i < n {
         let share = share_of(header, figures, i, horizon);
-        let q = server_by(
+        let q = server_for(
             fit,
             header,
             figures,

@@ -55,30 +55,30 @@ share-of-requires : tie.Need-share-of-requires Inv-loop μ-loop
 share-of-requires c κs = file c
 
 -- what stands in the rows has their room
-slice-aggregate-server-by : tie.Need-slice-aggregate-server-by Inv-loop μ-loop
-slice-aggregate-server-by c = sym (so-far-room (c .before .before .before .loop .inv .1))
+slice-aggregate-server-for : tie.Need-slice-aggregate-server-for Inv-loop μ-loop
+slice-aggregate-server-for c = sym (so-far-room (c .before .before .before .loop .inv .1))
 
-slice-aggregate-server-by-2 : tie.Need-slice-aggregate-server-by-2 Inv-loop μ-loop
-slice-aggregate-server-by-2 c = sym (c .before .before .before .before .loop .inv .1 .kept .works .room)
+slice-aggregate-server-for-2 : tie.Need-slice-aggregate-server-for-2 Inv-loop μ-loop
+slice-aggregate-server-for-2 c = sym (c .before .before .before .before .loop .inv .1 .kept .works .room)
 
-slice-aggregate-server-by-3 : tie.Need-slice-aggregate-server-by-3 Inv-loop μ-loop
-slice-aggregate-server-by-3 c = sym (c .before .before .before .before .before .loop .inv .1 .kept .often .room)
+slice-aggregate-server-for-3 : tie.Need-slice-aggregate-server-for-3 Inv-loop μ-loop
+slice-aggregate-server-for-3 c = sym (c .before .before .before .before .before .loop .inv .1 .kept .often .room)
 
-slice-aggregate-server-by-4 : tie.Need-slice-aggregate-server-by-4 Inv-loop μ-loop
-slice-aggregate-server-by-4 c = sym (c .before .before .before .before .before .before .loop .inv .1 .kept .costs .room)
+slice-aggregate-server-for-4 : tie.Need-slice-aggregate-server-for-4 Inv-loop μ-loop
+slice-aggregate-server-for-4 c = sym (c .before .before .before .before .before .before .loop .inv .1 .kept .costs .room)
 
-slice-aggregate-server-by-5 : tie.Need-slice-aggregate-server-by-5 Inv-loop μ-loop
-slice-aggregate-server-by-5 c = sym (c .before .before .before .before .before .before .before .loop .inv .1 .kept .first .room)
+slice-aggregate-server-for-5 : tie.Need-slice-aggregate-server-for-5 Inv-loop μ-loop
+slice-aggregate-server-for-5 c = sym (c .before .before .before .before .before .before .before .loop .inv .1 .kept .first .room)
 
-server-by-requires : tie.Need-server-by-requires Inv-loop μ-loop
-server-by-requires c κs =
+server-for-requires : tie.Need-server-for-requires Inv-loop μ-loop
+server-for-requires c κs =
     let shared = c .before .before .before .before .before in
     let turn = shared .before in
     let w = turn .before .loop .inv .1 in
     (file turn, (start turn .pre .1, ((omega (arith, w .few, so-far-room w), omega (arith, w .few, so-far-few w)), (shared .share-of .ensures, so-far-kept w))))
 
 -- the next task, and the server that the step answers for it
-module _ (c : tie.After-server-by Inv-loop μ-loop) where
+module _ (c : tie.After-server-for Inv-loop μ-loop) where
   abbrev shared : tie.After-share-of Inv-loop μ-loop
   shared = c .before .before .before .before .before .before
 
@@ -89,10 +89,10 @@ module _ (c : tie.After-server-by Inv-loop μ-loop) where
   next = figuresAt (start turn .args .figures .now) (turn .before .loop .i)
 
   abbrev q : ℕ
-  q = c .server-by .result
+  q = c .server-for .result
 
   picked : q ≡ joinBy (start turn .args .fit) (board (start turn)) (start turn .args .horizon) (figuresTo (start turn .args .figures .now) (turn .before .loop .i)) (take (turn .before .loop .i) (turn .before .loop .placement)) next
-  picked = so-far-fit (turn .before .loop .inv .1) next q (c .server-by .ensures)
+  picked = so-far-fit (turn .before .loop .inv .1) next q (c .server-for .ensures)
 
   range : (1 ≤ q) × (q ≤ turn .before .loop .i + 1)
   range = so-far-range (turn .before .loop .inv .1) next q picked
@@ -201,12 +201,12 @@ placed-in-spec =
     μ-loop
     loop-holds
     share-of-requires
-    slice-aggregate-server-by
-    slice-aggregate-server-by-2
-    slice-aggregate-server-by-3
-    slice-aggregate-server-by-4
-    slice-aggregate-server-by-5
-    server-by-requires
+    slice-aggregate-server-for
+    slice-aggregate-server-for-2
+    slice-aggregate-server-for-3
+    slice-aggregate-server-for-4
+    slice-aggregate-server-for-5
+    server-for-requires
     sub-at
     mul-placement
     array-write-placement
