@@ -22,13 +22,14 @@ pub struct Header {
     pub rule: Optional,
 }
 
-// The figures of an 02 line; or those of an 03 line, which also gives the task's cache cost.
+// The figures of an 02 line; or those of an 03 line, which also gives the task's cache cost. The id stands last, so that no gap parts them:
+// a set is then copied whole, and not task by task.
 pub struct Task {
-    pub id: u8,
     pub cost: u32,
     pub deadline: u32,
     pub period: u32,
     pub cache: Optional,
+    pub id: u8,
 }
 
 // The figures of an 07 line: an interrupt's processor, cost, deadline, period and jitter.
