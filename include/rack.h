@@ -20,7 +20,7 @@ extern "C" {
 /* No function takes more stack than this, its own return address included: reckoned from the built code, in which no
  * function calls itself and no call is indirect. What memcpy and memset take below their return address is assumed small
  * and not in it. */
-#define RACK_STACK_BYTES 57344
+#define RACK_STACK_BYTES 32768
 
 /* Of a task file no more than this is looked at, which is more than any good file has: a caller need not read on. */
 #define RACK_TASKS_BYTES 2666

@@ -4,7 +4,7 @@ use refusals::Outcome;
 use refusals::Refusal;
 use refusals::Written;
 use switchfile_code::list;
-use taskplan_code::filed;
+use taskplan_code::outcome_of;
 use told_code::code;
 ghost use mathlib.Core.Path.{_≡_};
 ghost use Rattle.refusals.specs.First.{firstOf};
@@ -18,8 +18,7 @@ ghost use Rattle.rack.specs.Rack.{listNumbers, listTold, listLeaves};
 fn no_place(tasks: &[u8]) -> u64
     ensures { λ r. ⌜ r ≡ statusOf (firstOf (filedOf (now (tasks .entry)) .outcome) (Refused Room)) ⌝ }
 {
-    let file = filed(tasks);
-    let outcome = file.outcome;
+    let outcome = outcome_of(tasks);
     match outcome {
         Outcome::Done => code(Refusal::Room),
         Outcome::Refused(refusal) => code(refusal),

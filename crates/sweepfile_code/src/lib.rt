@@ -1,11 +1,11 @@
-// What became of a name: its file opened, read and planned. What it means stands in sweepfile/specs/Answered.antt.
+// What became of a name: its file opened, read and taken to its outcome. What it means stands in sweepfile/specs/Answered.antt.
 use bytes::scan::find;
 use names_code::LONGEST_NAME;
 use shell::front::front;
 use shell::input::Input;
 use shell::input::read_input;
 use tally::Answer;
-use taskplan_code::filed;
+use taskplan_code::outcome_of;
 ghost use mathlib.Core.Path.{_≡_};
 ghost use lib.ListN.{length};
 ghost use Rattle.names.specs.Names.{longestName};
@@ -25,8 +25,7 @@ fn file_answer(path: &[u8]) -> Answer
     let Input::Bytes(n) = input else {
         return Answer::Unopened;
     };
-    let file = filed(front(&text, n));
-    let outcome = file.outcome;
+    let outcome = outcome_of(front(&text, n));
     Answer::Filed(outcome)
 }
 

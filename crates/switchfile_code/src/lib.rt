@@ -1,9 +1,12 @@
 // The switch list of a task file, into a lent buffer. What is answered stands in switchfile/specs/OfFile.antt.
-use fit_switches::fit_switches;
+use laidtext::Text;
+use laidtext::fit_laid;
 use planfit_code::fit_refusal;
+use planner_code::settle;
 use refusals::Outcome;
 use refusals::Written;
-use taskplan_code::filed;
+use taskplan_code::rows_read;
+use taskread_code::read;
 ghost use mathlib.Core.Path.{_≡_};
 ghost use Rattle.refusals.specs.Leaves.{leaves};
 ghost use Rattle.planfit.specs.Fit.{Fits};
@@ -15,12 +18,13 @@ ghost use Rattle.switchfile.specs.OfFile.{switched, listed};
 pub fn answer(text: &[u8], out: &mut [u8]) -> Written
     ensures { λ r. ⌜ Fits (now (out .entry)) (switched (now (text .entry))) r (now (out .exit)) ⌝ }
 {
-    let file = filed(text);
-    let outcome = file.outcome;
+    let file = read(text);
+    let rows = rows_read(file);
     let set = file.set;
-    let plan = file.plan;
+    let made = settle(set, rows);
+    let outcome = made.outcome;
     match outcome {
-        Outcome::Done => fit_switches(set, plan, out),
+        Outcome::Done => fit_laid(Text::Switches, set, made.servers, out),
         Outcome::Refused(refusal) => fit_refusal(refusal, out),
     }
 }
@@ -29,12 +33,13 @@ pub fn answer(text: &[u8], out: &mut [u8]) -> Written
 pub fn list(text: &[u8], out: &mut [u8]) -> Written
     ensures { λ r. ⌜ (r ≡ listed (now (text .entry)) (now (out .entry))) × (now (out .exit) ≡ leaves (listed (now (text .entry)) (now (out .entry))) (now (out .entry)) (planSwitches (filedOf (now (text .entry)) .plan))) ⌝ }
 {
-    let file = filed(text);
-    let outcome = file.outcome;
+    let file = read(text);
+    let rows = rows_read(file);
     let set = file.set;
-    let plan = file.plan;
+    let made = settle(set, rows);
+    let outcome = made.outcome;
     match outcome {
-        Outcome::Done => fit_switches(set, plan, out),
+        Outcome::Done => fit_laid(Text::Switches, set, made.servers, out),
         Outcome::Refused(refusal) => Written::Refused(refusal),
     }
 }

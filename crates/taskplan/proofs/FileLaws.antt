@@ -9,19 +9,15 @@ use Rattle.refusals.specs.declared.Refusal.{Refusal}
 use Rattle.refusals.specs.declared.Outcome.{Outcome}
 use Rattle.refusals.specs.declared.Outcome.the-variants.{Done, Refused}
 use Rattle.tasks.specs.declared.set.TaskSet.{TaskSet}
-use Rattle.tasks.specs.Set.{zeroSet}
-use Rattle.taskread.specs.declared.read.ReadAnswer.{ReadAnswer}
 use Rattle.taskread.specs.Read.{readOf}
-use Rattle.plan.specs.declared.plan.Plan.{Plan}
-use Rattle.plan.specs.Plan.{zeroPlan}
 use Rattle.planner.specs.declared.PlanAnswer.{PlanAnswer}
 use Rattle.layout.specs.Made.{planMade}
-use Rattle.planner.specs.Planner.{planOutcome, answer, planOf}
+use Rattle.planner.specs.Planner.{planOutcome, planOf}
 use Rattle.planner.proofs.Made.{plan-outcome, plan-is}
 use Rattle.plancheck.specs.Makes.{makes}
 use Rattle.planagree.proofs.AgreeLaws.{agree-self}
 use Rattle.taskplan.specs.declared.FileAnswer.{FileAnswer}
-use Rattle.taskplan.specs.File.{unless, refusedFile, refusedPlan, plannedRead, plannedSet, filedOf}
+use Rattle.taskplan.specs.File.{unless, refusedFile, plannedSet, filedOf}
 
 -- the planner makes the plan that it answers
 pub answer-makes : (set : TaskSet) (a : PlanAnswer) → a ≡ planOf set → a .outcome ≡ Done → makes set (a .plan) ≡ true
@@ -44,48 +40,6 @@ module _ {A B : Type 0} (refused : Refusal → A) (outcome : B → Outcome) (f :
 
   pub when-refused : {r : Refusal} → outcome a ≡ Refused r → refused r ≡ unless refused (outcome b) (f b)
   when-refused d = sym (ap (λ (o : Outcome). unless refused o (f a)) d) ∙ as-known
-
--- a refused plan is the all-zero plan
-answer-zero : (o : Outcome) (p : Plan) {r : Refusal} → answer o p .outcome ≡ Refused r → answer o p .plan ≡ zeroPlan
-answer-zero Done p e = clash (cc)
-answer-zero (Refused r) p e = refl
-
-plan-zero : (set : TaskSet) {r : Refusal} → planOf set .outcome ≡ Refused r → planOf set .plan ≡ zeroPlan
-unfolding planOf
-plan-zero set e = answer-zero (planOutcome set) (planMade set) e
-
--- a planning's answer with a set
-abbrev file-of : PlanAnswer → TaskSet → FileAnswer
-file-of m set = record { outcome = m .outcome; set = set; plan = m .plan }
-
--- is the file's, with the set that was read
-read-done : (o : Outcome) (set : TaskSet) → unless refusedPlan o (planOf set) .outcome ≡ Done → file-of (unless refusedPlan o (planOf set)) set ≡ unless refusedFile o (plannedSet set)
-unfolding plannedSet
-read-done Done set d = rw d
-read-done (Refused r) set d = clash (cc)
-
--- or, refused, with the all-zero set
-read-refused : (o : Outcome) (set : TaskSet) {r : Refusal} → unless refusedPlan o (planOf set) .outcome ≡ Refused r → file-of (unless refusedPlan o (planOf set)) zeroSet ≡ unless refusedFile o (plannedSet set)
-unfolding plannedSet
-read-refused Done set e = rw (plan-zero set e, e)
-read-refused (Refused r) set e = refl
-
-module _ (text : List ℕ) {a : ReadAnswer} {m : PlanAnswer} (read : a ≡ readOf text) (planned : m ≡ plannedRead a) where
-  known : unless refusedFile (a .outcome) (plannedSet (a .set)) ≡ filedOf text
-  unfolding filedOf
-  known = ap (λ (b : ReadAnswer). unless refusedFile (b .outcome) (plannedSet (b .set))) read
-
-  pub file-done : m .outcome ≡ Done → record { outcome = m .outcome; set = a .set; plan = m .plan } ≡ filedOf text
-  unfolding plannedRead
-  file-done d =
-      ap (λ (n : PlanAnswer). file-of n (a .set)) planned
-      ∙ read-done (a .outcome) (a .set) (sym (ap (λ (n : PlanAnswer). n .outcome) planned) ∙ d) ∙ known
-
-  pub file-refused : {r : Refusal} {set : TaskSet} → set ≡ zeroSet → m .outcome ≡ Refused r → record { outcome = m .outcome; set = set; plan = m .plan } ≡ filedOf text
-  unfolding plannedRead
-  file-refused zero e =
-      ap (file-of m) zero ∙ ap (λ (n : PlanAnswer). file-of n zeroSet) planned
-      ∙ read-refused (a .outcome) (a .set) (sym (ap (λ (n : PlanAnswer). n .outcome) planned) ∙ e) ∙ known
 
 -- the planner makes this file's plan of its set
 abbrev Makes : FileAnswer → Type 0

@@ -7,10 +7,8 @@ use Rattle.refusals.specs.declared.Outcome.{Outcome}
 use Rattle.refusals.specs.declared.Outcome.the-variants.{Done, Refused}
 use Rattle.tasks.specs.declared.set.TaskSet.{TaskSet}
 use Rattle.tasks.specs.Set.{zeroSet}
-use Rattle.taskread.specs.declared.read.ReadAnswer.{ReadAnswer}
 use Rattle.taskread.specs.Read.{readOf}
 use Rattle.plan.specs.Plan.{zeroPlan}
-use Rattle.planner.specs.declared.PlanAnswer.{PlanAnswer}
 use Rattle.planner.specs.Planner.{planOf}
 use Rattle.taskplan.specs.declared.FileAnswer.{FileAnswer}
 
@@ -21,13 +19,6 @@ unless refused (Refused r) a = refused r
 
 abbrev pub refusedFile : Refusal → FileAnswer
 refusedFile r = record { outcome = Refused r; set = zeroSet; plan = zeroPlan }
-
-abbrev pub refusedPlan : Refusal → PlanAnswer
-refusedPlan r = record { outcome = Refused r; plan = zeroPlan }
-
--- the plan of what was read, or the refusal of reading it
-unfoldable pub plannedRead : ReadAnswer → PlanAnswer
-plannedRead a = unless refusedPlan (a .outcome) (planOf (a .set))
 
 -- a set that was read, with the plan that the planner makes of it
 unfoldable pub plannedSet : TaskSet → FileAnswer

@@ -1,47 +1,32 @@
-// A task file taken to its set and its plan, or to its refusal: what the tool prints and what both questions are asked of.
-// What it means stands in taskplan/specs/File.antt. A set is planned once.
-use plan::plan::Plan;
-use planner::PlanAnswer;
-use planner_code::make;
+// A task file taken to what its rows say, and to its outcome: the first steps to its set and its plan, and whether it has them.
+// What it means stands in filerows/specs/Read.antt and taskplan/specs/File.antt.
+use planner_code::rows_of;
+use planner_code::settle;
 use refusals::Outcome;
-use refusals::Refusal;
-use taskplan::FileAnswer;
+use rows::rows::Rows;
 use taskread::read::ReadAnswer;
 use taskread_code::read;
-use tasks::set::TaskSet;
 ghost use mathlib.Core.Path.{_≡_};
-ghost use Rattle.taskplan.specs.File.{refusedPlan, plannedRead, filedOf};
+ghost use Rattle.taskplan.specs.File.{filedOf};
+ghost use Rattle.filerows.specs.Read.{readRows};
 
-fn refused(refusal: Refusal) -> PlanAnswer
-    ensures { λ r. ⌜ r ≡ refusedPlan refusal ⌝ }
-{
-    PlanAnswer {
-        plan: Plan::zero(),
-        outcome: Outcome::Refused(refusal),
-    }
-}
-
-// The plan of the set that was read.
-fn planned(answer: ReadAnswer) -> PlanAnswer
-    ensures { λ r. ⌜ r ≡ plannedRead answer ⌝ }
+// What the rows say of a file that was read.
+pub fn rows_read(answer: ReadAnswer) -> Rows
+    ensures { λ r. ⌜ r ≡ readRows answer ⌝ }
 {
     let outcome = answer.outcome;
     match outcome {
-        Outcome::Done => make(answer.set),
-        Outcome::Refused(refusal) => refused(refusal),
+        Outcome::Done => rows_of(answer.set),
+        Outcome::Refused(refusal) => Rows::Refused(refusal),
     }
 }
 
-pub fn filed(text: &[u8]) -> FileAnswer
-    ensures { λ r. ⌜ r ≡ filedOf (now (text .entry)) ⌝ }
+// Whether a file has a plan, or its refusal. No plan is laid.
+pub fn outcome_of(text: &[u8]) -> Outcome
+    ensures { λ r. ⌜ r ≡ filedOf (now (text .entry)) .outcome ⌝ }
 {
     let answer = read(text);
-    let made = planned(answer);
-    let outcome = made.outcome;
-    let plan = made.plan;
-    let mut set = answer.set;
-    if let Outcome::Refused(_) = outcome {
-        set = TaskSet::zero();
-    }
-    FileAnswer { outcome, set, plan }
+    let rows = rows_read(answer);
+    let made = settle(answer.set, rows);
+    made.outcome
 }

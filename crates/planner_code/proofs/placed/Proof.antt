@@ -1,4 +1,4 @@
--- `placed` meets its contract: over the set's figures and its interrupts row 13 is tried first, and then its servers are planned.
+-- `placed` meets its contract: over the set's figures and its interrupts row 13 is tried first, and then row 10 by its servers.
 -- Assumes nothing.
 use Prim.Native.Nat.{_*_, _≤_}
 use mathlib.Core.Path.{_≡_, refl, sym, _∙_}
@@ -13,14 +13,18 @@ use Rattle.tasks.specs.Search.{firstTask}
 use Rattle.tasks.proofs.Firsts.{first-within}
 use Rattle.tasks.proofs.SetLaws.{members-length}
 use Rattle.members.specs.Server.{Filed, Bounded}
-use Rattle.setfigures.specs.Board.{setInterrupts}
+use Rattle.setfigures.specs.Board.{setInterrupts, setBoard}
 use Rattle.setfigures.proofs.BoardLaws.{interrupts-front}
 use Rattle.rows.specs.Rows.{Chargeable}
 use Rattle.rows.proofs.InterruptLaws.{each-on, set-timely}
 use Rattle.rows.proofs.Clears.{lent-bounded}
 use Rattle.alonerow.specs.Alone.{aloneRow}
 use Rattle.alonerow.proofs.AloneLaws.{alone-is, set-met}
-use Rattle.planner.proofs.Made.{count-most, fits, may-charge, filed, set-served, plan-alone}
+use Rattle.planner.proofs.Made.{count-most, fits, may-charge, filed, set-served}
+use Rattle.planner.specs.Planner.{Placeable}
+use Rattle.sizing.specs.Reserve.{serversOf}
+use Rattle.setfigures.specs.Figures.{setFigures}
+use Rattle.settling.proofs.SettledLaws.{settled-alone, settled-full, settled-done}
 use Rattle.planner_code.proofs.placed.Statement.{statement}
 use Rattle.planner_code.proofs.placed.Tie as tie
 
@@ -96,8 +100,8 @@ first-alone-requires c κs =
     let s = start b in
     (file b, (bounded b, set-met (own s) (room s) (chargeable s) (b .before .figures .ensures)))
 
-cast-t17 : tie.Need-cast-t17
-cast-t17 c =
+cast-t19 : tie.Need-cast-t19
+cast-t19 c =
     let s = start (ordered (c .before)) in
     omega (arith, first-is (c .before), first-within (aloneRow (own s)) 1 (members (own s)), few s)
 
@@ -105,7 +109,7 @@ returns : tie.Need-returns
 returns c =
     let at = c .before .before in
     let s = start (ordered at) in
-    c .refused .ensures ∙ plan-alone (own s) (s .pre .0) (first-is at) (c .before .if1 .taken)
+    c .unsettled .ensures ∙ settled-alone (own s) (s .pre .0) (first-is at) (c .before .if1 .taken)
 
 array-share-prefix-interrupts-2 : tie.Need-array-share-prefix-interrupts-2
 array-share-prefix-interrupts-2 c = omega (arith, chargeable (start (ordered (c .before .before))) .few-interrupts)
@@ -118,15 +122,35 @@ slice-aggregate-serve-2 c =
 serve-requires : tie.Need-serve-requires
 serve-requires c κs = let b = ordered (c .before .before .before) in (file b, bounded b)
 
-planned-requires : tie.Need-planned-requires
-planned-requires c κs =
-    let left = c .before .before .before in
-    let b = ordered (left .before) in
-    let s = start b in
-    (record { clear = s .pre .0; alone = sym (first-is (left .before)) ∙ left .if1 .left }, set-served (own s) (full s) (s .pre .0) (b .before .figures .ensures) (front b) (c .serve .ensures))
+-- the servers are the set's, and row 13 is clear
+module _ (c : tie.After-serve) where
+  abbrev left : tie.Else1
+  left = c .before .before .before
+
+  abbrev set : TaskSet
+  set = own (start (ordered (left .before)))
+
+  placeable : Placeable set
+  placeable = record { clear = start (ordered (left .before)) .pre .0; alone = sym (first-is (left .before)) ∙ left .if1 .left }
+
+  served : c .serve .result ≡ serversOf (setBoard set) (setFigures set)
+  served =
+      let b = ordered (left .before) in
+      let s = start b in
+      set-served (own s) (full s) (s .pre .0) (b .before .figures .ensures) (front b) (c .serve .ensures)
+
+board-of-requires : tie.Need-board-of-requires
+board-of-requires c κs = (placeable c, served c)
 
 returns-2 : tie.Need-returns-2
-returns-2 c = c .planned .ensures
+returns-2 c =
+    let b = c .before .before .before .before in
+    c .unsettled2 .ensures ∙ settled-full (set (b .before)) (placeable (b .before)) (sym (b .board-of .ensures) ∙ c .before .before .outcome .given .1)
+
+returns-3 : tie.Need-returns-3
+returns-3 c =
+    let b = c .before .before in
+    settled-done (set (b .before)) (placeable (b .before)) (sym (b .board-of .ensures) ∙ c .enum-told .given .1) (served (b .before))
 
 pub placed-spec : {M : Type 1} → statement M
 placed-spec =
@@ -139,12 +163,16 @@ placed-spec =
     array-share-prefix-interrupts
     slice-aggregate-first-alone-2
     first-alone-requires
-    cast-t17
+    cast-t19
     (λ c κs. search needs)
     returns
     (λ c. search needs)
     array-share-prefix-interrupts-2
     slice-aggregate-serve-2
     serve-requires
-    planned-requires
-    returns-2)
+    board-of-requires
+    (λ c. search needs)
+    (λ c κs. search needs)
+    returns-2
+    (λ c. search needs)
+    returns-3)

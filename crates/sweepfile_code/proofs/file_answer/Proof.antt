@@ -3,7 +3,6 @@
 use mathlib.Core.Path.{refl, ap}
 use mathlib.Core.Logic.{inl, inr}
 use Rattle.tally.specs.declared.Answer.the-variants.{Filed}
-use Rattle.taskplan.specs.declared.FileAnswer.{FileAnswer}
 use borrow.Author.Needs.{needs}
 use Rattle.sweepfile_code.proofs.file_answer.Statement.{statement}
 use Rattle.sweepfile_code.proofs.file_answer.Tie as tie
@@ -15,7 +14,7 @@ returns-2 : tie.Need-returns-2
 returns-2 c = inl refl
 
 returns-3 : tie.Need-returns-3
-returns-3 c = inr (_, ap (λ (file : FileAnswer). Filed (file .outcome)) (c .filed .ensures))
+returns-3 c = inr (_, ap Filed (c .outcome-of .ensures))
 
 pub file-answer-spec : {M : Type 1} → statement M
 file-answer-spec =
