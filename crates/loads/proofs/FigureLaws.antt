@@ -16,10 +16,11 @@ unfolding ownNumbers
 own-length [] = refl
 own-length (f ∷ fs) = omega (arith, own-length fs)
 
-abbrev four : Figures → List ℕ
+abbrev pub four : Figures → List ℕ
 four f = f .cost ∷ f .deadline ∷ f .period ∷ f .cache ∷ []
 
-own-more : (fs : List Figures) (f : Figures) → ownNumbers (fs ++ (f ∷ [])) ≡ ownNumbers fs ++ four f
+-- the numbers of a task more stand behind the others
+pub own-more : (fs : List Figures) (f : Figures) → ownNumbers (fs ++ (f ∷ [])) ≡ ownNumbers fs ++ four f
 unfolding ownNumbers
 own-more [] f = refl
 own-more (g ∷ fs) f = ap (λ (ns : List ℕ). g .cost ∷ g .deadline ∷ g .period ∷ g .cache ∷ ns) (own-more fs f)

@@ -19,22 +19,13 @@ use Rattle.demand.proofs.Demand.{each-length}
 use Rattle.tasks.specs.Set.{mostTasks}
 use Rattle.places.specs.Padded.{padded}
 use Rattle.loads.specs.Figures.{Figures, ownNumbers, figuresAt, figuresTo}
-use Rattle.loads.proofs.FigureLaws.{own-length, figures-stored}
+use Rattle.loads.proofs.FigureLaws.{own-length, four, own-more, figures-stored}
 use Rattle.loads.proofs.NumberLaws.{taken-length, taken-more}
 use Rattle.packing.specs.Turns.{taskAt, inTurn, serverAt, inFileOrder}
 use Rattle.packing.proofs.EachLaws.{each-at}
 use Rattle.turns_code.specs.Turned.{Turned, Assigned}
 
 -- ---- into the turns
-
-abbrev four : Figures → List ℕ
-four f = f .cost ∷ f .deadline ∷ f .period ∷ f .cache ∷ []
-
--- the numbers of a task more stand behind the others
-own-more : (fs : List Figures) (f : Figures) → ownNumbers (fs ++ (f ∷ [])) ≡ ownNumbers fs ++ four f
-unfolding ownNumbers
-own-more [] f = refl
-own-more (g ∷ fs) f = ap (λ (ns : List ℕ). g .cost ∷ g .deadline ∷ g .period ∷ g .cache ∷ ns) (own-more fs f)
 
 -- four numbers from a place on
 four-from : (ns : List ℕ) (k : ℕ) → k + 4 ≤ length ns →
