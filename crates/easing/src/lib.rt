@@ -1,0 +1,1 @@
+// What is claimed of a server that is eased. No code.
