@@ -1,4 +1,4 @@
--- Examples A to O, each row proved: by computing, and what K prints by the law of a refused file.
+-- Examples A to O and R to T, each row proved: by computing, and what K prints by the law of a refused file.
 -- Assumes nothing.
 use mathlib.Core.Path.{_≡_, refl, ap, _∙_}
 use Rattle.refusals.specs.declared.Refusal.the-variants.{Horizon}
@@ -8,7 +8,7 @@ use Rattle.planfile.specs.Tool.{answered}
 use Rattle.quoted.specs.Quoted.{bytesOf}
 use Rattle.examples.specs.Asked.{rowsIn, RowsRefuse}
 use Rattle.examples.specs.Asked.Answer.{text}
-use Rattle.examples.specs.Examples.{AtoL, Masked, Interrupted, Packed, fileK}
+use Rattle.examples.specs.Examples.{AtoL, Masked, Interrupted, Packed, Edges, fileK}
 use Rattle.examples.proofs.Computing.{computing}
 use Rattle.examples.proofs.RowLaws.{refused-prints}
 use Rattle.examples.proofs.RowLaws as rows
@@ -44,3 +44,7 @@ interrupted = (refl, (refl, (refl, (refl, (refl, (refl, (refl, (refl, (refl, (re
 pub packed : Packed
 unfolding computing
 packed = (refl, (refl, (refl, (refl, (refl, (refl, (refl, (refl, (refl, (refl, (refl, (refl, tt))))))))))))
+
+pub edges : Edges
+unfolding computing
+edges = (refl, (refl, (refl, (refl, (refl, tt)))))

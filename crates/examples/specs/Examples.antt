@@ -1,5 +1,5 @@
--- Examples A to L of document 01, M of document 02, Req 04, N and O of Req 08, and R of Req 05: lists of what is asked and what is
--- given, and one statement for each, that every row holds.
+-- Examples A to L of document 01, M of document 02, Req 04, N and O of Req 08, R of Req 05, and S and T of Req 12: lists of what is
+-- asked and what is given, and one statement for each, that every row holds.
 -- It is proved in proofs/Claims.antt.
 use Prim.Native.Nat.{ℕ}
 use Prim.Native.String.{String}
@@ -250,3 +250,29 @@ packedExamples =
 
 abbrev pub Packed : Type 0
 Packed = Every packedExamples
+
+-- m 2, S 10, B 5, tasks 1/13/20 and 1/13/20: M with the second D one tick less
+abbrev pub fileS : String
+fileS = "010200000A00000000000000000000\n050005\n020100000100000D000014\n020200000100000D000014\n"
+
+-- m 2, S 2, tasks 1/2/2, 2/2/4, 1/4/4, 2/4/4 and 1/2/4; and the same without the third
+abbrev pub fileT1 : String
+fileT1 = "010200000200000000000000000000\n0201000001000002000002\n0202000002000002000004\n0203000001000004000004\n0204000002000004000004\n0205000001000002000004\n"
+
+abbrev pub fileT2 : String
+fileT2 = "010200000200000000000000000000\n0201000001000002000002\n0202000002000002000004\n0204000002000004000004\n0205000001000002000004\n"
+
+-- what easing does not promise
+abbrev pub edgeExamples : List Example
+edgeExamples =
+    -- the D of the second task rises from 13 to 14: both have one d, so that no length gains B and R = 2; then length 13 gains it, and R = 6
+    row (prints fileS) (lines planUnmasked)
+    ∷ row (passes fileS 1 2) (passesAt 13 2 2)
+    ∷ row (passes fileM 1 2) (failsAt 13 6 2)
+    -- two servers on two processors; without its third task server 1 takes the fourth, which leaves no room for the fifth: three processors
+    ∷ row (prints fileT1) (lines "1102000200000200000000\n1201000002FFFFFFFF03\n1202000002FFFFFFFF02\n130101\n130202\n130301\n130402\n130501\n140101000002\n140202000002\n")
+    ∷ row (prints fileT2) (lines "1F0A03\n")
+    ∷ []
+
+abbrev pub Edges : Type 0
+Edges = Every edgeExamples
