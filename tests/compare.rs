@@ -53,7 +53,7 @@ fn refusal(file: &[u8]) -> usize {
 }
 
 fn examples() {
-    for name in ["a", "b", "c", "d", "e", "f", "g", "h1", "h2", "i", "j", "k", "m", "n1", "n2", "o", "p1", "p2", "q", "r0", "r1", "r3", "r6"] {
+    for name in ["a", "b", "c", "d", "e", "f", "g", "h1", "h2", "i", "j", "k", "m", "n1", "n2", "o", "p1", "p2", "q", "r0", "r1", "r3", "r6", "s", "t1", "t2"] {
         let file = std::fs::read(format!("examples/{}.tasks", name)).unwrap();
         let plan = std::fs::read(format!("examples/{}.plan", name)).unwrap();
         assert_eq!(plan_text(&file), plan, "example {}", name);

@@ -231,7 +231,7 @@ fn crowded(random: &mut Random, tasks: usize) -> Set {
 
 fn examples() {
     let mut random = Random(21);
-    for name in ["a", "b", "c", "d", "e", "f", "g", "h1", "h2", "i", "j", "k", "m", "n1", "n2", "o", "p1", "p2", "q", "r0", "r1", "r3", "r6"] {
+    for name in ["a", "b", "c", "d", "e", "f", "g", "h1", "h2", "i", "j", "k", "m", "n1", "n2", "o", "p1", "p2", "q", "r0", "r1", "r3", "r6", "s", "t1", "t2"] {
         let set = oracle::read(&std::fs::read(format!("examples/{}.tasks", name)).unwrap()).unwrap();
         Case::of(numbers_of(&set)).all(&mut random);
     }

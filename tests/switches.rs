@@ -87,7 +87,7 @@ fn same_list(file: &[u8]) -> Result<String, Refusal> {
 }
 
 fn examples() {
-    for name in ["a", "b", "c", "d", "e", "f", "g", "h1", "h2", "i", "j", "k", "m", "n1", "n2", "o", "p1", "p2", "q", "r0", "r1", "r3", "r6"] {
+    for name in ["a", "b", "c", "d", "e", "f", "g", "h1", "h2", "i", "j", "k", "m", "n1", "n2", "o", "p1", "p2", "q", "r0", "r1", "r3", "r6", "s", "t1", "t2"] {
         same_list(&std::fs::read(format!("examples/{}.tasks", name)).unwrap()).ok();
     }
     let list = |name: &str| oracle::switch_list(&std::fs::read(format!("examples/{}.tasks", name)).unwrap());
