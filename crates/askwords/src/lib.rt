@@ -8,7 +8,7 @@ use answerline::{pass_line, who_line};
 use decimals::{Number, decimal};
 use refusals::Written;
 
-#[derive(Drop)]
+#[derive(Clone, Copy)]
 pub enum Question {
     Who(u64, u64),
     Pass(u64, u64),

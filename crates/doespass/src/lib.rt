@@ -4,7 +4,7 @@ use refusals::Outcome;
 use verdict::answer::Verdict;
 
 // A refused question holds a yes of zeros, which says nothing.
-#[derive(Drop)]
+#[derive(Clone, Copy)]
 pub struct PassAnswer {
     pub outcome: Outcome,
     pub verdict: Verdict,

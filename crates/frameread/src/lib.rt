@@ -3,7 +3,7 @@
 use frames::table::Frame;
 
 // The frame of a line, or none.
-#[derive(Drop)]
+#[derive(Clone, Copy)]
 pub enum Found {
     Frame(Frame),
     Nothing,

@@ -2,7 +2,7 @@
 // A frame with fewer than the most fields is filled up with fields of no digits. Where each field starts follows from the widths; it
 // stands in the row so that nobody counts it again, and behind it where the line ends.
 
-#[derive(Drop)]
+#[derive(Clone, Copy)]
 pub enum Frame {
     Header,
     Task,
@@ -25,7 +25,7 @@ pub const KINDS: usize = 14;
 
 pub const MOST_FIELDS: usize = 7;
 
-#[derive(Drop)]
+#[derive(Clone, Copy)]
 pub struct Row {
     pub kind: [u8; 2],
     pub fields: usize,

@@ -3,7 +3,7 @@
 use refusals::Refusal;
 use tasks::set::Header;
 
-#[derive(Drop)]
+#[derive(Clone, Copy)]
 pub enum HeaderLine {
     Header(Header),
     Refused(Refusal),

@@ -4,7 +4,7 @@ use refusals::Outcome;
 use tasks::set::Interrupts;
 
 // How reading them ended, the interrupts, and the number of lines taken so far.
-#[derive(Drop)]
+#[derive(Clone, Copy)]
 pub struct InterruptLines {
     pub outcome: Outcome,
     pub interrupts: Interrupts,

@@ -18,7 +18,7 @@ use sizing::Servers;
 use tasks::set::TaskSet;
 
 // Which text of a plan.
-#[derive(Drop)]
+#[derive(Clone, Copy)]
 pub enum Text {
     Plan,
     Switches,

@@ -3,7 +3,7 @@
 use refusals::Refusal;
 use tasks::set::Task;
 
-#[derive(Drop)]
+#[derive(Clone, Copy)]
 pub enum TaskLine {
     Task(Task),
     Refused(Refusal),

@@ -4,7 +4,7 @@ ghost use Rattle.std.specs.Prelude.{◌≡◌};
 ghost use Rattle.masking.specs.Masking.{gains_some, gain_at};
 
 // So many ticks more at each length from `from` up to, not including, `until`.
-#[derive(Drop)]
+#[derive(Clone, Copy)]
 pub struct Gain {
     pub extra: u64,
     pub from: u64,

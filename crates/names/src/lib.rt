@@ -2,7 +2,7 @@
 // Types, definitions and laws; the code stands in names_code.
 
 // Where the name at hand ends in a part of the list, or else the part, and how many of its bytes are held.
-#[derive(Drop)]
+#[derive(Clone, Copy)]
 pub struct Cut {
     pub end: usize,
     pub held: usize,

@@ -3,7 +3,7 @@
 use tasks::set::{Header, Optional};
 
 // The board's figures, the cursor behind the lines, and their number.
-#[derive(Drop)]
+#[derive(Clone, Copy)]
 pub struct Opening {
     pub header: Header,
     pub at: usize,
@@ -11,7 +11,7 @@ pub struct Opening {
 }
 
 // What a line that may be there gives, the cursor behind it, and the number of lines up to there.
-#[derive(Drop)]
+#[derive(Clone, Copy)]
 pub struct OptionalLine {
     pub figure: Optional,
     pub at: usize,

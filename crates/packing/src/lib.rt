@@ -2,7 +2,7 @@
 // Types, definitions and laws; the code stands in sorting and turns_code.
 
 // The order in which tasks are placed: that of the file, or by load.
-#[derive(Drop)]
+#[derive(Clone, Copy)]
 pub enum Order {
     File,
     Falling,
@@ -10,7 +10,7 @@ pub enum Order {
 }
 
 // The server that a task joins: the first that takes it, or the one with the least room, or with the most.
-#[derive(Drop)]
+#[derive(Clone, Copy)]
 pub enum Fit {
     First,
     Best,

@@ -8,7 +8,7 @@ use ring::clock::Position;
 use ring::cover::Stand;
 use tasks::set::TaskSet;
 
-#[derive(Drop)]
+#[derive(Clone, Copy)]
 pub struct Plan {
     pub whole: u64,
     pub ring: u64,

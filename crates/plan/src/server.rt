@@ -3,7 +3,7 @@
 use ring::clock::Position;
 use tasks::set::TaskSet;
 
-#[derive(Drop)]
+#[derive(Clone, Copy)]
 pub struct Server {
     pub count: usize,
     pub places: [u8; TaskSet::MOST_TASKS],

@@ -4,7 +4,7 @@ use plan::plan::Plan;
 use refusals::Outcome;
 
 // The plan stands first: what is compiled then holds it once (docs/SPEED.md).
-#[derive(Drop)]
+#[derive(Clone, Copy)]
 pub struct PlanAnswer {
     pub plan: Plan,
     pub outcome: Outcome,

@@ -1,7 +1,7 @@
 // The refusals of documents 01 and 02 as one enum, each with what its place needs.
 // Types, definitions and laws; the code stands in refusals_code.
 
-#[derive(Drop)]
+#[derive(Clone, Copy)]
 pub enum Refusal {
     Line(u8),
     Order(u8),
@@ -18,13 +18,13 @@ pub enum Refusal {
     Alone(u8),
 }
 
-#[derive(Drop)]
+#[derive(Clone, Copy)]
 pub enum Outcome {
     Done,
     Refused(Refusal),
 }
 
-#[derive(Drop)]
+#[derive(Clone, Copy)]
 pub enum Written {
     Bytes(usize),
     Refused(Refusal),

@@ -1,7 +1,7 @@
 // A tick of the clock and a position on the ring are types of their own: only the phase rule leads from one to the other.
 
-#[derive(Drop)]
+#[derive(Clone, Copy)]
 pub struct Tick(pub u64);
 
-#[derive(Drop)]
+#[derive(Clone, Copy)]
 pub struct Position(pub u64);

@@ -3,7 +3,7 @@
 use refusals::Refusal;
 
 // What rows 5 to 9 say of a set: refused by one of them, or clear, with the horizon that row 9 found.
-#[derive(Drop)]
+#[derive(Clone, Copy)]
 pub enum Rows {
     Clear(u64),
     Refused(Refusal),

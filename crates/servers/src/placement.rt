@@ -3,7 +3,7 @@
 use tasks::set::TaskSet;
 
 // How many servers there are, the server of each task, and the cache cost of each server.
-#[derive(Drop)]
+#[derive(Clone, Copy)]
 pub struct Placed {
     pub count: u64,
     pub placement: [u64; TaskSet::MOST_TASKS],

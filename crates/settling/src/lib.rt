@@ -4,7 +4,7 @@ use refusals::Outcome;
 use sizing::Servers;
 
 // The servers stand first: what is compiled then holds them once (docs/SPEED.md).
-#[derive(Drop)]
+#[derive(Clone, Copy)]
 pub struct Settled {
     pub servers: Servers,
     pub outcome: Outcome,

@@ -3,7 +3,7 @@
 
 // A task's work without cache cost and its jobs in the horizon, its cache cost, and its effective deadline; or those of a server, with the
 // smallest deadline.
-#[derive(Drop)]
+#[derive(Clone, Copy)]
 pub struct Share {
     pub work: u64,
     pub jobs: u64,

@@ -3,7 +3,7 @@
 use tasks::set::TaskSet;
 
 // The server of each task in file order, and the cache cost and the reserve of each server; servers count from 1, unused room is zero.
-#[derive(Drop)]
+#[derive(Clone, Copy)]
 pub struct Servers {
     pub count: u64,
     pub placement: [u64; TaskSet::MOST_TASKS],

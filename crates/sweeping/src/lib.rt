@@ -3,7 +3,7 @@
 use tally::Tally;
 
 // The bytes held of the name at hand, and the names counted.
-#[derive(Drop)]
+#[derive(Clone, Copy)]
 pub struct Sweep {
     pub held: usize,
     pub tally: Tally,

@@ -10,7 +10,7 @@ use sweeping_code::{sweep_last, sweep_part};
 use tally::Tally;
 
 // The count, and whether all of the list could be read, up to the last name that is.
-#[derive(Drop)]
+#[derive(Clone, Copy)]
 pub struct Swept {
     pub whole: bool,
     pub tally: Tally,

@@ -2,7 +2,7 @@
 // Types, definitions and laws; the code stands in switchline_code.
 
 // Where the line of a switch ends, and what is carried past it: the server that begins, and until when it runs.
-#[derive(Drop)]
+#[derive(Clone, Copy)]
 pub struct Switched {
     pub at: usize,
     pub server: u64,

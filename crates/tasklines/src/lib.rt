@@ -4,7 +4,7 @@ use refusals::Outcome;
 use tasks::set::TaskSet;
 
 // How reading them ended, the set, the cursor behind the lines taken so far, and their number.
-#[derive(Drop)]
+#[derive(Clone, Copy)]
 pub struct TaskLines {
     pub outcome: Outcome,
     pub set: TaskSet,

@@ -4,7 +4,7 @@ use plan::plan::Plan;
 use refusals::Outcome;
 use tasks::set::TaskSet;
 
-#[derive(Drop)]
+#[derive(Clone, Copy)]
 pub struct FileAnswer {
     pub outcome: Outcome,
     pub set: TaskSet,

@@ -3,7 +3,7 @@
 use refusals::Outcome;
 use tasks::set::TaskSet;
 
-#[derive(Drop)]
+#[derive(Clone, Copy)]
 pub struct ReadAnswer {
     pub outcome: Outcome,
     pub set: TaskSet,

@@ -4,14 +4,14 @@ ghost use Rattle.std.specs.Prelude.{◌≡◌};
 ghost use Rattle.tasks.specs.Set.{zero_set, no_interrupts, masked_ticks, rule_number, with_lines, given_or, cache_cost};
 
 // The figure of an optional line or field, or that there is none.
-#[derive(Drop)]
+#[derive(Clone, Copy)]
 pub enum Optional {
     Absent,
     Given(u16),
 }
 
 // The board's figures: those of the 01 line, that of the 05 line and that of the 06 line.
-#[derive(Drop)]
+#[derive(Clone, Copy)]
 pub struct Header {
     pub processors: u8,
     pub slot: u32,
@@ -26,7 +26,7 @@ pub struct Header {
 
 // The figures of an 02 line; or those of an 03 line, which also gives the task's cache cost. The id stands last, so that no gap parts them:
 // a set is then copied whole, and not task by task.
-#[derive(Drop)]
+#[derive(Clone, Copy)]
 pub struct Task {
     pub cost: u32,
     pub deadline: u32,
@@ -36,7 +36,7 @@ pub struct Task {
 }
 
 // The figures of an 07 line: an interrupt's processor, cost, deadline, period and jitter.
-#[derive(Drop)]
+#[derive(Clone, Copy)]
 pub struct Interrupt {
     pub cost: u32,
     pub deadline: u32,
@@ -45,13 +45,13 @@ pub struct Interrupt {
     pub processor: u8,
 }
 
-#[derive(Drop)]
+#[derive(Clone, Copy)]
 pub struct Interrupts {
     pub count: usize,
     pub each: [Interrupt; TaskSet::MOST_INTERRUPTS],
 }
 
-#[derive(Drop)]
+#[derive(Clone, Copy)]
 pub struct TaskSet {
     pub header: Header,
     pub count: usize,

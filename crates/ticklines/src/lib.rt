@@ -14,7 +14,7 @@ use switchline_code::put_switch;
 use turn::Turn;
 
 // Where the next line goes, and the tick of the next switch, or the turn's end.
-#[derive(Drop)]
+#[derive(Clone, Copy)]
 pub struct Next {
     pub at: usize,
     pub tick: u64,

@@ -2,7 +2,7 @@
 // Types, definitions and laws; the code stands in tightrows_code.
 
 // A row that is tried on each task: 7 SLOT or 8 TIGHT.
-#[derive(Drop)]
+#[derive(Clone, Copy)]
 pub enum TaskRow {
     Slot,
     Tight,

@@ -1,7 +1,7 @@
 // A turn of the ring: what a walk through it goes by. What switches it has stands in specs/Switches.antt; there is no code here.
 
 // A ring that is laid: the number of servers, the slot, the ring processors, the idle positions.
-#[derive(Drop)]
+#[derive(Clone, Copy)]
 pub struct Turn {
     pub servers: usize,
     pub slot: u64,

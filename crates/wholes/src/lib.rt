@@ -2,7 +2,7 @@
 // Types, definitions and laws; the code stands in least_multiple and wholes_code.
 
 // A multiple that is at most the limit, or none.
-#[derive(Drop)]
+#[derive(Clone, Copy)]
 pub enum Multiple {
     Within(u64),
     Past,

@@ -2,7 +2,7 @@
 // Types, definitions and laws; the code stands in who_made and whoruns_code.
 use refusals::Outcome;
 
-#[derive(Drop)]
+#[derive(Clone, Copy)]
 pub struct WhoAnswer {
     pub outcome: Outcome,
     pub server: u64,
