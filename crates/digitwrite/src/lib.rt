@@ -32,7 +32,7 @@ pub fn put_number(out: &mut [u8], at: usize, width: usize, value: u64)
 }
 
 // Whether a number has more digits than a width.
-pub fn too_large_lem(width: usize, value: u64) -> bool
+pub fn too_large(width: usize, value: u64) -> bool
     ensures { result ≡ too_large width value }
 {
     let mut high = value;

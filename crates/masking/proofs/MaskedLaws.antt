@@ -100,6 +100,7 @@ masked_lawful B ls H e h v =
 
 -- the smallest deadline is a step
 pub step_at : (x : ℕ) (ls : List Load) → Some (λ (l : Load). l.deadline ≡ x) ls → Some (λ (l : Load). StepOf l x) ls
+step_at x [] s = elim s [ ]
 step_at x (l ∷ ls) s = ⊎_elim (λ (e : l.deadline ≡ x). inl (0, omega arith)) (λ r. inr (step_at x ls r)) s
 
 pub soonest_step : (l : Load) (ls : List Load) → Every Sound (l ∷ ls) → Step (l ∷ ls) (soonest (l ∷ ls))
@@ -148,6 +149,7 @@ masked_steps B (l ∷ ls) e t =
 
 -- loads of which one is due at a length ask for something there
 asked_at : (x : ℕ) (ls : List Load) → Every Sound ls → Some (λ (l : Load). l.deadline ≡ x) ls → 1 ≤ demand ls x
+asked_at x [] e s = elim s [ ]
 asked_at x (l ∷ ls) e s =
     ⊎_elim
     (λ (d : l.deadline ≡ x). subst (λ (t : ℕ). 1 ≤ demand (l ∷ ls) t) d (loads_lawful.some l ls e.0))

@@ -46,6 +46,7 @@ latest_step l ls e =
     (due m (l ∷ ls) (sound_due (l ∷ ls) e) found, step_at m (l ∷ ls) found)
   where
     due : (m : ℕ) (ls : List Load) → Every (λ (l : Load). 1 ≤ l.deadline) ls → Some (λ (l : Load). l.deadline ≡ m) ls → 1 ≤ m
+    due m [] e s = elim s [ ]
     due m (l ∷ ls) e s = ⊎_elim (λ (q : l.deadline ≡ m). omega (arith, e.0)) (λ r. due m ls e.1 r) s
 
 module _ {k : Gain} {ls : List Load} {hi : ℕ} (own : Gains k ls hi) where

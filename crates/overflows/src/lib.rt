@@ -3,7 +3,7 @@ ghost use Rattle.std.specs.Prelude.{◌≡◌, ◌≤◌, length as count};
 ghost use Rattle.frames.specs.Table.{fields_in};
 ghost use Rattle.framesizes.specs.Overflow.{line_overflows};
 
-use digitwrite::too_large_lem;
+use digitwrite::too_large;
 use frames::table::Frame;
 use frames_code::row_of;
 use framesizes_code::width;
@@ -24,7 +24,7 @@ pub fn overflows(frame: Frame, values: &[u64]) -> bool
     let n = fields_in(frame);
     let mut field = 0;
     while field < n {
-        if too_large_lem(width(frame, field), values[field]) {
+        if too_large(width(frame, field), values[field]) {
             return true;
         }
         field += 1;

@@ -10,87 +10,87 @@ use Rattle.demand.proofs.Demand.{every_at, demand_next, demand_room}
 use Rattle.demand_at.proofs.demand_at.Statement.{statement}
 use Rattle.demand_at.proofs.demand_at.Tie as tie
 
-abbrev invariant-loop : tie.invariant-loop
-invariant-loop loads n t sum₀ i₀ sum i = (i ≤ n) × (sum ≡ demand (loads_of loads i) t)
+abbrev invariant-loop-i : tie.invariant-loop-i
+invariant-loop-i loads n t sum₀ i₀ sum i = (i ≤ n) × (sum ≡ demand (loads_of loads i) t)
 
-abbrev decreases-loop : tie.decreases-loop
-decreases-loop loads n t sum₀ i₀ sum i = n - i
+abbrev decreases-loop-i : tie.decreases-loop-i
+decreases-loop-i loads n t sum₀ i₀ sum i = n - i
 
-abbrev start : tie.In-loop invariant-loop decreases-loop → tie.Start invariant-loop decreases-loop
+abbrev start : tie.In-loop-i invariant-loop-i decreases-loop-i → tie.Start invariant-loop-i decreases-loop-i
 start c = c.before.before.before
 
 -- the load of this turn is sound, and the sum that follows has room
-here : (c : tie.In-loop invariant-loop decreases-loop) → Sound (load_at (start c).args.loads.now c.before.loop.i)
+here : (c : tie.In-loop-i invariant-loop-i decreases-loop-i) → Sound (load_at (start c).args.loads.now c.loop-i.i)
 here c =
     let s = start c in
-    every_at (load_at s.args.loads.now) Sound s.args.n c.loop-test.true s.pre.0.sound
+    every_at (load_at s.args.loads.now) Sound s.args.n c.loop-i-test.true s.requires.0.sound
 
-room : (c : tie.In-loop invariant-loop decreases-loop) →
-    let l = load_at (start c).args.loads.now c.before.loop.i in
-    c.before.loop.sum + l.cost * jobs l.deadline l.period (start c).args.t < 2 ^ 63
+room : (c : tie.In-loop-i invariant-loop-i decreases-loop-i) →
+    let l = load_at (start c).args.loads.now c.loop-i.i in
+    c.loop-i.sum + l.cost * jobs l.deadline l.period (start c).args.t < 2 ^ 63
 room c =
     let s = start c in
     let a = s.args in
-    let i = c.before.loop.i in
+    let i = c.loop-i.i in
     omega (
       arith,
-      c.before.loop.invariant.1,
+      c.loop-i.invariant.1,
       demand_next a.loads.now i a.t,
-      demand_room a.loads.now a.n (i + 1) a.t s.pre.0 (omega arith) s.pre.1,
+      demand_room a.loads.now a.n (i + 1) a.t s.requires.0 (omega arith) s.requires.1,
     )
 
-loop-holds : tie.Need-loop-init invariant-loop decreases-loop
+loop-i-init : tie.Need-loop-i-init invariant-loop-i decreases-loop-i
 unfolding each demand
-loop-holds c = (omega arith, refl)
+loop-i-init c = (omega arith, refl)
 
-mul_at : tie.Need-overflow-mul-at invariant-loop decreases-loop
-mul_at c = omega (arith, (start c).requires.0.few)
+overflow_mul-at : tie.Need-overflow_mul-at invariant-loop-i decreases-loop-i
+overflow_mul-at c = omega (arith, (start c).requires.0.few)
 
-add-term-at : tie.Need-overflow-add-term-at invariant-loop decreases-loop
-add-term-at c = omega (arith, (start c.before).pre.0.few)
+overflow_add-at : tie.Need-overflow_add-at invariant-loop-i decreases-loop-i
+overflow_add-at c = omega (arith, (start c.before).requires.0.few)
 
-add-term-at-2 : tie.Need-overflow-add-term-at-2 invariant-loop decreases-loop
-add-term-at-2 c = omega (arith, (start c.before.before).pre.0.few)
+overflow_add-at-in-loop-i : tie.Need-overflow_add-at-in-loop-i invariant-loop-i decreases-loop-i
+overflow_add-at-in-loop-i c = omega (arith, (start c.before.before).requires.0.few)
 
-term-at-requires : tie.Need-term-at-requires invariant-loop decreases-loop
-term-at-requires c κs =
+term_at-sum-requires : tie.Need-term_at-sum-requires invariant-loop-i decreases-loop-i
+term_at-sum-requires c κs =
     let turn = c.before.before.before in
     ((omega (arith, here turn), (start turn).requires.1), omega (arith, room turn))
 
-add-sum : tie.Need-overflow-add-sum invariant-loop decreases-loop
-add-sum c = omega (arith, c.term-at.ensures, room c.before.before.before.before)
+overflow_add-sum : tie.Need-overflow_add-sum invariant-loop-i decreases-loop-i
+overflow_add-sum c = omega (arith, c.term_at-sum.ensures, room c.before.before.before.before)
 
-loop-again : tie.Need-loop-preserved invariant-loop decreases-loop
-loop-again c =
+loop-i-preserved : tie.Need-loop-i-preserved invariant-loop-i decreases-loop-i
+loop-i-preserved c =
     let turn = c.before.before.before.before in
     let a = (start turn).args in
-    (omega arith, omega (arith, c.term-at.ensures, turn.before.loop.invariant.1, demand_next a.loads.now turn.before.loop.i a.t))
+    (omega arith, omega (arith, c.term_at-sum.ensures, turn.loop-i.invariant.1, demand_next a.loads.now turn.loop-i.i a.t))
 
-returns : tie.Need-returns invariant-loop decreases-loop
+returns : tie.Need-returns invariant-loop-i decreases-loop-i
 returns c =
-    let a = c.before.before.before.args in
-    let e : c.before.loop.i ≡ a.n = omega arith in
-    c.before.loop.invariant.1 ∙ ap (λ (i : ℕ). demand (loads_of a.loads.now i) a.t) e
+    let a = c.args in
+    let e : c.loop-i.i ≡ a.n = omega arith in
+    c.loop-i.invariant.1 ∙ ap (λ (i : ℕ). demand (loads_of a.loads.now i) a.t) e
 
-pub demand-at-spec : {M : Type 1} → statement M
-demand-at-spec =
+pub demand_at_spec : {M : Type 1} → statement M
+demand_at_spec =
     tie.close
     (tie.spec
-    invariant-loop
-    decreases-loop
-    loop-holds
-    mul_at
+    invariant-loop-i
+    decreases-loop-i
+    loop-i-init
+    overflow_mul-at
     (λ c. search rules)
     (λ c. search rules)
-    add-term-at
+    overflow_add-at
     (λ c. search rules)
     (λ c. search rules)
-    add-term-at-2
+    overflow_add-at-in-loop-i
     (λ c. search rules)
     (λ c. search rules)
-    term-at-requires
-    add-sum
+    term_at-sum-requires
+    overflow_add-sum
     (λ c. search rules)
     (λ c. search rules)
-    loop-again
+    loop-i-preserved
     returns)

@@ -10,26 +10,32 @@ use Rattle.steps.specs.Stepping.{last_of_greater}
 use Rattle.last_of_greatest.proofs.last_of_greater.Statement.{statement}
 use Rattle.last_of_greatest.proofs.last_of_greater.Tie as tie
 
-returns : tie.Need-returns
+returns-then-a-b : tie.Need-returns-then-a-b
 unfolding last_of_greater
-returns c = let a = c.before.args in sym (cond_ltb a.y (cond (ltb a.b a.a) a.x (min a.x a.y)) c.if1.true)
+returns-then-a-b c = let a = c.args in sym (cond_ltb a.y (cond (ltb a.b a.a) a.x (min a.x a.y)) c.if-a-b.true)
 
 -- past the first test the second decides
-rest : (c : tie.Else1) → let a = c.before.args in last_of_greater a.a a.x a.b a.y ≡ cond (ltb a.b a.a) a.x (min a.x a.y)
+rest : (c : tie.Else-a-b) → let a = c.args in last_of_greater a.a a.x a.b a.y ≡ cond (ltb a.b a.a) a.x (min a.x a.y)
 unfolding last_of_greater
-rest c = let a = c.before.args in cond_ltb_not a.y (cond (ltb a.b a.a) a.x (min a.x a.y)) c.if1.false
+rest c = let a = c.args in cond_ltb_not a.y (cond (ltb a.b a.a) a.x (min a.x a.y)) c.if-a-b.false
 
-returns-2 : tie.Need-returns-2
-returns-2 c = let a = c.before.before.args in sym (rest c.before ∙ cond_ltb a.x (min a.x a.y) c.if2.true)
+returns-then-b-a : tie.Need-returns-then-b-a
+returns-then-b-a c = let a = c.args in sym (rest c.before ∙ cond_ltb a.x (min a.x a.y) c.if-b-a.true)
 
-equally : (c : tie.Else2) → let a = c.before.before.args in last_of_greater a.a a.x a.b a.y ≡ min a.x a.y
-equally c = let a = c.before.before.args in rest c.before ∙ cond_ltb_not a.x (min a.x a.y) c.if2.false
+equally : (c : tie.Else-b-a) → let a = c.args in last_of_greater a.a a.x a.b a.y ≡ min a.x a.y
+equally c = let a = c.args in rest c.before ∙ cond_ltb_not a.x (min a.x a.y) c.if-b-a.false
 
-returns-3 : tie.Need-returns-3
-returns-3 c = omega (arith, c.if3.true, equally c.before)
+returns-then-y-x : tie.Need-returns-then-y-x
+returns-then-y-x c = omega (arith, c.if-y-x.true, equally c.before)
 
-returns-4 : tie.Need-returns-4
-returns-4 c = omega (arith, c.if3.false, equally c.before)
+returns : tie.Need-returns
+returns c = omega (arith, c.if-y-x.false, equally c.before)
 
-pub last-of-greater-spec : {M : Type 1} → statement M
-last-of-greater-spec = tie.close (tie.spec returns returns-2 returns-3 returns-4)
+pub last_of_greater_spec : {M : Type 1} → statement M
+last_of_greater_spec =
+    tie.close
+    (tie.spec
+    returns-then-a-b
+    returns-then-b-a
+    returns-then-y-x
+    returns)

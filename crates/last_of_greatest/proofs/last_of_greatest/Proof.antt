@@ -17,188 +17,188 @@ use Rattle.steps.proofs.RisenLaws.{last_of, Risen, risen_none, risen_new, risen_
 use Rattle.last_of_greatest.proofs.last_of_greatest.Statement.{statement}
 use Rattle.last_of_greatest.proofs.last_of_greatest.Tie as tie
 
-abbrev invariant-loop : tie.invariant-loop
-invariant-loop loads n hi from count greatest₀ risen₀ processor₀ sum₀ last₀ i₀ greatest risen processor sum last i =
+abbrev invariant-loop-i : tie.invariant-loop-i
+invariant-loop-i loads n hi from count greatest₀ risen₀ processor₀ sum₀ last₀ i₀ greatest risen processor sum last i =
     (i ≤ count) × Risen (bounds_of loads (3 * n) i) hi processor sum last greatest risen
 
-abbrev decreases-loop : tie.decreases-loop
-decreases-loop loads n hi from count greatest₀ risen₀ processor₀ sum₀ last₀ i₀ greatest risen processor sum last i = count - i
+abbrev decreases-loop-i : tie.decreases-loop-i
+decreases-loop-i loads n hi from count greatest₀ risen₀ processor₀ sum₀ last₀ i₀ greatest risen processor sum last i = count - i
 
-abbrev start : tie.In-loop invariant-loop decreases-loop → tie.Start invariant-loop decreases-loop
+abbrev start : tie.In-loop-i invariant-loop-i decreases-loop-i → tie.Start invariant-loop-i decreases-loop-i
 start c = c.before.before.before
 
 -- this turn's interrupt, and those before it
-abbrev its : tie.In-loop invariant-loop decreases-loop → Bound
+abbrev its : tie.In-loop-i invariant-loop-i decreases-loop-i → Bound
 its c = bound_at (start c).args.loads.now (3 * (start c).args.n) c.before.loop.i
 
-abbrev earlier : tie.In-loop invariant-loop decreases-loop → List Bound
+abbrev earlier : tie.In-loop-i invariant-loop-i decreases-loop-i → List Bound
 earlier c = bounds_of (start c).args.loads.now (3 * (start c).args.n) c.before.loop.i
 
-within : (c : tie.In-loop invariant-loop decreases-loop) → c.before.loop.i < behind (start c).args.loads.now (start c).args.n
-within c = c.loop-test.true
+within : (c : tie.In-loop-i invariant-loop-i decreases-loop-i) → c.loop-i.i < behind (start c).args.loads.now (start c).args.n
+within c = c.loop-i-test.true
 
-reads : (c : tie.In-loop invariant-loop decreases-loop) → 3 * (start c).args.n + 4 * c.before.loop.i + 4 ≤ length (start c).args.loads.now
-reads c = let s = start c in its_there s.args.loads.now s.args.n s.pre.0 c.before.loop.i (within c)
+reads : (c : tie.In-loop-i invariant-loop-i decreases-loop-i) → 3 * (start c).args.n + 4 * c.loop-i.i + 4 ≤ length (start c).args.loads.now
+reads c = let s = start c in its_there s.args.loads.now s.args.n s.requires.0 c.loop-i.i (within c)
 
-fits : (c : tie.In-loop invariant-loop decreases-loop) → 3 * (start c).args.n + 4 * c.before.loop.i + 4 ≤ 2 ^ 11
-fits c = let s = start c in its_fits s.args.loads.now s.args.n s.pre.0 c.before.loop.i (within c)
+fits : (c : tie.In-loop-i invariant-loop-i decreases-loop-i) → 3 * (start c).args.n + 4 * c.loop-i.i + 4 ≤ 2 ^ 11
+fits c = let s = start c in its_fits s.args.loads.now s.args.n s.requires.0 c.loop-i.i (within c)
 
-numbered : (c : tie.In-loop invariant-loop decreases-loop) → Numbered (its c)
-numbered c = let s = start c in its_numbered s.args.loads.now s.args.n s.pre.0 c.before.loop.i (within c)
+numbered : (c : tie.In-loop-i invariant-loop-i decreases-loop-i) → Numbered (its c)
+numbered c = let s = start c in its_numbered s.args.loads.now s.args.n s.requires.0 c.loop-i.i (within c)
 
-top : (c : tie.In-loop invariant-loop decreases-loop) → highest (earlier c) ≤ (its c).processor
-top c = let s = start c in its_highest s.args.loads.now s.args.n s.pre.0 c.before.loop.i (within c)
+top : (c : tie.In-loop-i invariant-loop-i decreases-loop-i) → highest (earlier c) ≤ (its c).processor
+top c = let s = start c in its_highest s.args.loads.now s.args.n s.requires.0 c.loop-i.i (within c)
 
-sound-before : (c : tie.In-loop invariant-loop decreases-loop) → EveryBound (λ (b : Bound). Sound b.load) (earlier c)
+sound-before : (c : tie.In-loop-i invariant-loop-i decreases-loop-i) → EveryBound (λ (b : Bound). Sound b.load) (earlier c)
 sound-before c =
     let s = start c in
     bounds_map Numbered (λ (b : Bound). Sound b.load) (earlier c) (λ b e. e.sound)
-    (first_numbered s.args.loads.now s.args.n s.pre.0 c.before.loop.i (omega (arith, within c)))
+    (first_numbered s.args.loads.now s.args.n s.requires.0 c.loop-i.i (omega (arith, within c)))
 
-mul-from : tie.Need-overflow-mul-from invariant-loop decreases-loop
-mul-from c = omega (arith, c.before.requires.0.few)
+overflow_mul-from : tie.Need-overflow_mul-from invariant-loop-i decreases-loop-i
+overflow_mul-from c = omega (arith, c.requires.0.few)
 
-sub-count : tie.Need-overflow-sub-count invariant-loop decreases-loop
-sub-count c = omega (arith, c.before.requires.0.loads.there)
+overflow_sub-count : tie.Need-overflow_sub-count invariant-loop-i decreases-loop-i
+overflow_sub-count c = omega (arith, c.requires.0.loads.there)
 
-loop-holds : tie.Need-loop-init invariant-loop decreases-loop
+loop-i-init : tie.Need-loop-i-init invariant-loop-i decreases-loop-i
 unfolding bounds_of
-loop-holds c = (omega arith, risen_none c.before.args.hi)
+loop-i-init c = (omega arith, risen_none c.args.hi)
 
-mul_at : tie.Need-overflow-mul-at invariant-loop decreases-loop
-mul_at c = omega (arith, fits c)
+overflow_mul-at : tie.Need-overflow_mul-at invariant-loop-i decreases-loop-i
+overflow_mul-at c = omega (arith, fits c)
 
-add_at : tie.Need-overflow-add-at invariant-loop decreases-loop
-add_at c = omega (arith, fits c)
+overflow_add-at : tie.Need-overflow_add-at invariant-loop-i decreases-loop-i
+overflow_add-at c = omega (arith, fits c)
 
-read-its : tie.Need-shared-slice-read-its invariant-loop decreases-loop
-read-its c = omega (arith, reads c.before)
+bounds-loads-at : tie.Need-bounds-loads-at invariant-loop-i decreases-loop-i
+bounds-loads-at c = omega (arith, reads c.before)
 
-add-d : tie.Need-overflow-add-d invariant-loop decreases-loop
-add-d c = omega (arith, fits c.before.before)
+overflow_add-d : tie.Need-overflow_add-d invariant-loop-i decreases-loop-i
+overflow_add-d c = omega (arith, fits c.before.before)
 
-read-d : tie.Need-shared-slice-read-d invariant-loop decreases-loop
-read-d c = omega (arith, reads c.before.before.before)
+bounds-loads-at-in-loop-i : tie.Need-bounds-loads-at-in-loop-i invariant-loop-i decreases-loop-i
+bounds-loads-at-in-loop-i c = omega (arith, reads c.before.before.before)
 
-add-period : tie.Need-overflow-add-period invariant-loop decreases-loop
-add-period c = omega (arith, fits c.before.before.before)
+overflow_add-period : tie.Need-overflow_add-period invariant-loop-i decreases-loop-i
+overflow_add-period c = omega (arith, fits c.before.before.before)
 
-read-period : tie.Need-shared-slice-read-period invariant-loop decreases-loop
-read-period c = omega (arith, reads c.before.before.before.before)
+bounds-loads-at-in-loop-i-2 : tie.Need-bounds-loads-at-in-loop-i-2 invariant-loop-i decreases-loop-i
+bounds-loads-at-in-loop-i-2 c = omega (arith, reads c.before.before.before.before)
 
-add-term-at : tie.Need-overflow-add-term-at invariant-loop decreases-loop
-add-term-at c = omega (arith, fits c.before.before.before.before)
+overflow_add-at-in-loop-i : tie.Need-overflow_add-at-in-loop-i invariant-loop-i decreases-loop-i
+overflow_add-at-in-loop-i c = omega (arith, fits c.before.before.before.before)
 
-read-term-at : tie.Need-shared-slice-read-term-at invariant-loop decreases-loop
-read-term-at c = omega (arith, reads c.before.before.before.before.before)
+bounds-loads-at-in-loop-i-3 : tie.Need-bounds-loads-at-in-loop-i-3 invariant-loop-i decreases-loop-i
+bounds-loads-at-in-loop-i-3 c = omega (arith, reads c.before.before.before.before.before)
 
 -- where the two ways meet: the processor is this turn's, and sum and last step are those of its interrupts so far
-based : (c : tie.Joined1 invariant-loop decreases-loop) →
+based : (c : tie.Joined-processor-its invariant-loop-i decreases-loop-i) →
     let turn = c.before.before in
     let hi = (start turn).args.hi in
-    (c.if1.processor ≡ (its turn).processor) × (c.if1.sum ≡ interrupt_demand (its turn).processor (earlier turn) hi) ×
-    (c.if1.new ≡ last_of (interrupt_demand (its turn).processor (earlier turn)) hi)
+    (c.if-processor-its.processor ≡ (its turn).processor) × (c.if-processor-its.sum ≡ interrupt_demand (its turn).processor (earlier turn) hi) ×
+    (c.if-processor-its.new ≡ last_of (interrupt_demand (its turn).processor (earlier turn)) hi)
 based c =
     let turn = c.before.before in
     let p = (its turn).processor in
-    let old = turn.before.loop.invariant.1 in
+    let old = turn.loop-i.invariant.1 in
     ⊎_elim
     (λ w.
-    let new : turn.before.loop.processor < p = omega (arith, w.0.taken) in
+    let new : turn.loop-i.processor < p = omega (arith, w.0.taken) in
     (w.1, w.2 ∙ reached_new old.reached p new, w.3 ∙ risen_new old p new))
     (λ w.
-    let no-new : p ≤ turn.before.loop.processor = omega (arith, w.0.left) in
+    let no-new : p ≤ turn.loop-i.processor = omega (arith, w.0.left) in
     let same = reached_same old.reached p no-new (top turn) in
     (w.1 ∙ same.0, w.2 ∙ same.1, w.3 ∙ risen_same old p no-new (top turn)))
-    c.if1.branch
+    c.if-processor-its.branch
 
 -- with its term added the sum has room
-room : (c : tie.Joined1 invariant-loop decreases-loop) → let turn = c.before.before in c.if1.sum + term (its turn).load (start turn).args.hi < 2 ^ 63
+room : (c : tie.Joined-processor-its invariant-loop-i decreases-loop-i) → let turn = c.before.before in c.if-processor-its.sum + term (its turn).load (start turn).args.hi < 2 ^ 63
 room c =
     let turn = c.before.before in
     let s = start turn in
     let a = s.args in
-    let i = turn.before.loop.i in
+    let i = turn.loop-i.i in
     let b = its turn in
     omega (
       arith,
       (based c).1,
       interrupt_own b.processor (earlier turn) b a.hi refl,
       ap (λ bs. interrupt_demand b.processor bs a.hi) (bounds_next a.loads.now (3 * a.n) i),
-      interrupt_room a.loads.now a.n s.pre.0 b.processor (i + 1) a.hi (omega (arith, within turn)) s.pre.1,
+      interrupt_room a.loads.now a.n s.requires.0 b.processor (i + 1) a.hi (omega (arith, within turn)) s.requires.1,
     )
 
-term-at-requires : tie.Need-term-at-requires invariant-loop decreases-loop
-term-at-requires c κs =
+term_at-sum-requires : tie.Need-term_at-sum-requires invariant-loop-i decreases-loop-i
+term_at-sum-requires c κs =
     let met = c.before.before.before in
     let turn = met.before.before in
     ((omega (arith, (numbered turn).sound), (start turn).requires.1), omega (arith, room met))
 
-add-sum : tie.Need-overflow-add-sum invariant-loop decreases-loop
-add-sum c = omega (arith, c.before.term-at.ensures, room c.before.before.before.before.before)
+overflow_add-sum : tie.Need-overflow_add-sum invariant-loop-i decreases-loop-i
+overflow_add-sum c = omega (arith, c.term_at-sum.ensures, room c.before.before.before.before.before)
 
-last-due-requires : tie.Need-last-due-requires invariant-loop decreases-loop
-last-due-requires c κs =
+last_due-requires : tie.Need-last_due-requires invariant-loop-i decreases-loop-i
+last_due-requires c κs =
     let sound = (numbered c.before.before.before.before.before.before.before).sound in
     (sound.due, sound.constrained)
 
-loop-again : tie.Need-loop-preserved invariant-loop decreases-loop
-loop-again c =
+loop-i-preserved : tie.Need-loop-i-preserved invariant-loop-i decreases-loop-i
+loop-i-preserved c =
     let lasted = c.before.before in
     let due = lasted.before in
     let added = due.before.before in
     let met = added.before.before.before.before in
     let turn = met.before.before in
     let a = (start turn).args in
-    let i = turn.before.loop.i in
+    let i = turn.loop-i.i in
     let b = its turn in
     let base = based met in
     let next =
-    risen_next turn.before.loop.invariant.1 (sound-before turn) b (numbered turn).sound met.if1.sum met.if1.new
-    (met.if1.sum + added.term-at.result) lasted.larger.result c.larger2.result c.before.last-of-greater.result
+    risen_next turn.loop-i.invariant.1 (sound-before turn) b (numbered turn).sound met.if-processor-its.sum met.if-processor-its.new
+    (met.if-processor-its.sum + added.term_at-sum.result) lasted.larger-last.result c.larger-greatest.result c.last_of_greater-risen.result
     (numbered turn).there (top turn) base.1 base.2
-    (ap (λ (x : ℕ). met.if1.sum + x) added.term-at.ensures)
-    (lasted.larger.ensures ∙ ap (λ (x : ℕ). max met.if1.new x) due.last_due.ensures)
-    c.larger2.ensures
-    c.before.last-of-greater.ensures in
+    (ap (λ (x : ℕ). met.if-processor-its.sum + x) added.term_at-sum.ensures)
+    (lasted.larger-last.ensures ∙ ap (λ (x : ℕ). max met.if-processor-its.new x) due.last_due.ensures)
+    c.larger-greatest.ensures
+    c.last_of_greater-risen.ensures in
     (omega (arith, within turn), rw (bounds_next a.loads.now (3 * a.n) i, base.0) next)
 
-returns : tie.Need-returns invariant-loop decreases-loop
+returns : tie.Need-returns invariant-loop-i decreases-loop-i
 unfolding interrupts_of
 returns c =
-    let a = c.before.before.before.args in
-    let e : c.before.loop.i ≡ behind a.loads.now a.n = omega (arith, c.loop-test.false, c.before.loop.invariant.0) in
-    c.before.loop.invariant.1.rises ∙ ap (λ (k : ℕ). last_of (greatest_of_all (bounds_of a.loads.now (3 * a.n) k)) a.hi) e
+    let a = c.args in
+    let e : c.loop-i.i ≡ behind a.loads.now a.n = omega (arith, c.loop-i-test.false, c.loop-i.invariant.0) in
+    c.loop-i.invariant.1.rises ∙ ap (λ (k : ℕ). last_of (greatest_of_all (bounds_of a.loads.now (3 * a.n) k)) a.hi) e
 
-pub last-of-greatest-spec : {M : Type 1} → statement M
-last-of-greatest-spec =
+pub last_of_greatest_spec : {M : Type 1} → statement M
+last_of_greatest_spec =
     tie.close
     (tie.spec
-    invariant-loop
-    decreases-loop
-    mul-from
-    sub-count
-    loop-holds
-    mul_at
-    add_at
+    invariant-loop-i
+    decreases-loop-i
+    overflow_mul-from
+    overflow_sub-count
+    loop-i-init
+    overflow_mul-at
+    overflow_add-at
     (λ c. search rules)
-    read-its
-    add-d
+    bounds-loads-at
+    overflow_add-d
     (λ c. search rules)
-    read-d
-    add-period
+    bounds-loads-at-in-loop-i
+    overflow_add-period
     (λ c. search rules)
-    read-period
-    add-term-at
+    bounds-loads-at-in-loop-i-2
+    overflow_add-at-in-loop-i
     (λ c. search rules)
-    read-term-at
-    term-at-requires
-    add-sum
-    last-due-requires
+    bounds-loads-at-in-loop-i-3
+    term_at-sum-requires
+    overflow_add-sum
+    last_due-requires
     (λ c κs. search rules)
     (λ c κs. search rules)
     (λ c κs. search rules)
     (λ c. search rules)
     (λ c. search rules)
-    loop-again
+    loop-i-preserved
     returns)

@@ -13,55 +13,55 @@ use Rattle.loads.proofs.ChargeLaws.{charged_to, charge_step}
 use Rattle.loads_code.proofs.charge.Statement.{statement}
 use Rattle.loads_code.proofs.charge.Tie as tie
 
-abbrev invariant-loop : tie.invariant-loop
-invariant-loop header cache figures places n loads₀ i₀ loads i =
+abbrev invariant-loop-i : tie.invariant-loop-i
+invariant-loop-i header cache figures places n loads₀ i₀ loads i =
     (i ≤ n) × (length loads ≡ length loads₀) × (loads ≡ stored loads₀ 0 (numbers_of (charged_to header cache figures places i)))
 
-abbrev decreases-loop : tie.decreases-loop
-decreases-loop header cache figures places n loads₀ i₀ loads i = n - i
+abbrev decreases-loop-i : tie.decreases-loop-i
+decreases-loop-i header cache figures places n loads₀ i₀ loads i = n - i
 
 -- the place that was read, and the room that is left
-module _ (c : tie.After-shared-slice-known3 invariant-loop decreases-loop) where
-  abbrev start : tie.Start invariant-loop decreases-loop
+module _ (c : tie.After-shared_slice_known-in-loop-i-1 invariant-loop-i decreases-loop-i) where
+  abbrev start : tie.Start invariant-loop-i decreases-loop-i
   start = c.before.before.before.before.before.before
 
-  there : 4 * get_or start.args.places.now c.before.before.loop.i 0 + 3 < length start.args.figures.now
-  there = start.pre.there c.before.before.loop.i c.before.loop-test.true
+  there : 4 * get_or start.args.places.now c.loop-i.i 0 + 3 < length start.args.figures.now
+  there = start.requires.there c.loop-i.i c.loop-i-test.true
 
-  member : Member start.args.header (figures_at start.args.figures.now (get_or start.args.places.now c.before.before.loop.i 0))
-  member = start.pre.members c.before.before.loop.i c.before.loop-test.true
+  member : Member start.args.header (figures_at start.args.figures.now (get_or start.args.places.now c.loop-i.i 0))
+  member = start.requires.members c.loop-i.i c.loop-i-test.true
 
-  room : 3 * c.before.before.loop.i + 3 ≤ length start.args.loads.now
-  room = omega (arith, start.pre.room, c.before.loop-test.true)
+  room : 3 * c.loop-i.i + 3 ≤ length start.args.loads.now
+  room = omega (arith, start.requires.room, c.loop-i-test.true)
 
   -- the place of a load's last number, in bytes, is a number of the machine
-  small : 8 * (3 * c.before.before.loop.i + 2) < 2 ^ 64
+  small : 8 * (3 * c.loop-i.i + 2) < 2 ^ 64
   small = omega (arith, room)
 
-loop-holds : tie.Need-loop-init invariant-loop decreases-loop
+loop-i-init : tie.Need-loop-i-init invariant-loop-i decreases-loop-i
 unfolding numbers_of
-loop-holds c = (omega arith, refl, sym (stored_nil _ _))
+loop-i-init c = (omega arith, refl, sym (stored_nil _ _))
 
-shared-slice-read-from : tie.Need-shared-slice-read-from invariant-loop decreases-loop
-shared-slice-read-from c = omega (arith, c.before.before.before.before.before.before.requires.places_there)
+bounds-places-i : tie.Need-bounds-places-i invariant-loop-i decreases-loop-i
+bounds-places-i c = omega (arith, c.requires.places_there)
 
-cast-from : tie.Need-overflow-cast-from invariant-loop decreases-loop
-cast-from c = record { fits = omega (arith, there c) }
+overflow_cast-from : tie.Need-overflow_cast-from invariant-loop-i decreases-loop-i
+overflow_cast-from c = record { fits = omega (arith, there c) }
 
-mul-from : tie.Need-overflow-mul-from invariant-loop decreases-loop
-mul-from c = omega (arith, there c)
+overflow_mul-from : tie.Need-overflow_mul-from invariant-loop-i decreases-loop-i
+overflow_mul-from c = omega (arith, there c)
 
-mul-to : tie.Need-overflow-mul-to invariant-loop decreases-loop
-mul-to c = omega (arith, room c)
+overflow_mul-to : tie.Need-overflow_mul-to invariant-loop-i decreases-loop-i
+overflow_mul-to c = omega (arith, room c)
 
-mul-charged-cost : tie.Need-overflow-mul-charged-cost invariant-loop decreases-loop
-mul-charged-cost c = omega (arith, there c)
+offset_bounds-figures-from : tie.Need-offset_bounds-figures-from invariant-loop-i decreases-loop-i
+offset_bounds-figures-from c = omega (arith, there c)
 
-shared-slice-read-charged-cost : tie.Need-shared-slice-read-charged-cost invariant-loop decreases-loop
-shared-slice-read-charged-cost c = omega (arith, there c.before)
+bounds-figures-from : tie.Need-bounds-figures-from invariant-loop-i decreases-loop-i
+bounds-figures-from c = omega (arith, there c.before)
 
-charged-cost-requires : tie.Need-charged-cost-requires invariant-loop decreases-loop
-charged-cost-requires c κs =
+charged_cost-requires : tie.Need-charged_cost-requires invariant-loop-i decreases-loop-i
+charged_cost-requires c κs =
     let k = c.before.before.before in
     let m = member k in (
       omega (arith, m.meets, m.constrained, m.short),
@@ -70,118 +70,118 @@ charged-cost-requires c κs =
       (start k).requires.cache_small,
     )
 
-mul-loads : tie.Need-overflow-mul-loads invariant-loop decreases-loop
-mul-loads c = omega (arith, room c.before.before.before.before)
+offset_bounds-loads-to : tie.Need-offset_bounds-loads-to invariant-loop-i decreases-loop-i
+offset_bounds-loads-to c = omega (arith, room c.before.before.before.before)
 
-slice-write-loads : tie.Need-slice-write-loads invariant-loop decreases-loop
-slice-write-loads c =
+bounds-loads-to : tie.Need-bounds-loads-to invariant-loop-i decreases-loop-i
+bounds-loads-to c =
     let k = c.before.before.before.before in
-    omega (arith, room k, k.before.before.loop.invariant.1)
+    omega (arith, room k, k.loop-i.invariant.1)
 
-add-charged-deadline : tie.Need-overflow-add-charged-deadline invariant-loop decreases-loop
-add-charged-deadline c = omega (arith, there c.before.before.before.before)
+overflow_add-from : tie.Need-overflow_add-from invariant-loop-i decreases-loop-i
+overflow_add-from c = omega (arith, there c.before.before.before.before)
 
-mul-charged-deadline : tie.Need-overflow-mul-charged-deadline invariant-loop decreases-loop
-mul-charged-deadline c = omega (arith, there c.before.before.before.before)
+offset_bounds-figures-from-in-loop-i : tie.Need-offset_bounds-figures-from-in-loop-i invariant-loop-i decreases-loop-i
+offset_bounds-figures-from-in-loop-i c = omega (arith, there c.before.before.before.before)
 
-shared-slice-read-charged-deadline : tie.Need-shared-slice-read-charged-deadline invariant-loop decreases-loop
-shared-slice-read-charged-deadline c = omega (arith, there c.before.before.before.before.before)
+bounds-figures-from-in-loop-i : tie.Need-bounds-figures-from-in-loop-i invariant-loop-i decreases-loop-i
+bounds-figures-from-in-loop-i c = omega (arith, there c.before.before.before.before.before)
 
-charged-deadline-requires : tie.Need-charged-deadline-requires invariant-loop decreases-loop
-charged-deadline-requires c κs = omega (arith, (member c.before.before.before.before.before.before).early)
+charged_deadline-requires : tie.Need-charged_deadline-requires invariant-loop-i decreases-loop-i
+charged_deadline-requires c κs = omega (arith, (member c.before.before.before.before.before.before).early)
 
-add-loads : tie.Need-overflow-add-loads invariant-loop decreases-loop
-add-loads c = omega (arith, small c.before.before.before.before.before.before.before)
+overflow_add-loads : tie.Need-overflow_add-loads invariant-loop-i decreases-loop-i
+overflow_add-loads c = omega (arith, small c.before.before.before.before.before.before.before)
 
-mul-loads-2 : tie.Need-overflow-mul-loads-2 invariant-loop decreases-loop
-mul-loads-2 c = omega (arith, small c.before.before.before.before.before.before.before)
+offset_bounds-loads-to-in-loop-i : tie.Need-offset_bounds-loads-to-in-loop-i invariant-loop-i decreases-loop-i
+offset_bounds-loads-to-in-loop-i c = omega (arith, small c.before.before.before.before.before.before.before)
 
-slice-write-loads-2 : tie.Need-slice-write-loads-2 invariant-loop decreases-loop
-slice-write-loads-2 c =
+bounds-loads-to-in-loop-i : tie.Need-bounds-loads-to-in-loop-i invariant-loop-i decreases-loop-i
+bounds-loads-to-in-loop-i c =
     let k = c.before.before.before.before.before.before.before in
-    simp length-set (omega (arith, room k, k.before.before.loop.invariant.1))
+    simp length-set (omega (arith, room k, k.loop-i.invariant.1))
 
-add-loads-2 : tie.Need-overflow-add-loads-2 invariant-loop decreases-loop
-add-loads-2 c = omega (arith, there c.before.before.before.before.before.before.before)
+overflow_add-loads-in-loop-i : tie.Need-overflow_add-loads-in-loop-i invariant-loop-i decreases-loop-i
+overflow_add-loads-in-loop-i c = omega (arith, there c.before.before.before.before.before.before.before)
 
-mul-loads-3 : tie.Need-overflow-mul-loads-3 invariant-loop decreases-loop
-mul-loads-3 c = omega (arith, there c.before.before.before.before.before.before.before)
+offset_bounds-figures-from-in-loop-i-2 : tie.Need-offset_bounds-figures-from-in-loop-i-2 invariant-loop-i decreases-loop-i
+offset_bounds-figures-from-in-loop-i-2 c = omega (arith, there c.before.before.before.before.before.before.before)
 
-shared-slice-read-loads : tie.Need-shared-slice-read-loads invariant-loop decreases-loop
-shared-slice-read-loads c = omega (arith, there c.before.before.before.before.before.before.before.before)
+bounds-figures-from-in-loop-i-2 : tie.Need-bounds-figures-from-in-loop-i-2 invariant-loop-i decreases-loop-i
+bounds-figures-from-in-loop-i-2 c = omega (arith, there c.before.before.before.before.before.before.before.before)
 
-add-loads-3 : tie.Need-overflow-add-loads-3 invariant-loop decreases-loop
-add-loads-3 c = omega (arith, small c.before.before.before.before.before.before.before.before)
+overflow_add-loads-in-loop-i-2 : tie.Need-overflow_add-loads-in-loop-i-2 invariant-loop-i decreases-loop-i
+overflow_add-loads-in-loop-i-2 c = omega (arith, small c.before.before.before.before.before.before.before.before)
 
-mul-loads-4 : tie.Need-overflow-mul-loads-4 invariant-loop decreases-loop
-mul-loads-4 c = omega (arith, small c.before.before.before.before.before.before.before.before)
+offset_bounds-loads-to-in-loop-i-2 : tie.Need-offset_bounds-loads-to-in-loop-i-2 invariant-loop-i decreases-loop-i
+offset_bounds-loads-to-in-loop-i-2 c = omega (arith, small c.before.before.before.before.before.before.before.before)
 
-slice-write-loads-3 : tie.Need-slice-write-loads-3 invariant-loop decreases-loop
-slice-write-loads-3 c =
+bounds-loads-to-in-loop-i-2 : tie.Need-bounds-loads-to-in-loop-i-2 invariant-loop-i decreases-loop-i
+bounds-loads-to-in-loop-i-2 c =
     let k = c.before.before.before.before.before.before.before.before in
-    simp length-set (omega (arith, room k, k.before.before.loop.invariant.1))
+    simp length-set (omega (arith, room k, k.loop-i.invariant.1))
 
-add-i : tie.Need-overflow-add-i invariant-loop decreases-loop
-add-i c = omega arith
+overflow_add-i : tie.Need-overflow_add-i invariant-loop-i decreases-loop-i
+overflow_add-i c = omega arith
 
-loop-less : tie.Need-loop-smaller invariant-loop decreases-loop
-loop-less c = omega arith
+loop-i-smaller : tie.Need-loop-i-smaller invariant-loop-i decreases-loop-i
+loop-i-smaller c = omega arith
 
-loop-again : tie.Need-loop-preserved invariant-loop decreases-loop
-loop-again c =
+loop-i-preserved : tie.Need-loop-i-preserved invariant-loop-i decreases-loop-i
+loop-i-preserved c =
     let k = c.before.before.before.before.before.before.before.before in
     let s = start k in
-    let l = k.before.before.loop in (
+    let l = k.loop-i in (
       omega arith,
       simp length-set l.invariant.1,
-      charge_step s.args.header s.args.cache s.args.figures.now s.args.places.now l.i s.args.loads.now (omega (arith, s.pre.places_there, k.before.loop-test.true)) (room k)
-          l.invariant.2 c.before.before.before.before.charged-cost.ensures c.before.charged-deadline.ensures,
+      charge_step s.args.header s.args.cache s.args.figures.now s.args.places.now l.i s.args.loads.now (omega (arith, s.requires.places_there, k.loop-i-test.true)) (room k)
+          l.invariant.2 c.charged_cost.ensures c.charged_deadline.ensures,
     )
 
-same_length : tie.Need-same-length invariant-loop decreases-loop
-same_length c = c.before.loop.invariant.1
+shape_of-loads : tie.Need-shape_of-loads invariant-loop-i decreases-loop-i
+shape_of-loads c = c.loop-i.invariant.1
 
-returns : tie.Need-returns invariant-loop decreases-loop
+returns : tie.Need-returns invariant-loop-i decreases-loop-i
 returns c =
-    let a = c.before.before.before.before.before.args in
-    let l = c.before.loop in
+    let a = c.args in
+    let l = c.loop-i in
     l.invariant.2 ∙
-    ap (λ (j : ℕ). stored a.loads.now 0 (numbers_of (charged_to a.header a.cache a.figures.now a.places.now j))) (let e : l.i ≡ a.n = omega (arith, l.invariant.0, c.loop-test.false) in e)
+    ap (λ (j : ℕ). stored a.loads.now 0 (numbers_of (charged_to a.header a.cache a.figures.now a.places.now j))) (let e : l.i ≡ a.n = omega (arith, l.invariant.0, c.loop-i-test.false) in e)
 
-pub charge-spec : {M : Type 1} → statement M
-charge-spec =
+pub charge_spec : {M : Type 1} → statement M
+charge_spec =
     tie.close
     (tie.spec
-    invariant-loop
-    decreases-loop
-    loop-holds
-    shared-slice-read-from
-    cast-from
-    mul-from
-    mul-to
-    mul-charged-cost
-    shared-slice-read-charged-cost
+    invariant-loop-i
+    decreases-loop-i
+    loop-i-init
+    bounds-places-i
+    overflow_cast-from
+    overflow_mul-from
+    overflow_mul-to
+    offset_bounds-figures-from
+    bounds-figures-from
     (λ c. search rules)
     (λ c. search rules)
-    charged-cost-requires
-    mul-loads
-    slice-write-loads
-    add-charged-deadline
-    mul-charged-deadline
-    shared-slice-read-charged-deadline
+    charged_cost-requires
+    offset_bounds-loads-to
+    bounds-loads-to
+    overflow_add-from
+    offset_bounds-figures-from-in-loop-i
+    bounds-figures-from-in-loop-i
     (λ c. search rules)
-    charged-deadline-requires
-    add-loads
-    mul-loads-2
-    slice-write-loads-2
-    add-loads-2
-    mul-loads-3
-    shared-slice-read-loads
-    add-loads-3
-    mul-loads-4
-    slice-write-loads-3
-    add-i
-    loop-less
-    loop-again
-    same_length
+    charged_deadline-requires
+    overflow_add-loads
+    offset_bounds-loads-to-in-loop-i
+    bounds-loads-to-in-loop-i
+    overflow_add-loads-in-loop-i
+    offset_bounds-figures-from-in-loop-i-2
+    bounds-figures-from-in-loop-i-2
+    overflow_add-loads-in-loop-i-2
+    offset_bounds-loads-to-in-loop-i-2
+    bounds-loads-to-in-loop-i-2
+    overflow_add-i
+    loop-i-smaller
+    loop-i-preserved
+    shape_of-loads
     returns)

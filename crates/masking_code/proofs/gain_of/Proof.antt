@@ -12,88 +12,98 @@ use Rattle.masking.specs.Masking.{soonest, latest, gain_of}
 use Rattle.masking.proofs.EndsLaws.{soonest_alone, soonest_more, latest_next}
 use Rattle.masking_code.proofs.gain_of.Statement.{statement}
 use Rattle.masking_code.proofs.gain_of.Tie as tie
+use Rattle.masking_code.proofs.gain_of.Lts.{else-d-from, else-i-eq0, else-until-d, then-d-from, then-i-eq0, then-until-d}
 
-abbrev invariant-loop : tie.invariant-loop
-invariant-loop loads n masked from₀ until₀ i₀ from until i =
+abbrev invariant-loop-i : tie.invariant-loop-i
+invariant-loop-i loads n masked from₀ until₀ i₀ from until i =
     (i ≤ n) × ((from ≡ soonest (loads_of loads i)) × (until ≡ latest (loads_of loads i)))
 
-abbrev decreases-loop : tie.decreases-loop
-decreases-loop loads n masked from₀ until₀ i₀ from until i = n - i
+abbrev decreases-loop-i : tie.decreases-loop-i
+decreases-loop-i loads n masked from₀ until₀ i₀ from until i = n - i
 
-loop-holds : tie.Need-loop-init invariant-loop decreases-loop
+loop-i-init : tie.Need-loop-i-init invariant-loop-i decreases-loop-i
 unfolding each soonest latest
-loop-holds c = (omega arith, (refl, refl))
+loop-i-init c = (omega arith, (refl, refl))
 
-mul-d : tie.Need-overflow-mul-d invariant-loop decreases-loop
-mul-d c = omega (arith, c.before.before.requires.few)
+overflow_mul-d : tie.Need-overflow_mul-d invariant-loop-i decreases-loop-i
+overflow_mul-d c = omega (arith, c.requires.few)
 
-add-d : tie.Need-overflow-add-d invariant-loop decreases-loop
-add-d c = omega (arith, c.before.before.requires.few)
+overflow_add-d : tie.Need-overflow_add-d invariant-loop-i decreases-loop-i
+overflow_add-d c = omega (arith, c.requires.few)
 
-shared-slice-read-d : tie.Need-shared-slice-read-d invariant-loop decreases-loop
-shared-slice-read-d c = omega (arith, c.before.before.before.requires.there)
+bounds-loads-i : tie.Need-bounds-loads-i invariant-loop-i decreases-loop-i
+bounds-loads-i c = omega (arith, c.requires.there)
 
 -- the smallest of one load more
-from_next : (c : tie.Joined2 invariant-loop decreases-loop) →
+from_next : (c : tie.Joined-d-from invariant-loop-i decreases-loop-i) →
     let s = c.before.before.before.before in
-    c.if2.from ≡ soonest (loads_of s.before.args.loads.now (s.loop.i + 1))
+    c.if-d-from.from ≡ soonest (loads_of s.args.loads.now (s.loop-i.i + 1))
 from_next c =
     let s = c.before.before.before.before in
-    let numbers = s.before.args.loads.now in
-    let i = s.loop.i in
+    let numbers = s.args.loads.now in
+    let i = s.loop-i.i in
     let l = load_at numbers i in
     rw (each_next (load_at numbers) i)
     (⊎_elim
     (λ (e : i ≡ 0).
-    let one : c.before.if1.from ≡ l.deadline = ⊎_elim (λ w. w.1) (λ w. absurd (w.0.left e)) c.before.if1.branch in
-    ⊎_elim
-    (λ w. omega (arith, w.0.taken, w.1))
-    (λ w. omega (arith, w.1, one, soonest_alone (loads_of numbers i) l (omega (arith, each_length (load_at numbers) i))))
-    c.if2.branch)
+    let one : c.if-i-eq0.from ≡ l.deadline = (elim c.if-i-eq0.branch [
+      then-i-eq0 w ↦ w.from-is
+    | else-i-eq0 w ↦ absurd (w.if-i-eq0.false e)
+    ]) in
+    (elim c.if-d-from.branch [
+      then-d-from w ↦ omega (arith, w.if-d-from.true, w.from-is)
+    | else-d-from w ↦ omega (arith, w.from-is, one, soonest_alone (loads_of numbers i) l (omega (arith, each_length (load_at numbers) i)))
+    ]))
     (λ (n : i ≡ 0 → ⊥).
-    let same : c.before.if1.from ≡ s.loop.from = ⊎_elim (λ w. absurd (n w.0.taken)) (λ w. w.1) c.before.if1.branch in
+    let same : c.if-i-eq0.from ≡ s.loop-i.from = (elim c.if-i-eq0.branch [
+      then-i-eq0 w ↦ absurd (n w.if-i-eq0.true)
+    | else-i-eq0 w ↦ w.from-is
+    ]) in
     let next = soonest_more (loads_of numbers i) l (omega (arith, each_length (load_at numbers) i)) in
-    ⊎_elim
-    (λ w. omega (arith, w.0.taken, w.1, same, next))
-    (λ w. omega (arith, w.0.left, w.1, same, next))
-    c.if2.branch)
+    (elim c.if-d-from.branch [
+      then-d-from w ↦ omega (arith, w.if-d-from.true, w.from-is, same, next)
+    | else-d-from w ↦ omega (arith, w.if-d-from.false, w.from-is, same, next)
+    ]))
     (eq_or_ne i 0))
 
 -- and the largest
-until-next : (c : tie.Joined3 invariant-loop decreases-loop) →
+until-next : (c : tie.Joined-until-d invariant-loop-i decreases-loop-i) →
     let s = c.before.before.before.before.before in
-    c.if3.until ≡ latest (loads_of s.before.args.loads.now (s.loop.i + 1))
+    c.if-until-d.until ≡ latest (loads_of s.args.loads.now (s.loop-i.i + 1))
 until-next c =
     let s = c.before.before.before.before.before in
-    let numbers = s.before.args.loads.now in
-    let i = s.loop.i in
+    let numbers = s.args.loads.now in
+    let i = s.loop-i.i in
     let next = latest_next (loads_of numbers i) (load_at numbers i) in
     rw (each_next (load_at numbers) i)
-    (⊎_elim (λ w. omega (arith, w.0.taken, w.1, next)) (λ w. omega (arith, w.0.left, w.1, next)) c.if3.branch)
+    (elim c.if-until-d.branch [
+      then-until-d w ↦ omega (arith, w.if-until-d.true, w.until-is, next)
+    | else-until-d w ↦ omega (arith, w.if-until-d.false, w.until-is, next)
+    ])
 
-loop-again : tie.Need-loop-preserved invariant-loop decreases-loop
-loop-again c = (omega arith, (from_next c.before, until-next c))
+loop-i-preserved : tie.Need-loop-i-preserved invariant-loop-i decreases-loop-i
+loop-i-preserved c = (omega arith, (from_next c.before, until-next c))
 
-returns : tie.Need-returns invariant-loop decreases-loop
+returns : tie.Need-returns invariant-loop-i decreases-loop-i
 unfolding gain_of
 returns c =
-    let a = c.before.before.args in
-    let e : c.before.loop.i ≡ a.n = omega arith in
-    ap₂ (λ (f u : ℕ). record { extra = a.masked; from = f; until = u }) c.before.loop.invariant.1.0 c.before.loop.invariant.1.1 ∙
+    let a = c.args in
+    let e : c.loop-i.i ≡ a.n = omega arith in
+    ap₂ (λ (f u : ℕ). record { extra = a.masked; from = f; until = u }) c.loop-i.invariant.1.0 c.loop-i.invariant.1.1 ∙
     ap (λ (i : ℕ). gain_of a.masked (loads_of a.loads.now i)) e
 
-pub gain-of-spec : {M : Type 1} → statement M
-gain-of-spec =
+pub gain_of_spec : {M : Type 1} → statement M
+gain_of_spec =
     tie.close
     (tie.spec
-    invariant-loop
-    decreases-loop
-    loop-holds
-    mul-d
-    add-d
+    invariant-loop-i
+    decreases-loop-i
+    loop-i-init
+    overflow_mul-d
+    overflow_add-d
     (λ c. search rules)
-    shared-slice-read-d
+    bounds-loads-i
     (λ c. search rules)
     (λ c. search rules)
-    loop-again
+    loop-i-preserved
     returns)

@@ -17,14 +17,19 @@ product cache jobs c j =
 paid : (s : tie.Start) → s.args.cache * s.args.jobs ≤ 2 ^ 48
 paid s = product s.args.cache s.args.jobs s.requires.2 s.requires.1
 
-mul-result : tie.Need-overflow-mul-result
-mul-result c = omega (arith, paid c)
+overflow_mul-result : tie.Need-overflow_mul-result
+overflow_mul-result c = omega (arith, paid c)
 
-add-result : tie.Need-overflow-add-result
-add-result c = omega (arith, paid c, c.requires.0)
+overflow_add-result : tie.Need-overflow_add-result
+overflow_add-result c = omega (arith, paid c, c.requires.0)
 
 returns : tie.Need-returns
 returns c = refl
 
-pub total-spec : {M : Type 1} → statement M
-total-spec = tie.close (tie.spec mul-result add-result returns)
+pub total_spec : {M : Type 1} → statement M
+total_spec =
+    tie.close
+    (tie.spec
+    overflow_mul-result
+    overflow_add-result
+    returns)

@@ -1,0 +1,36 @@
+-- `decimals::decimal` meets its contract: the number so far, with the bytes left behind it, is the number of the text.
+-- Assumes nothing.
+use Prim.Native.Nat.{◌-◌, ◌^◌, ◌≤◌, ◌<◌}
+use mathlib.Core.Path.{◌≡◌, sym, ◌∙◌}
+use native.Mathlib.Omega.{arith}
+use borrow.Author.Rules.{rules}
+use lib.ListN.{length, drop}
+use Rattle.decimals.specs.Decimal.{number_from, decimal_of}
+use Rattle.decimals.proofs.DecimalLaws.{decimal_of_lem, decimal_none, read_out, next_of, next_wrong}
+use Rattle.decimals.proofs.decimal.Goals as goal
+
+pub returns-then-text-eq0 : goal.returns-then-text-eq0
+returns-then-text-eq0 c = sym (decimal_none _ c.if-text-eq0.true)
+
+pub loop-i-init : goal.loop-i-init
+loop-i-init c = (omega arith, omega arith, sym (decimal_of_lem _ (omega arith)))
+
+pub returns-in_default : goal.returns-in_default
+returns-in_default c =
+    let l = c.loop-i in
+    let text = c.args.text.now in
+    let wrong = next_wrong text l.i l.value (omega arith) (sym c.append.ensures ∙ c.in_default.is) in
+    sym wrong ∙ l.invariant.2
+
+pub loop-i-preserved : goal.loop-i-preserved
+loop-i-preserved c =
+    let l = c.loop-i in
+    let text = c.args.text.now in
+    let more = next_of text l.i l.value (omega arith) c.in-Of.next (sym c.append.ensures ∙ c.in-Of.is) in
+    (omega arith, more.0, sym more.1 ∙ l.invariant.2)
+
+pub returns : goal.returns
+returns c =
+    let l = c.loop-i in
+    let text = c.args.text.now in
+    sym (read_out text l.i l.value (omega arith) l.invariant.1) ∙ l.invariant.2

@@ -1,0 +1,14 @@
+use Prim.Native.Nat.{◌-◌, ◌^◌, ◌≤◌, ◌<◌}
+use mathlib.Core.Path.{◌≡◌, sym, ◌∙◌}
+use native.Mathlib.Omega.{arith}
+use borrow.Author.Rules.{rules}
+use lib.ListN.{length, drop}
+use Rattle.decimals.specs.Decimal.{number_from, decimal_of}
+use Rattle.decimals.proofs.DecimalLaws.{decimal_of_lem, decimal_none, read_out, next_of, next_wrong}
+use Rattle.decimals.proofs.decimal.Given as goal
+
+abbrev pub invariant-loop-i : goal.invariant-loop-i
+invariant-loop-i l = (l.i ≤ length l.text) × (l.value < 2 ^ 64) × (number_from l.value (drop l.i l.text) ≡ decimal_of l.text)
+
+abbrev pub decreases-loop-i : goal.decreases-loop-i
+decreases-loop-i l = length l.text - l.i

@@ -1,0 +1,111 @@
+-- `places_of` meets its contract. The loop's invariant: the places of the server's tasks among the first i are stored.
+-- The measure is what is left of n. Assumes nothing.
+use Prim.Native.Nat.{ℕ, ◌+◌, ◌-◌, ◌≤◌, ◌<◌}
+use mathlib.Core.Path.{◌≡◌, refl, sym, ap, ap₂, ◌∙◌}
+use mathlib.Core.Logic.{⊎_elim}
+use mathlib.Core.List.{List, [], ◌∷◌, ◌++◌}
+use borrow.Author.Rules.{rules}
+use native.Mathlib.Numerals.{add-one}
+use native.Mathlib.Omega.{arith}
+use lib.ListN.{length, get_or, take, set, length-append}
+use lib.Seq.{take-suc, length-take-le}
+use Rattle.digits.specs.Stored.{stored}
+use Rattle.digits.proofs.Stored.{stored_nil, stored_byte, stored_length}
+use Rattle.tasks.specs.Set.{most_tasks}
+use Rattle.places.specs.Places.{places_from, places_in}
+use Rattle.places.proofs.PlacesLaws.{places_joined, places_apart, places_few}
+use Rattle.places_code.proofs.places_of.Goals as goal
+
+-- the places of the first i tasks, `count` of them, stand in front
+record Listed (placement : List ℕ) (q : ℕ) (before places : List ℕ) (count i : ℕ) : Type 0 where
+  there : i ≤ length placement
+  room : i ≤ length before
+  counts : count ≡ length (places_in (take i placement) q)
+  is : places ≡ stored before 0 (places_in (take i placement) q)
+
+-- no task
+listed_none : (placement : List ℕ) (q : ℕ) (before : List ℕ) → Listed placement q before before 0 0
+unfolding places_from
+listed_none placement q before = record { there = omega arith; room = omega arith; counts = refl; is = sym (stored_nil before 0) }
+
+module _ {placement : List ℕ} {q : ℕ} {before places : List ℕ} {count i : ℕ} (w : Listed placement q before places count i) where
+  -- no more places than tasks
+  listed-few : count ≤ i
+  listed-few = omega (arith, w.counts, places_few (take i placement) q, length-take-le i placement w.there)
+
+  -- the buffer's length stays
+  listed-length : length places ≡ length before
+  listed-length =
+      ap length w.is ∙
+      stored_length before 0 (places_in (take i placement) q) (omega (arith, w.counts, listed-few, w.room))
+
+  module _ (h : i < length placement) (r : i < length before) where
+    one_more : take (i + 1) placement ≡ take i placement ++ (get_or placement i 0 ∷ [])
+    one_more = ap (λ (k : ℕ). take k placement) (add-one i) ∙ take-suc placement i 0 h
+
+    -- the next task is of the server
+    joined : get_or placement i 0 ≡ q → places_in (take (i + 1) placement) q ≡ places_in (take i placement) q ++ (i ∷ [])
+    joined t =
+        ap (λ (p : List ℕ). places_in p q) one_more ∙ places_joined (take i placement) (get_or placement i 0) q t ∙
+        ap (λ (k : ℕ). places_in (take i placement) q ++ (k ∷ [])) (length-take-le i placement w.there)
+
+    listed_next : get_or placement i 0 ≡ q → Listed placement q before (set places count i) (count + 1) (i + 1)
+    listed_next t =
+        record {
+          there = omega arith;
+          room = omega arith;
+          counts = omega (arith, w.counts, ap length (joined t), length-append (places_in (take i placement) q) (i ∷ []));
+          is =
+              ap₂ (λ (p : List ℕ) (k : ℕ). set p k i) w.is (omega (arith, w.counts)) ∙
+              stored_byte before 0 (places_in (take i placement) q) i (omega (arith, w.counts, listed-few)) ∙
+              ap (stored before 0) (sym (joined t));
+        }
+
+    -- or of another
+    listed-apart : (get_or placement i 0 ≡ q → ⊥) → Listed placement q before places count (i + 1)
+    listed-apart t =
+        let same = ap (λ (p : List ℕ). places_in p q) one_more ∙ places_apart (take i placement) (get_or placement i 0) q t in
+        record {
+          there = omega arith;
+          room = omega arith;
+          counts = w.counts ∙ ap length (sym same);
+          is = w.is ∙ ap (stored before 0) (sym same);
+        }
+
+pub loop-i-init : goal.loop-i-init
+loop-i-init c = (omega arith, listed_none _ _ _)
+
+pub overflow_cast-places : goal.overflow_cast-places
+overflow_cast-places c =
+    let most : c.args.n ≤ most_tasks = c.requires.n_le_most_tasks in
+    let few : c.loop-i.count ≤ c.loop-i.i = listed-few c.loop-i.invariant.1 in
+    search rules
+
+pub bounds-places-count : goal.bounds-places-count
+bounds-places-count c =
+    omega (arith, listed-few c.loop-i.invariant.1, listed-length c.loop-i.invariant.1, c.requires.n_in_bounds_2, c.loop-i-test.true)
+
+pub overflow_add-count : goal.overflow_add-count
+overflow_add-count c =
+    let few : c.loop-i.count ≤ c.loop-i.i = listed-few c.loop-i.invariant.1 in
+    search rules
+
+pub loop-i-preserved : goal.loop-i-preserved
+loop-i-preserved c =
+    let here : c.loop-i.i < c.args.n = c.loop-i-test.true in
+    let there : c.loop-i.i < length c.args.placement.now = omega (arith, here, c.requires.n_in_bounds) in
+    let room : c.loop-i.i < length c.args.places.now = omega (arith, here, c.requires.n_in_bounds_2) in
+    let next = listed_next c.loop-i.invariant.1 there room in
+    let apart = listed-apart c.loop-i.invariant.1 there room in
+    (omega arith, ⊎_elim (λ w. rw (w.1, w.2) (next w.0.taken)) (λ w. rw (w.1, w.2) (apart w.0.left)) c.if-placement-i.branch)
+
+pub shape_of-places : goal.shape_of-places
+shape_of-places c = listed-length c.loop-i.invariant.1
+
+pub returns : goal.returns
+returns c =
+    let w = c.loop-i.invariant.1 in
+    let all : c.loop-i.i ≡ c.args.n = omega arith in (
+      w.counts ∙ ap (λ (i : ℕ). length (places_in (take i c.args.placement.now) c.args.q)) all,
+      w.is ∙ ap (λ (i : ℕ). stored c.args.places.now 0 (places_in (take i c.args.placement.now) c.args.q)) all,
+    )

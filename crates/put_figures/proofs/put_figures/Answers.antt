@@ -1,0 +1,20 @@
+-- `framelines::figures::put_figures` meets its contract: the figures copied so far are stored, one by one.
+-- Assumes nothing.
+use Prim.Native.Nat.{◌-◌}
+use native.Mathlib.Omega.{arith}
+use borrow.Author.Rules.{rules}
+use lib.ListN.{length}
+use Rattle.digits.proofs.CopyLaws.{Copied, copied_none, copied_next, copied_all}
+use Rattle.put_figures.proofs.put_figures.Goals as goal
+
+pub loop-i-init : goal.loop-i-init
+loop-i-init c = copied_none _ _ _
+
+pub loop-i-preserved : goal.loop-i-preserved
+loop-i-preserved c = copied_next c.loop-i.invariant (omega arith) (omega arith)
+
+pub shape_of-numbers : goal.shape_of-numbers
+shape_of-numbers c = c.loop-i.invariant.same
+
+pub returns : goal.returns
+returns c = copied_all c.loop-i.invariant (omega arith)

@@ -1,0 +1,6 @@
+-- `set::Header::rule_number` meets its contract.
+use borrow.Author.Rules.{rules}
+use Rattle.tasks.proofs.set.Header.rule_number.Goals as goal
+
+pub returns : goal.returns
+returns c = c.given_or.ensures

@@ -1,0 +1,9 @@
+use Prim.Native.Nat.{◌-◌}
+use Rattle.reserves.proofs.WholeLaws.{Walked, walked_none, walked_here, walked_past, walked_next, walked_all}
+use Rattle.whole_server.proofs.whole_server.Given as goal
+
+abbrev pub invariant-loop-i : goal.invariant-loop-i
+invariant-loop-i l = Walked l.slot l.reserves l.n l.k l.more l.i
+
+abbrev pub decreases-loop-i : goal.decreases-loop-i
+decreases-loop-i l = l.n - l.i

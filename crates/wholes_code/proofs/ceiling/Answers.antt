@@ -1,0 +1,19 @@
+-- `wholes::ceiling` meets its contract: the test on the remainder picks the case of `ceiling_of`.
+-- Assumes nothing.
+use borrow.Author.Rules.{rules}
+use borrow.Author.Tests.{eq-eqb, ne_eqb}
+use native.Mathlib.Omega.{arith}
+use Rattle.wholes.specs.Ceiling.{ceiling_of}
+use Rattle.wholes.proofs.CeilingLaws.{quotient_below}
+use Rattle.wholes_code.proofs.ceiling.Goals as goal
+
+pub overflow_add-result : goal.overflow_add-result
+overflow_add-result c = omega (arith, quotient_below c.args.a c.args.b c.requires c.if-a-b-eq0.false)
+
+pub returns-then-a-b-eq0 : goal.returns-then-a-b-eq0
+unfolding ceiling_of
+returns-then-a-b-eq0 c = simp (eq-eqb _ _ c.if-a-b-eq0.true) (omega arith)
+
+pub returns-else-a-b-eq0 : goal.returns-else-a-b-eq0
+unfolding ceiling_of
+returns-else-a-b-eq0 c = simp (ne_eqb _ _ c.if-a-b-eq0.false)
