@@ -1,6 +1,8 @@
 // Row 13 of the refusals over figures and interrupts.
 // What it means stands in alonerow/specs/Alone.antt. The tasks' own figures stand in one slice, of which the first n count, and
 // the interrupts in another, four numbers for each of both.
+#![tactic(auto)]
+
 ghost use Rattle.std.specs.Prelude.{◌≡◌};
 ghost use Rattle.tasks.specs.Search.{first_task};
 ghost use Rattle.loads.specs.Figures.{figures_to};

@@ -1,5 +1,7 @@
 // The line that answers a question of a task file, or the 1F line of its refusal, in a lent buffer.
 // What the lines are stands in specs/Lines.antt.
+#![tactic(auto)]
+
 ghost use Rattle.askfile.specs.OfFile.{who_in, pass_in};
 ghost use Rattle.wordline.specs.Lined.{Lined};
 ghost use Rattle.answerline.specs.Lines.{who_line, pass_line};

@@ -1,4 +1,6 @@
 // The words of a verdict on a reserve, in one line, in a lent buffer. What the line is stands in answerwords/specs/Answers.antt.
+#![tactic(auto)]
+
 ghost use Rattle.std.specs.Prelude.{◌≡◌};
 ghost use Rattle.wordline.specs.Lined.{Lined};
 ghost use Rattle.answerwords.specs.Answers.{ticksToSpare, verdictLine};

@@ -1,5 +1,7 @@
 // Asks a question of the task file on standard input: who runs on a processor at a tick, or does a server pass with a reserve.
 // The question stands in the arguments; what is printed is `line_for` of askwords' specs/Question.antt. Failures are told on standard error.
+#![tactic(auto)]
+
 use askwords::{Question, answer, asked};
 use libc::{STDERR_FILENO, STDIN_FILENO, STDOUT_FILENO};
 use refusals::Written;

@@ -1,2 +1,4 @@
 // The two questions of a task file.
 // Definitions and laws; the code stands in askfile_code.
+#![tactic(auto)]
+

@@ -1,5 +1,7 @@
 // The two questions of a task file. A file that is refused, or whose plan is, refuses the question as it was refused.
 // What is answered stands in askfile/specs/OfFile.antt.
+#![tactic(auto)]
+
 ghost use Rattle.std.specs.Prelude.{◌≡◌};
 ghost use Rattle.askfile.specs.OfFile.{who_in, pass_in};
 

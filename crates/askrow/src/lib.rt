@@ -1,5 +1,7 @@
 // Row 11 of a task set: it breaks row 3 or 4, or holds what no file's lines can carry.
 // The planner and the task writer ask it first of any set that a caller built.
+#![tactic(auto)]
+
 ghost use Rattle.std.specs.Prelude.{◌≡◌, ◌≤◌};
 ghost use Rattle.tasks.specs.Set.{members, counted, most_tasks, most_interrupts};
 ghost use Rattle.tasks.specs.Search.{some};

@@ -1,5 +1,7 @@
 // A question in the words of a command line: which it is, and the line that answers it.
 // What they mean stands in specs/Question.antt.
+#![tactic(auto)]
+
 ghost use Rattle.std.specs.Prelude.{◌≡◌};
 ghost use Rattle.wordline.specs.Lined.{Lined};
 ghost use Rattle.askwords.specs.Question.{question_of, line_for};

@@ -1,5 +1,7 @@
 // The interrupts of a set by processor.
 // What they mean stands in byprocessor/specs/Interrupts.antt.
+#![tactic(auto)]
+
 ghost use Rattle.std.specs.Prelude.{◌≡◌};
 ghost use Rattle.tasks.specs.Set.{counted};
 ghost use Rattle.byprocessor.specs.Interrupts.{by_processor, interrupt_numbers, Timely};

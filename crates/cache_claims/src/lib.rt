@@ -1,1 +1,3 @@
 // What is claimed of cache costs by task. No code.
+#![tactic(auto)]
+

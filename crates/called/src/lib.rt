@@ -1,6 +1,8 @@
 // The planner, the check and the two questions, called with a set and a plan as numbers (crate `handed`), for the outside tests.
 // Each answers every input, by numbers in lent memory: a status of 0 says that the answer stands there; any other is the refusal,
 // and the memory is as before. What is answered stands in specs/Called.antt.
+#![tactic(auto)]
+
 ghost use Rattle.std.specs.Prelude.{◌≡◌};
 ghost use Rattle.told.specs.Told.{status_of, leaves_numbers};
 ghost use Rattle.plancheck.specs.Makes.{makes};

@@ -1,6 +1,8 @@
 // The writers of a set, of a plan and of its switch list, called with a set and a plan as numbers (crate `handed`), for the outside
 // tests. Each answers every input, into lent bytes: a status of 0 says that the text stands at their start, with its length in the
 // lent number; any other is the refusal, and both are as before. What is answered stands in specs/Texts.antt.
+#![tactic(auto)]
+
 ghost use Rattle.std.specs.Prelude.{◌≡◌};
 ghost use Rattle.refusals.specs.Leaves.{leaves};
 ghost use Rattle.tasktext.specs.Text.{text_of};

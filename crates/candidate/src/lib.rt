@@ -1,6 +1,8 @@
 // What is kept of a server, and whether the server takes a task.
 // What they mean stands in joining/specs/Kept.antt, taking/specs/Takes.antt and joining/specs/Soonest.antt. The server of each task
 // stands in a slice, of which the first i are placed.
+#![tactic(auto)]
+
 ghost use Rattle.std.specs.Prelude.{◌≡◌, ◌+◌, ◌≤◌, ◌<◌, length, take};
 ghost use Rattle.places.specs.Places.{chosen};
 ghost use Rattle.loads.specs.Figures.{figures_at, figures_to};

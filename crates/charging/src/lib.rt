@@ -1,5 +1,7 @@
 // House charging: the effective deadline and cost of a task, and the entry loss of a ring reserve.
 // What they mean stands in specs/Charging.antt.
+#![tactic(auto)]
+
 ghost use Rattle.std.specs.Prelude.{◌≡◌, ◌<◌, ◌≤◌, ◌^◌};
 ghost use Rattle.charging.specs.Charging.{effective_deadline, effective_cost, entry_loss};
 

@@ -1,5 +1,7 @@
 // How close it is where the demand gains: the closest of the lengths before the gain, of those that gain, and of those past them, whichever
 // is closer.
+#![tactic(auto)]
+
 ghost use Rattle.std.specs.Prelude.{◌≡◌};
 ghost use Rattle.demand.specs.Load.{loads_of};
 ghost use Rattle.demand.specs.Demand.{demand};

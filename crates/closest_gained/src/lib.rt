@@ -1,4 +1,6 @@
 // What a length has to spare, and the closest from the first length that gains on. What they mean stands in slack/specs/Slack.antt.
+#![tactic(auto)]
+
 ghost use Rattle.std.specs.Prelude.{true, ◌≡◌, ◌≤◌};
 ghost use Rattle.demand.specs.Load.{loads_of};
 ghost use Rattle.demand.specs.Supply.{supply_past};

@@ -1,5 +1,7 @@
 // A number in decimal, as a word of the command line has it: digits 0-9 only, at least one, below 2^64.
 // What it is stands in specs/Decimal.antt.
+#![tactic(auto)]
+
 ghost use Rattle.std.specs.Prelude.{◌≡◌, [], ◌∷◌};
 ghost use Rattle.decimals.specs.Decimal.{number_from, decimal_of};
 

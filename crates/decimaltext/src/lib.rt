@@ -1,5 +1,7 @@
 // A number as text in decimal, without leading zeros, put to a place in a lent buffer.
 // What it is stands in specs/Text.antt.
+#![tactic(auto)]
+
 ghost use Rattle.std.specs.Prelude.{◌≡◌, ◌+◌, ◌%◌, ◌≤◌, length};
 ghost use Rattle.digits.specs.Stored.{stored};
 ghost use Rattle.decimaltext.specs.Text.{decimal_text};

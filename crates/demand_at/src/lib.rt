@@ -1,5 +1,7 @@
 // The demand of loads at one length.
 // The loads stand in one slice of numbers, three for each: cost, deadline, period.
+#![tactic(auto)]
+
 ghost use Rattle.std.specs.Prelude.{◌≡◌, ◌<◌, ◌^◌};
 ghost use Rattle.demand.specs.Load.{Loaded, loads_of};
 ghost use Rattle.demand.specs.Demand.{demand};

@@ -1,4 +1,6 @@
 // What one load asks of a length, the supply of a length, and the lengths up to which they stay as they are.
+#![tactic(auto)]
+
 ghost use Rattle.std.specs.Prelude.{◌≡◌, ◌*◌, ◌<◌, ◌≤◌, ◌^◌};
 ghost use Rattle.demand.specs.Demand.{jobs};
 ghost use Rattle.demand.specs.Supply.{Allowed, gap, last_with, supply_past};

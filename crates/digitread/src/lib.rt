@@ -1,4 +1,6 @@
 // Digits and numbers, read from a place in a text.
+#![tactic(auto)]
+
 ghost use Rattle.std.specs.Prelude.{◌≡◌, true, ◌+◌, ◌≤◌, length, take, drop};
 ghost use Rattle.digits.specs.Digit.{legal, value_of, all_legal};
 ghost use Rattle.digits.specs.Number.{number};

@@ -1,4 +1,6 @@
 // Digits and numbers, written to a place in a text, and whether a number is too large for a width.
+#![tactic(auto)]
+
 ghost use Rattle.std.specs.Prelude.{◌≡◌, ◌+◌, ◌<◌, ◌≤◌, length};
 ghost use Rattle.digits.specs.Digit.{digit_of};
 ghost use Rattle.digits.specs.Number.{hex, too_large};

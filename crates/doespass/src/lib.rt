@@ -1,5 +1,7 @@
 // The question does a server pass with a reserve, about a set and its plan.
 // Types, definitions and laws; the code stands in doespass_code and pass_made.
+#![tactic(auto)]
+
 use refusals::Outcome;
 use verdict::answer::Verdict;
 

@@ -1,5 +1,7 @@
 // The question does a server pass with a reserve, about a set and its plan.
 // What is answered stands in doespass/specs/DoesPass.antt.
+#![tactic(auto)]
+
 ghost use Rattle.std.specs.Prelude.{◌≡◌};
 ghost use Rattle.doespass.specs.DoesPass.{does_pass};
 

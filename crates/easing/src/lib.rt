@@ -1,1 +1,3 @@
 // What is claimed of a server that is eased. No code.
+#![tactic(auto)]
+

@@ -1,4 +1,6 @@
 // The value of a field, and byte strings, written to a place in a lent buffer.
+#![tactic(auto)]
+
 ghost use Rattle.std.specs.Prelude.{◌≡◌, ◌+◌, ◌≤◌, length as count};
 ghost use Rattle.digits.specs.Number.{hex};
 ghost use Rattle.digits.specs.Stored.{stored};

@@ -1,5 +1,7 @@
 // The smallest failing length, over a demand that gains where interrupts can be held off. It rises but for the end of the gain, so the searches
 // go over the lengths before the gain, over those that gain and over those past them, each with a demand that never falls.
+#![tactic(auto)]
+
 ghost use Rattle.std.specs.Prelude.{◌≡◌};
 ghost use Rattle.demand.specs.Load.{loads_of};
 ghost use Rattle.interrupting.specs.Interrupts.{asked};

@@ -1,5 +1,7 @@
 // The smallest length up to a bound at which demand, with an extra, exceeds supply.
 // What it means stands in search/specs/Search.antt.
+#![tactic(auto)]
+
 ghost use Rattle.std.specs.Prelude.{◌≡◌};
 ghost use Rattle.interrupting.specs.Interrupts.{asked};
 ghost use Rattle.interrupting.specs.Interrupted.{Interrupted};

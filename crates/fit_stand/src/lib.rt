@@ -1,4 +1,6 @@
 // The words of who stands on a processor, in one line, in a lent buffer. What the line is stands in answerwords/specs/Answers.antt.
+#![tactic(auto)]
+
 ghost use Rattle.wordline.specs.Lined.{Lined};
 ghost use Rattle.answerwords.specs.Answers.{standLine};
 

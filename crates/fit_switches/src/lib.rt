@@ -1,4 +1,6 @@
 // The switch list of a plan into a lent buffer: row 12, else the exact text. What is answered stands in switchlist/specs/Write.antt.
+#![tactic(auto)]
+
 ghost use Rattle.std.specs.Prelude.{◌≡◌, true};
 ghost use Rattle.plancheck.specs.Makes.{makes};
 ghost use Rattle.planfit.specs.Fit.{Fits};

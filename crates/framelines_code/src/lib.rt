@@ -1,4 +1,6 @@
 // Lines of a frame, written one behind the other to a place in a lent buffer from the values of their fields.
+#![tactic(auto)]
+
 ghost use Rattle.std.specs.Prelude.{◌≡◌, ◌+◌, ◌*◌, ◌≤◌, length as count};
 ghost use Rattle.digits.specs.Stored.{stored};
 ghost use Rattle.frames.specs.Table.{length_of, fields_in};

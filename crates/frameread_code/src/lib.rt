@@ -1,4 +1,6 @@
 // The frame of the line at a place in a text, and the values of its fields.
+#![tactic(auto)]
+
 ghost use Rattle.std.specs.Prelude.{◌≡◌, true, ◌<◌, ◌≤◌, length as count, drop};
 ghost use Rattle.frames.specs.Table.{most_fields};
 ghost use Rattle.frameread.specs.Line.{formed, field_of, kind_at};

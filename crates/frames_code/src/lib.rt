@@ -1,6 +1,8 @@
 // The one table of frame kinds and field widths. The reader and every writer go by it.
 // A frame with fewer than the most fields is filled up with fields of no digits. Where each field starts follows from the widths; it
 // stands in the row so that nobody counts it again, and behind it where the line ends.
+#![tactic(auto)]
+
 ghost use Rattle.std.specs.Prelude.{◌≡◌};
 ghost use Rattle.frames.specs.Table.{row_of};
 

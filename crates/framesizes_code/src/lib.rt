@@ -1,4 +1,6 @@
 // What follows from the table of frames: the widths and starts of fields, and the lengths of lines.
+#![tactic(auto)]
+
 ghost use Rattle.std.specs.Prelude.{◌≡◌, ◌<◌, ◌≤◌};
 ghost use Rattle.frames.specs.Table.{width_of, field_start, length_of, most_fields};
 

@@ -1,4 +1,6 @@
 // A line of a frame, written to a place in a lent buffer from the values of its fields.
+#![tactic(auto)]
+
 ghost use Rattle.std.specs.Prelude.{◌≡◌, ◌+◌, ◌≤◌, length as count};
 ghost use Rattle.frames.specs.Table.{length_of, fields_in, most_fields, sum};
 ghost use Rattle.framewrite.specs.Line.{fields, row_widths, line_by, line_of};

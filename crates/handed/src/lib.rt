@@ -1,5 +1,7 @@
 // A set and a plan that are handed in as numbers, in the order of their fields, unused room too: the numbers, and where the parts stand.
 // What they are stands in specs/Handed.antt.
+#![tactic(auto)]
+
 ghost use Rattle.std.specs.Prelude.{◌≡◌, ◌≤◌};
 ghost use Rattle.handed.specs.Handed.{number_at, optional_from, most_numbers};
 

@@ -1,4 +1,6 @@
 // The header of a set of numbers: its seven figures, whether there is a 05 line (0 for none) and its figure, and the same of a 06 line.
+#![tactic(auto)]
+
 ghost use Rattle.std.specs.Prelude.{◌≡◌};
 ghost use Rattle.handedheader.specs.Header.{header_from};
 

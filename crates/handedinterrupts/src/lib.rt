@@ -1,4 +1,6 @@
 // The interrupts of a set of numbers: their count, and processor, cost, deadline, period and jitter of each place of them.
+#![tactic(auto)]
+
 ghost use Rattle.std.specs.Prelude.{◌≡◌, ◌≤◌};
 ghost use Rattle.handed.specs.Handed.{most_numbers};
 ghost use Rattle.handedinterrupts.specs.Interrupts.{interrupt_from, interrupts_from};

@@ -1,4 +1,6 @@
 // The plan of numbers: its five figures, each server, the placement, then the first reserve of each processor.
+#![tactic(auto)]
+
 ghost use Rattle.std.specs.Prelude.{◌≡◌};
 ghost use Rattle.handedplan.specs.Plan.{placement_from, first_from, plan_from};
 

@@ -1,4 +1,6 @@
 // The servers of a plan of numbers. A server's numbers are its count, its places, its reserve, its start and its cache cost.
+#![tactic(auto)]
+
 ghost use Rattle.std.specs.Prelude.{◌≡◌, ◌≤◌};
 ghost use Rattle.handed.specs.Handed.{most_numbers};
 ghost use Rattle.handedservers.specs.Servers.{server_from, servers_from};

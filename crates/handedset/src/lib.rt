@@ -1,6 +1,8 @@
 // The set of numbers: its count, the seven figures of the header, whether there is a 05 line (0 for none) and its figure, the same of a
 // 06 line, then id, cost, deadline, period, whether there is a cache cost of its own (0 for none) and that cost of each place of the
 // tasks, the count of the interrupts, and processor, cost, deadline, period and jitter of each place of these.
+#![tactic(auto)]
+
 ghost use Rattle.std.specs.Prelude.{◌≡◌, ◌≤◌};
 ghost use Rattle.handed.specs.Handed.{interrupts_at};
 ghost use Rattle.handedset.specs.Set.{task_from, set_from};

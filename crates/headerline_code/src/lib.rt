@@ -1,5 +1,7 @@
 // Line 1 of a task file: the header's figures, or the refusal of the lowest row that holds there.
 // The reader takes the answer apart and hands a refusal straight up.
+#![tactic(auto)]
+
 ghost use Rattle.std.specs.Prelude.{◌≡◌, true};
 ghost use Rattle.frameread.specs.Line.{formed};
 ghost use Rattle.frames.specs.declared.table.Frame.{Frame};

@@ -1,4 +1,6 @@
 // The horizon of a set, where it is within its limit. What it means stands in rows/specs/Rows.antt.
+#![tactic(auto)]
+
 ghost use Rattle.std.specs.Prelude.{◌≡◌, false, ◌≤◌};
 ghost use Rattle.wholes.specs.Multiple.{within};
 ghost use Rattle.tasks.specs.Set.{most_interrupts, longest_horizon};

@@ -10,7 +10,7 @@ use native.Mathlib.Numerals.{add-one}
 use native.Mathlib.Omega.{arith}
 use lib.Arith.{le-zero}
 use lib.ListN.{length, length-append}
-use Rattle.demand.specs.Load.{each, load_at, loads_of}
+use Rattle.demand.specs.Load.{load_at, loads_of}
 use Rattle.demand.proofs.Demand.{demand_small, each_length}
 use Rattle.interrupting.specs.Interrupts.{Bound, Numbered, EveryBound, Ordered, bound_at, bounds_of, behind, interrupts_of, interrupt_demand, greatest_of_all, highest, asked}
 use Rattle.interrupting.specs.Interrupted.{Interrupted}

@@ -1,7 +1,7 @@
 -- The load of interrupts: what those of one processor ask for in a window, the report's Eq. 9, and the greatest of that over
 -- processors, Eq. 10, which every server has beside the demand of its tasks. Document 02, Req 08 (RULES 2.7).
 use Rattle.std.specs.Prelude.{ℕ, zero, suc, ◌+◌, ◌*◌, ◌-◌, ◌/◌, ◌≤◌, max, List, [], ◌∷◌, ◌++◌, cond, eqb, length, get_or}
-use Rattle.demand.specs.Load.{Load, Sound, Small, Every, loads_of}
+use Rattle.demand.specs.Load.{Load, Sound, Small, loads_of}
 use Rattle.demand.specs.Demand.{demand}
 
 -- an interrupt as it asks: on its processor, a load of its cost C, the deadline D − J and its period T

@@ -1,6 +1,8 @@
 // What a server must have had in a window of a length: the demand of its loads, and of the interrupts behind them the greatest over
 // processors. What it means stands in interrupting/specs/Interrupts.antt. A slice has three numbers for each load: cost, deadline, period; behind
 // the loads, up to its end, four for each interrupt, by processor: processor, cost, deadline, period.
+#![tactic(auto)]
+
 ghost use Rattle.std.specs.Prelude.{◌≡◌, ◌<◌, ◌^◌};
 ghost use Rattle.interrupting.specs.Interrupts.{asked, greatest_of_all, interrupts_of};
 ghost use Rattle.interrupting.specs.Interrupted.{Interrupted};

@@ -1,4 +1,6 @@
 // A line of a task file behind its tasks: the refusal of the lowest row that holds there, and the figures of an 07 line.
+#![tactic(auto)]
+
 ghost use Rattle.std.specs.Prelude.{◌≡◌, true, ◌+◌, ◌≤◌, ◌<◌, length, drop};
 ghost use Rattle.frameread.specs.Line.{formed};
 ghost use Rattle.frames.specs.declared.table.Frame.{Frame};

@@ -1,5 +1,7 @@
 // The 07 lines of a task file, from the line behind its tasks to the end of the text or to the first line that is refused.
 // Types, definitions and laws; the code stands in interruptlines_code.
+#![tactic(auto)]
+
 use refusals::Outcome;
 use tasks::set::Interrupts;
 

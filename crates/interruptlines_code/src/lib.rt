@@ -1,4 +1,6 @@
 // The 07 lines of a task file, from the line behind its tasks to the end of the text or to the first line that is refused.
+#![tactic(auto)]
+
 ghost use Rattle.std.specs.Prelude.{◌≡◌, []};
 ghost use Rattle.taskfile.specs.File.{interrupts_among};
 ghost use Rattle.taskfile.specs.Taken.{BehindTasks};

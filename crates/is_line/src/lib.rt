@@ -1,5 +1,7 @@
 // Whether a line of a frame stands at a place in a text.
 // A line is its kind, its fields at the table's widths, and one LF.
+#![tactic(auto)]
+
 ghost use Rattle.std.specs.Prelude.{◌≡◌, ◌≤◌, length as count, take, drop};
 ghost use Rattle.frames.specs.Table.{kind_of};
 ghost use Rattle.frameread.specs.Line.{formed};

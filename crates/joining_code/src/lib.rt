@@ -1,6 +1,8 @@
 // One step of placing: the server for a task, by any fit.
 // What it means stands in joining/specs/Join.antt, joining/specs/Fits.antt and joining/specs/Kept.antt. The server of each task stands in a
 // slice, of which the first i are placed.
+#![tactic(auto)]
+
 ghost use Rattle.std.specs.Prelude.{◌≡◌, ◌+◌, ◌-◌, ◌≤◌, length, take};
 ghost use Rattle.tasks.specs.Set.{most_tasks};
 ghost use Rattle.places.specs.Places.{chosen};

@@ -1,6 +1,8 @@
 // Does a server pass with a reserve: its members, charged, by its own entry loss and its own horizon.
 // What it means stands in members, specs/Server.antt. The figures stand in one slice, four for each task, the interrupts in
 // another, four for each.
+#![tactic(auto)]
+
 ghost use Rattle.std.specs.Prelude.{◌≡◌, take};
 ghost use Rattle.demand.specs.Supply.{Allowed};
 ghost use Rattle.loads.specs.Charge.{server_loss};

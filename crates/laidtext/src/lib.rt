@@ -1,5 +1,7 @@
 // The texts of a plan, the plan's own and its switch list, from the servers of its set into a lent buffer. The plan is laid here, so that it
 // stands on the stack only while a text is written (docs/SPEED.md).
+#![tactic(auto)]
+
 ghost use Rattle.std.specs.Prelude.{◌≡◌};
 ghost use Rattle.refusals.specs.declared.Outcome.TheVariants.{Done};
 ghost use Rattle.sizing.specs.Reserve.{servers_of};

@@ -1,5 +1,7 @@
 // The last length up to a bound where the greatest demand of the processors' interrupts steps. What a step is stands in
 // steps/specs/Stepping.antt. The interrupts stand in one slice, four numbers for each, by processor.
+#![tactic(auto)]
+
 ghost use Rattle.std.specs.Prelude.{◌≡◌, max, ◌<◌, ◌≤◌, ◌^◌};
 ghost use Rattle.demand.specs.Demand.{jobs};
 ghost use Rattle.interrupting.specs.Interrupts.{greatest_of_all, interrupts_of};

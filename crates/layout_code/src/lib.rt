@@ -1,5 +1,7 @@
 // From placed and sized servers to the plan: the record of each server, and the first reserve of each processor.
 // What they mean stands in layout/specs/Layout.antt. The reserves stand in a slice, the cache costs in another, of both of which the first n count.
+#![tactic(auto)]
+
 ghost use Rattle.std.specs.Prelude.{◌≡◌, ◌≤◌, length, take};
 ghost use Rattle.tasks.specs.Set.{most_tasks};
 ghost use Rattle.places.specs.Padded.{pad_with, up_to};

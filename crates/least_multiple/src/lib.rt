@@ -1,5 +1,7 @@
 // The common measure of two whole numbers, and their least common multiple within a limit.
 // The horizon of a task set is counted with them. What they mean stands in wholes/specs.
+#![tactic(auto)]
+
 ghost use Rattle.std.specs.Prelude.{◌≡◌};
 ghost use Rattle.wholes.specs.Measure.{common_measure};
 ghost use Rattle.wholes.specs.Multiple.{least_multiple, within};

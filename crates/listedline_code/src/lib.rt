@@ -1,5 +1,7 @@
 // A task's line of a task file, 02 or 03: a task's figures, or the refusal of the lowest row that holds there.
 // The reader takes the answer apart and hands a refusal straight up.
+#![tactic(auto)]
+
 ghost use Rattle.std.specs.Prelude.{◌≡◌, true, ◌+◌, ◌≤◌, length, drop, eqb};
 ghost use Rattle.frameread.specs.Line.{formed};
 ghost use Rattle.tasks.specs.Search.{some};

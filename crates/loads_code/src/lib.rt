@@ -1,5 +1,7 @@
 // The loads of one server: the figures of its members, charged.
 // What they mean stands in loads/specs/Charge.antt. Figures stand in a slice of numbers, four for each, loads in one, three for each.
+#![tactic(auto)]
+
 ghost use Rattle.std.specs.Prelude.{◌≡◌, map, take};
 ghost use Rattle.digits.specs.Stored.{stored};
 ghost use Rattle.loads.specs.Charge.{numbers_of, charged_in, Charging};

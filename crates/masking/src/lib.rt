@@ -1,5 +1,7 @@
 // Masked interrupts: where a server's demand gains, and by how much.
 // Types, definitions and laws; the code stands in masking_code.
+#![tactic(auto)]
+
 ghost use Rattle.std.specs.Prelude.{◌≡◌};
 ghost use Rattle.masking.specs.Masking.{gains_some, gain_at};
 

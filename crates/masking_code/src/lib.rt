@@ -1,5 +1,7 @@
 // Masked interrupts: where a server's demand gains, and by how much. What it means stands in masking/specs/Masking.antt.
 // The loads stand in one slice of numbers, three for each: cost, deadline, period.
+#![tactic(auto)]
+
 ghost use Rattle.std.specs.Prelude.{◌≡◌};
 ghost use Rattle.demand.specs.Load.{Loaded, loads_of};
 ghost use Rattle.masking.specs.Masking.{gain_of};

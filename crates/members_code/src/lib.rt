@@ -1,5 +1,7 @@
 // What a server loses at each entry, and the horizon of its loads and of interrupts with the slot.
 // What they mean stands in members/specs/Server.antt. Loads stand in a slice of numbers, three for each, interrupts in one, four for each.
+#![tactic(auto)]
+
 ghost use Rattle.std.specs.Prelude.{◌≡◌, ◌<◌, ◌^◌, ◌/◌, length};
 ghost use Rattle.wholes.specs.Multiple.{within};
 ghost use Rattle.charging.specs.Charging.{entry_loss};

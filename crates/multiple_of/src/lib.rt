@@ -1,5 +1,7 @@
 // The least common multiple of a slot and of the periods of loads and interrupts.
 // What it means stands in members/specs/Server.antt. Loads stand in a slice of numbers, three for each, interrupts in one, four for each.
+#![tactic(auto)]
+
 ghost use Rattle.std.specs.Prelude.{◌≡◌};
 ghost use Rattle.wholes.specs.Multiple.{least_multiple_of, within};
 ghost use Rattle.members.specs.Server.{spaced, Apart};

@@ -1,5 +1,7 @@
 // The server and the reserve that a question names: is the server there, is the reserve allowed.
 // What they mean stands in named/specs/Named.antt.
+#![tactic(auto)]
+
 ghost use Rattle.std.specs.Prelude.{◌≡◌, ◌^◌, ◌<◌};
 ghost use Rattle.charging.specs.Charging.{entry_loss};
 ghost use Rattle.named.specs.Named.{is_server, allowed};

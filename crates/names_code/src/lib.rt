@@ -1,4 +1,6 @@
 // The names of a list that comes in parts: the name at hand, cut at the next LF. What it means stands in names/specs/Parts.antt.
+#![tactic(auto)]
+
 ghost use Rattle.std.specs.Prelude.{◌≡◌, ◌≤◌, length, drop};
 ghost use Rattle.names.specs.Names.{longest_name};
 ghost use Rattle.names.specs.Parts.{most_held, up_to_lF, name_with, cut_of};

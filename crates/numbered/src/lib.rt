@@ -1,4 +1,6 @@
 // A plan told in numbers, every field in its order, unused room too. What they are stands in specs/Numbered.antt.
+#![tactic(auto)]
+
 ghost use Rattle.std.specs.Prelude.{◌≡◌};
 ghost use Rattle.refusals.specs.declared.Outcome.TheVariants.{Done};
 ghost use Rattle.told.specs.Told.{status_of, told_of, leaves_numbers};

@@ -1,4 +1,6 @@
 // All servers and all first reserves of a plan, told in numbers. What they are stands in specs/Parts.antt.
+#![tactic(auto)]
+
 ghost use Rattle.std.specs.Prelude.{◌≡◌, ◌+◌, ◌*◌, ◌≤◌, length};
 ghost use Rattle.digits.specs.Stored.{stored};
 ghost use Rattle.tasks.specs.Set.{most_tasks};

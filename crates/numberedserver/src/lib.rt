@@ -1,4 +1,6 @@
 // A server told in numbers. What they are stands in specs/Server.antt.
+#![tactic(auto)]
+
 ghost use Rattle.std.specs.Prelude.{◌≡◌, ◌+◌, ◌≤◌, length};
 ghost use Rattle.digits.specs.Stored.{stored};
 ghost use Rattle.handed.specs.Handed.{per_server};

@@ -1,5 +1,7 @@
 // The lines of a task file before its tasks: the 01 line, and behind it a 05 line and a 06 line, where there are such.
 // Types, definitions and laws; the code stands in opening_code.
+#![tactic(auto)]
+
 use tasks::set::{Header, Optional};
 
 // The board's figures, the cursor behind the lines, and their number.

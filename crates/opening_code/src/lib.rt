@@ -1,4 +1,6 @@
 // The lines of a task file before its tasks: the 01 line, and behind it a 05 line and a 06 line, where there are such.
+#![tactic(auto)]
+
 ghost use Rattle.std.specs.Prelude.{◌≡◌, ◌≤◌, length as count, drop};
 ghost use Rattle.refusals.specs.declared.Outcome.TheVariants.{Done};
 ghost use Rattle.frames.specs.Table.{width_of};

@@ -1,4 +1,6 @@
 // The 05 line and the 06 line of a task file, where the set has them: the length of each, and each written.
+#![tactic(auto)]
+
 ghost use Rattle.std.specs.Prelude.{◌≡◌, ◌+◌, ◌≤◌, length as bytes};
 ghost use Rattle.digits.specs.Stored.{stored};
 ghost use Rattle.frames.specs.Table.{fields_in};

@@ -1,4 +1,6 @@
 // Figures that are too large for the fields of their lines, of the header, of a task, of an optional line of one field (05 or 06) and of an interrupt.
+#![tactic(auto)]
+
 ghost use Rattle.std.specs.Prelude.{◌≡◌, ◌≤◌};
 ghost use Rattle.frames.specs.Table.{fields_in};
 ghost use Rattle.taskask.specs.Ask.{header_overflows, task_overflows, optional_overflows, interrupt_overflows};

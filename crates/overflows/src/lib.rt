@@ -1,4 +1,6 @@
 // Which values the fields of a frame can carry, by the table of frames.
+#![tactic(auto)]
+
 ghost use Rattle.std.specs.Prelude.{◌≡◌, ◌≤◌, length as count};
 ghost use Rattle.frames.specs.Table.{fields_in};
 ghost use Rattle.framesizes.specs.Overflow.{line_overflows};

@@ -1,5 +1,7 @@
 // The packing rules: in which order tasks are placed, and which of the servers that take a task it joins.
 // Types, definitions and laws; the code stands in sorting and turns_code.
+#![tactic(auto)]
+
 
 // The order in which tasks are placed: that of the file, or by load.
 #[derive(Clone, Copy)]

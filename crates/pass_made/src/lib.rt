@@ -1,5 +1,7 @@
 // Does a server pass with a reserve, about a set and a plan that is checked already; and the refused question.
 // What is answered stands in doespass/specs/DoesPass.antt.
+#![tactic(auto)]
+
 ghost use Rattle.std.specs.Prelude.{◌≡◌, true};
 ghost use Rattle.plancheck.specs.Makes.{makes};
 ghost use Rattle.planserver.specs.Recorded.{Recorded};

@@ -1,5 +1,7 @@
 // Does a server pass with a reserve, about a set that has a plan, by its servers: no plan is laid.
 // What is answered stands in doespass/specs/DoesPass.antt.
+#![tactic(auto)]
+
 ghost use Rattle.std.specs.Prelude.{◌≡◌};
 ghost use Rattle.refusals.specs.declared.Outcome.TheVariants.{Done};
 ghost use Rattle.sizing.specs.Reserve.{servers_of};

@@ -1,4 +1,6 @@
 // Whether the members at some places pass with a whole processor. What it means stands in members/specs/Server.antt.
+#![tactic(auto)]
+
 ghost use Rattle.std.specs.Prelude.{◌≡◌, take};
 ghost use Rattle.loads.specs.Figures.{members_at};
 ghost use Rattle.members.specs.Server.{board_of, fits, Bounded};

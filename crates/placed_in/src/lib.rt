@@ -1,5 +1,7 @@
 // Placing tasks in the order in which they come, by a fit: the servers of all of them.
 // What they mean stands in servers/specs/Placement.antt.
+#![tactic(auto)]
+
 ghost use Rattle.std.specs.Prelude.{◌≡◌};
 ghost use Rattle.loads.specs.Figures.{figures_to};
 ghost use Rattle.members.specs.Server.{board_of, Filed, Bounded};

@@ -1,5 +1,7 @@
 // Placing in the order of a rule: the servers of all tasks, in file order.
 // What they mean stands in servers/specs/Placement.antt; the order in packing/specs/Turns.antt.
+#![tactic(auto)]
+
 ghost use Rattle.std.specs.Prelude.{◌≡◌};
 ghost use Rattle.loads.specs.Figures.{figures_to};
 ghost use Rattle.packing.specs.Turns.{turns_of, in_turn, in_file_order};

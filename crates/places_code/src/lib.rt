@@ -1,4 +1,6 @@
 // The places of one server's tasks, as numbers of one byte. What they mean stands in places/specs/Places.antt.
+#![tactic(auto)]
+
 ghost use Rattle.std.specs.Prelude.{◌≡◌, ◌≤◌, length, take};
 ghost use Rattle.digits.specs.Stored.{stored};
 ghost use Rattle.tasks.specs.Set.{most_tasks};

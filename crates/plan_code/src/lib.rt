@@ -1,5 +1,7 @@
 // Rows of numbers by server: where each stands on the ring, how many tasks it has, its cache cost and its reserve.
 // Every place is read, so that what is compiled reads a plan where it stands and copies no more than the row.
+#![tactic(auto)]
+
 ghost use Rattle.std.specs.Prelude.{◌≡◌, map};
 ghost use Rattle.plan.specs.declared.server.Server.{Server};
 

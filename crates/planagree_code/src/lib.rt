@@ -1,5 +1,7 @@
 // Whether two plans agree in all that is used. Unused room is not compared.
 // What it means stands in planagree/specs/Agrees.antt.
+#![tactic(auto)]
+
 ghost use Rattle.std.specs.Prelude.{◌≡◌, ◌+◌, ◌≤◌, length};
 ghost use Rattle.tasks.specs.Set.{most_tasks};
 ghost use Rattle.planagree.specs.Agrees.{same_front, same_figures, same_used, same_servers, same_stand, same_processors, agrees, InRoom};

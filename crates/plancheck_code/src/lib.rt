@@ -1,5 +1,7 @@
 // The check behind row 11: the planner makes this plan of this set. Unused room is not compared.
 // What it means stands in plancheck/specs/Makes.antt.
+#![tactic(auto)]
+
 ghost use Rattle.std.specs.Prelude.{◌≡◌};
 ghost use Rattle.plancheck.specs.Makes.{makes};
 

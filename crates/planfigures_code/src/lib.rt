@@ -1,5 +1,7 @@
 // The figures of a plan's 13 and 14 lines, one line behind the other, as the writer of lines takes them.
 // What they are stands in planfigures/specs/Figures.antt.
+#![tactic(auto)]
+
 ghost use Rattle.std.specs.Prelude.{◌≡◌, ◌*◌, ◌≤◌, length as count};
 ghost use Rattle.tasks.specs.Set.{most_tasks, most_processors};
 ghost use Rattle.framelines.specs.Figures.{filled};

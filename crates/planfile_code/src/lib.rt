@@ -1,5 +1,7 @@
 // The whole tool, from the bytes of a task file to the bytes of its answer: a plan, or one 1F line.
 // What it answers stands in planfile/specs/Tool.antt.
+#![tactic(auto)]
+
 ghost use Rattle.planfit.specs.Fit.{Fits};
 ghost use Rattle.planfile.specs.Tool.{answered};
 

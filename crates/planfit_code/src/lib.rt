@@ -1,5 +1,7 @@
 // A text into a lent buffer: stored at its start where it fits, else row 12 and nothing stored.
 // What is answered stands in planfit/specs/Fit.antt.
+#![tactic(auto)]
+
 ghost use Rattle.plantext.specs.Text.{plan_text};
 ghost use Rattle.planlines.specs.Line.{refusal_text};
 ghost use Rattle.planfit.specs.Fit.{Fits};

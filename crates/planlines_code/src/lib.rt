@@ -1,5 +1,7 @@
 // The 12, 13 and 14 lines of a plan, one kind after the other, put by the table of frames.
 // What each line holds stands in planlines/specs/Line.antt.
+#![tactic(auto)]
+
 ghost use Rattle.std.specs.Prelude.{◌≡◌, ◌+◌, ◌*◌, ◌≤◌, length as bytes};
 ghost use Rattle.frames.specs.Table.{length_of};
 ghost use Rattle.framelines.specs.Lines.{joined};

@@ -1,4 +1,6 @@
 // From placed and sized servers on: row 10, and the plan. What it means stands in settling/specs/Settled.antt and planner/specs/Planner.antt.
+#![tactic(auto)]
+
 ghost use Rattle.std.specs.Prelude.{◌≡◌, take};
 ghost use Rattle.refusals.specs.First.{when};
 ghost use Rattle.reserves.specs.Slotted.{SlottedFirst};

@@ -1,5 +1,7 @@
 // The planner: the plan that document 01 describes, or the first refusal and the all-zero plan; and its steps, what rows 11 and 5 to 9 say
 // and the servers. What it means stands in planner/specs/Planner.antt and settling/specs/Settled.antt.
+#![tactic(auto)]
+
 ghost use Rattle.std.specs.Prelude.{◌≡◌};
 ghost use Rattle.rows.specs.Rows.{horizon_of};
 ghost use Rattle.planner.specs.Planner.{Clear, plan_of};

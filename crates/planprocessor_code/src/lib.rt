@@ -1,5 +1,7 @@
 // One processor of a plan: is it there, and who runs on it at a tick.
 // What they mean stands in planprocessor/specs/Standing.antt.
+#![tactic(auto)]
+
 ghost use Rattle.std.specs.Prelude.{◌≡◌, ◌+◌, ◌≤◌};
 ghost use Rattle.tasks.specs.Set.{most_tasks};
 ghost use Rattle.ring.specs.Who.{who_of};

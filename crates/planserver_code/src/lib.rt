@@ -1,4 +1,6 @@
 // Does one server of a plan that is checked already pass with a reserve. What it means stands in planserver/specs/Recorded.antt.
+#![tactic(auto)]
+
 ghost use Rattle.std.specs.Prelude.{◌≡◌};
 ghost use Rattle.demand.specs.Supply.{Allowed};
 ghost use Rattle.loads.specs.Charge.{server_loss};

@@ -1,5 +1,7 @@
 // The text of a plan: one 11 line, then 12 by server, 13 in file order, 14 by processor, one behind the other.
 // What it is stands in plantext/specs/Text.antt.
+#![tactic(auto)]
+
 ghost use Rattle.std.specs.Prelude.{◌≡◌, ◌≤◌, length as bytes};
 ghost use Rattle.digits.specs.Stored.{stored};
 ghost use Rattle.plantext.specs.Text.{plan_text};

@@ -1,4 +1,6 @@
 // What the benchmark calls from Rust: the searches for a short length and for the closest alone, with no file and no plan around them.
+#![tactic(auto)]
+
 ghost use Rattle.std.specs.Prelude.{◌≡◌, eqb};
 ghost use Rattle.demand.specs.Load.{loads_of};
 ghost use Rattle.interrupting.specs.Interrupts.{asked};

@@ -1,4 +1,6 @@
 // The fields of a line, written one behind the other.
+#![tactic(auto)]
+
 ghost use Rattle.std.specs.Prelude.{◌≡◌, ◌+◌, ◌≤◌, length as count};
 ghost use Rattle.frames.specs.Table.{most_fields, sum};
 ghost use Rattle.framewrite.specs.Line.{fields, row_widths};

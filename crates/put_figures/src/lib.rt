@@ -1,4 +1,6 @@
 // Figures of lines, copied to their place among the numbers that the writer of lines takes.
+#![tactic(auto)]
+
 ghost use Rattle.std.specs.Prelude.{◌≡◌, ◌+◌, ◌≤◌, length as count};
 ghost use Rattle.digits.specs.Stored.{stored};
 

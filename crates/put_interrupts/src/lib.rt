@@ -1,4 +1,6 @@
 // The 07 lines of a task file, one for each interrupt, written one behind the other.
+#![tactic(auto)]
+
 ghost use Rattle.std.specs.Prelude.{◌≡◌, ◌+◌, ◌*◌, ◌≤◌, length as bytes};
 ghost use Rattle.frames.specs.Table.{length_of};
 ghost use Rattle.framelines.specs.Figures.{filled};

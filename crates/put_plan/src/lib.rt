@@ -1,5 +1,7 @@
 // The 11 line of a plan and the line of a refusal, put by the table of frames.
 // What each line holds stands in planlines/specs/Line.antt.
+#![tactic(auto)]
+
 ghost use Rattle.std.specs.Prelude.{◌≡◌, ◌≤◌, length as bytes};
 ghost use Rattle.digits.specs.Stored.{stored};
 ghost use Rattle.planlines.specs.Line.{plan_line, refusal_text};

@@ -1,5 +1,7 @@
 // Rows 5 and 6 of the refusals, over the figures of a task set.
 // The reader gives them after the lines, the planner again for a set that a caller built.
+#![tactic(auto)]
+
 ghost use Rattle.std.specs.Prelude.{◌≡◌, ◌≤◌};
 ghost use Rattle.tasks.specs.Set.{members, counted, most_tasks, most_interrupts};
 ghost use Rattle.taskrows.specs.Rows.{range_row, interrupt_row, figures_outcome};

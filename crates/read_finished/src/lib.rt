@@ -1,5 +1,7 @@
 // How the reading of a task file ends: behind its tasks the 07 lines, COUNT where there is no task, rows 5 and 6; and what is answered, the
 // set or a refusal with the all-zero set.
+#![tactic(auto)]
+
 ghost use Rattle.std.specs.Prelude.{◌≡◌, []};
 ghost use Rattle.tasks.specs.Set.{set_of};
 ghost use Rattle.taskfile.specs.File.{file_header, tasks_among, interrupts_among};

@@ -1,4 +1,6 @@
 // How many bytes reading a task file looks at.
+#![tactic(auto)]
+
 ghost use Rattle.std.specs.Prelude.{◌≡◌};
 ghost use Rattle.readbytes.specs.Furthest.{furthest};
 

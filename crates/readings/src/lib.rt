@@ -1,5 +1,7 @@
 // Does this server pass with this reserve: the whole answer for the question, yes or no with a reading. Interrupts can be held off for
 // `masked` ticks. Lengths up to the horizon are looked at.
+#![tactic(auto)]
+
 ghost use Rattle.std.specs.Prelude.{◌≡◌, ◌<◌, ◌≤◌, ◌^◌};
 ghost use Rattle.demand.specs.Load.{loads_of};
 ghost use Rattle.demand.specs.Supply.{Allowed};

@@ -1,4 +1,6 @@
 // The record of one server of a plan that is checked already. What it is stands in planserver/specs/Recorded.antt.
+#![tactic(auto)]
+
 ghost use Rattle.std.specs.Prelude.{◌≡◌, true};
 ghost use Rattle.plancheck.specs.Makes.{makes};
 ghost use Rattle.named.specs.Named.{is_server};

@@ -1,5 +1,7 @@
 // The refusals of documents 01 and 02 as one enum, each with what its place needs.
 // Types, definitions and laws; the code stands in refusals_code.
+#![tactic(auto)]
+
 
 #[derive(Clone, Copy)]
 pub enum Refusal {

@@ -1,4 +1,6 @@
 // The number of a refusal, and its place.
+#![tactic(auto)]
+
 ghost use Rattle.std.specs.Prelude.{◌≡◌};
 ghost use Rattle.refusals.specs.Refused.{number_of, place_of};
 

@@ -1,4 +1,6 @@
 // Sums over the reserves: the ring's ticks and processors, the whole processors, where each reserve starts.
+#![tactic(auto)]
+
 ghost use Rattle.std.specs.Prelude.{◌≡◌, ◌≤◌, take};
 ghost use Rattle.reserves.specs.Slotted.{SlottedFirst};
 ghost use Rattle.reserves.specs.Reserves.{ring_ticks, wholes, start_of, ring_processors};

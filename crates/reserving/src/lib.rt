@@ -1,5 +1,7 @@
 // The size of a server's reserve. What it means stands in specs/Reserve.antt of verdict.
 // A larger allowed reserve never turns yes into no, so halving finds the smallest.
+#![tactic(auto)]
+
 ghost use Rattle.std.specs.Prelude.{◌≡◌};
 ghost use Rattle.demand.specs.Load.{loads_of};
 ghost use Rattle.interrupting.specs.Interrupts.{asked};

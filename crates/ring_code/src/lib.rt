@@ -1,5 +1,7 @@
 // The phase rule, from a tick to a position; and the server whose reserve covers a position, with the ticks to that reserve's end.
 // Server 0 is the idle stretch at the ring's end.
+#![tactic(auto)]
+
 ghost use Rattle.std.specs.Prelude.{◌≡◌, ◌<◌, ◌*◌, ◌≤◌, ◌^◌, take};
 ghost use Rattle.reserves.specs.Slotted.{SlottedFirst};
 ghost use Rattle.reserves.specs.Reserves.{ring_length};

@@ -1,5 +1,7 @@
 // Who runs on a processor at a tick, and for how long; and the first reserve of each processor.
 // Ring processors come first, then one for each server that has a whole processor.
+#![tactic(auto)]
+
 ghost use Rattle.std.specs.Prelude.{◌≡◌, ◌≤◌, take};
 ghost use Rattle.reserves.specs.Slotted.{SlottedFirst};
 ghost use Rattle.reserves.specs.Reserves.{processors_of};

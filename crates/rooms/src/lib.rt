@@ -1,5 +1,7 @@
 // The room of a server, and whether a server of this room is worth asking.
 // What they mean stands in joining/specs/Fits.antt.
+#![tactic(auto)]
+
 ghost use Rattle.std.specs.Prelude.{◌≡◌, ◌+◌, ◌-◌, ◌*◌, ◌^◌, ◌<◌};
 ghost use Rattle.joining.specs.Fits.{worth_asking};
 

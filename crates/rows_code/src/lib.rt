@@ -1,4 +1,6 @@
 // Rows 5 to 9 of the refusals over a set, in order, with the horizon that row 9 finds. What they mean stands in rows/specs/Rows.antt.
+#![tactic(auto)]
+
 ghost use Rattle.std.specs.Prelude.{◌≡◌, ◌≤◌};
 ghost use Rattle.tasks.specs.Set.{most_tasks, most_interrupts};
 ghost use Rattle.rows.specs.Rows.{rows_of};

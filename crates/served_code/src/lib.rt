@@ -1,6 +1,8 @@
 // The loads of the server at some places among a file's figures, and its own horizon.
 // What is asked stands in served/specs/Served.antt. Loads stand in a slice of numbers, three for each, figures and interrupts in slices of four for
 // each.
+#![tactic(auto)]
+
 ghost use Rattle.std.specs.Prelude.{◌++◌, ◌≡◌, ◌+◌, ◌*◌, ◌≤◌, length, take};
 ghost use Rattle.digits.specs.Stored.{stored};
 ghost use Rattle.loads.specs.Charge.{numbers_of, server_loads};

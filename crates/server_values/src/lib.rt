@@ -1,5 +1,7 @@
 // The figures of a plan's 12 lines, one line behind the other, as the writer of lines takes them.
 // What they are stands in planfigures/specs/Figures.antt.
+#![tactic(auto)]
+
 ghost use Rattle.std.specs.Prelude.{◌≡◌, cond, ◌*◌, ◌≤◌, ltb};
 ghost use Rattle.tasks.specs.Set.{most_tasks};
 ghost use Rattle.framelines.specs.Figures.{filled};

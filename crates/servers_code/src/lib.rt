@@ -1,5 +1,7 @@
 // Placing by the packing rule of the file: the servers of all tasks.
 // What they mean stands in servers/specs/Placement.antt.
+#![tactic(auto)]
+
 ghost use Rattle.std.specs.Prelude.{◌≡◌};
 ghost use Rattle.loads.specs.Figures.{figures_to};
 ghost use Rattle.members.specs.Server.{board_of, Filed, Bounded};

@@ -1,5 +1,7 @@
 // The figures of a task set.
 // What they mean stands in setfigures/specs/Figures.antt.
+#![tactic(auto)]
+
 ghost use Rattle.std.specs.Prelude.{◌≡◌, ◌≤◌};
 ghost use Rattle.tasks.specs.Set.{most_tasks};
 ghost use Rattle.setfigures.specs.Figures.{figure_numbers};

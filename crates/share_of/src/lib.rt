@@ -1,5 +1,7 @@
 // What a task brings into a server.
 // What it means stands in shares/specs/Share.antt, shares/specs/Totals.antt and shares/specs/Soonest.antt.
+#![tactic(auto)]
+
 ghost use Rattle.std.specs.Prelude.{◌≡◌, ◌+◌};
 ghost use Rattle.loads.specs.Figures.{figures_at};
 ghost use Rattle.members.specs.Server.{Filed};

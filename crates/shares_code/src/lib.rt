@@ -1,4 +1,6 @@
 // The larger of two numbers, and what a server's loads ask of the horizon.
+#![tactic(auto)]
+
 ghost use Rattle.std.specs.Prelude.{◌≡◌, ◌+◌, ◌*◌, ◌^◌, ◌<◌, max};
 
 pub fn larger(a: u64, b: u64) -> u64

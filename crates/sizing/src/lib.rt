@@ -1,5 +1,7 @@
 // Sizing: the smallest reserve of each server of a placement; and placing and sizing in one.
 // Types, definitions and laws; the code stands in reserve_of and sizing_code.
+#![tactic(auto)]
+
 use tasks::set::TaskSet;
 
 // The server of each task in file order, and the cache cost and the reserve of each server; servers count from 1, unused room is zero.

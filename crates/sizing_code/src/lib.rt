@@ -1,6 +1,8 @@
 // The reserves of the servers of a placement, and placing and sizing in one. What they mean stands in sizing/specs/Reserve.antt.
 // The tasks' own figures stand in one slice, four for each, the server of each task in another, of which the first n count, and the
 // interrupts in a third, four numbers for each.
+#![tactic(auto)]
+
 ghost use Rattle.std.specs.Prelude.{◌≡◌, ◌≤◌, length, take};
 ghost use Rattle.loads.specs.Figures.{figures_to};
 ghost use Rattle.places.specs.Padded.{padded, up_to};

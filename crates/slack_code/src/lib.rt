@@ -1,5 +1,7 @@
 // How close it is: the length with the smallest slack, of those where the demand of loads steps.
 // What it means stands in slack/specs/Least.antt and slack/specs/Slack.antt.
+#![tactic(auto)]
+
 ghost use Rattle.std.specs.Prelude.{◌≡◌, true, pred, ◌≤◌};
 ghost use Rattle.interrupting.specs.Interrupts.{asked};
 ghost use Rattle.interrupting.specs.Interrupted.{Interrupted};

@@ -1,5 +1,7 @@
 // The smallest deadline of a server: with one task more, and whether B rules the task out beside it.
 // What they mean stands in joining/specs/Soonest.antt.
+#![tactic(auto)]
+
 ghost use Rattle.std.specs.Prelude.{◌≡◌};
 ghost use Rattle.joining.specs.Soonest.{soonest_with, masked_out};
 

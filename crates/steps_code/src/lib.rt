@@ -1,5 +1,7 @@
 // The last length up to a bound where what is asked steps. What a step is stands in steps/specs/Stepping.antt. A slice has three numbers for
 // each load, and behind the loads four for each interrupt, by processor.
+#![tactic(auto)]
+
 ghost use Rattle.std.specs.Prelude.{◌≡◌, ◌<◌, ◌^◌};
 ghost use Rattle.demand.specs.Load.{Loaded, loads_of};
 ghost use Rattle.demand.specs.Demand.{demand};

@@ -1,5 +1,7 @@
 // The stretch that follows another on the ring: the next ring server's reserve, or the idle positions behind the last.
 // What it is stands in turn's specs/Stretch.antt. Server 0 is the idle stretch.
+#![tactic(auto)]
+
 ghost use Rattle.std.specs.Prelude.{◌≡◌, take};
 ghost use Rattle.reserves.specs.Slotted.{SlottedFirst};
 ghost use Rattle.reserves.specs.Reserves.{idle_positions};

@@ -1,6 +1,8 @@
 // Reads a list of file names on standard input and prints how many were accepted and how many met each refusal number.
 // What is counted stands in sweeplist's specs/Swept.antt, what is printed is `tally_text` of tallytext's specs/Text.antt. A list that
 // can't be read and a report that can't be written are told on standard error, and so is progress where it is asked for.
+#![tactic(auto)]
+
 use libc::{STDERR_FILENO, STDIN_FILENO, STDOUT_FILENO};
 use refusals::Written;
 use shell::front::front;

@@ -1,1 +1,3 @@
 // No code of its own: what is promised of a sweep.
+#![tactic(auto)]
+

@@ -1,4 +1,6 @@
 // The sweep of a list of names that comes in parts: each name is counted where it ends. What it means stands in sweeping/specs/Sweeping.antt.
+#![tactic(auto)]
+
 ghost use Rattle.sweeping.specs.Sweeping.{Sweeping, Sweeps, Ends};
 
 use names_code::cut_name;

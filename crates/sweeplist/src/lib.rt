@@ -1,4 +1,6 @@
 // The sweep of a list of names, by its descriptor, read part by part. What it counts stands in specs/Swept.antt.
+#![tactic(auto)]
+
 ghost use Rattle.sweeplist.specs.Swept.{IsCounted};
 
 use libc::STDERR_FILENO;

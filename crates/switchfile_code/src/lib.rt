@@ -1,4 +1,6 @@
 // The switch list of a task file, into a lent buffer. What is answered stands in switchfile/specs/OfFile.antt.
+#![tactic(auto)]
+
 ghost use Rattle.std.specs.Prelude.{◌≡◌};
 ghost use Rattle.refusals.specs.Leaves.{leaves};
 ghost use Rattle.planfit.specs.Fit.{Fits};

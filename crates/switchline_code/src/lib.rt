@@ -1,5 +1,7 @@
 // The line of one switch: what begins on a ring processor at a tick, and its line.
 // What is carried from switch to switch stands in switchline/specs/Before.antt.
+#![tactic(auto)]
+
 ghost use Rattle.std.specs.Prelude.{◌≡◌, suc, ◌+◌, ◌*◌, ◌≤◌, ◌<◌, length as count, take};
 ghost use Rattle.digits.specs.Stored.{stored};
 ghost use Rattle.frames.specs.declared.table.Frame.{Frame};

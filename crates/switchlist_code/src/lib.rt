@@ -1,5 +1,7 @@
 // The switch list of a plan that is handed in with its set: row 11 unless the planner makes it, then row 12, else the exact text.
 // What is answered stands in switchlist/specs/Write.antt.
+#![tactic(auto)]
+
 ghost use Rattle.std.specs.Prelude.{◌≡◌};
 ghost use Rattle.refusals.specs.Leaves.{leaves};
 ghost use Rattle.turn.specs.Count.{longest_switches};

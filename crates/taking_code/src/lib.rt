@@ -1,5 +1,7 @@
 // Whether a server takes a task, and whether the task passes alone.
 // What they mean stands in taking/specs/Takes.antt. The server of each task stands in a slice, of which the first i are placed.
+#![tactic(auto)]
+
 ghost use Rattle.std.specs.Prelude.{◌≡◌, [], ◌∷◌, ◌+◌, ◌≤◌, length, take};
 ghost use Rattle.loads.specs.Charge.{cache_of};
 ghost use Rattle.loads.specs.Figures.{figures_at, figures_to};

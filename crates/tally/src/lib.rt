@@ -1,5 +1,7 @@
 // The count of a sweep's names: all, those whose file was accepted, and those that met each refusal number.
 // Types, definitions and laws; the code stands in tally_code and under_number.
+#![tactic(auto)]
+
 ghost use Rattle.std.specs.Prelude.{◌≡◌};
 ghost use Rattle.tally.specs.Tally.{zero_tally};
 

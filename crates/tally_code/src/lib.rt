@@ -1,4 +1,6 @@
 // One name more in the count of a sweep, by what became of it. What it means stands in tally/specs/Tally.antt.
+#![tactic(auto)]
+
 ghost use Rattle.std.specs.Prelude.{◌≡◌, ◌<◌};
 ghost use Rattle.tally.specs.Tally.{most_names, counted_of, Adds};
 

@@ -1,5 +1,7 @@
 // The text of a sweep's report, into a lent buffer: the 40 line, then a 41 line for each number told.
 // What it says stands in tallytext/specs/Text.antt.
+#![tactic(auto)]
+
 ghost use Rattle.std.specs.Prelude.{◌≡◌};
 ghost use Rattle.planfit.specs.Fit.{Fits};
 ghost use Rattle.tallytext.specs.Text.{told_figures, tally_text};

@@ -1,4 +1,6 @@
 // Rows 3 and 4 of a task set, with what row 11 is: a set breaks row 3 or 4, or holds what no file's lines can carry.
+#![tactic(auto)]
+
 ghost use Rattle.std.specs.Prelude.{◌≡◌, ◌≤◌};
 ghost use Rattle.tasks.specs.Set.{members, most_tasks};
 ghost use Rattle.taskask.specs.Ask.{count_row, twice_row};

@@ -1,1 +1,3 @@
 // What the lines of a task file are and answer. No code.
+#![tactic(auto)]
+

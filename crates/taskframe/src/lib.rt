@@ -1,4 +1,6 @@
 // The kind of line that a task stands in: 03 where it has a cache cost of its own, else 02.
+#![tactic(auto)]
+
 ghost use Rattle.std.specs.Prelude.{◌≡◌};
 ghost use Rattle.taskframe.specs.Frames.{task_frame};
 

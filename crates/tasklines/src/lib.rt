@@ -1,5 +1,7 @@
 // The 02 and 03 lines of a task file, from the line behind its opening to the first 07 line, to the end of the text or to the first line that is refused.
 // Types, definitions and laws; the code stands in tasklines_code.
+#![tactic(auto)]
+
 use refusals::Outcome;
 use tasks::set::TaskSet;
 

@@ -1,5 +1,7 @@
 // The 02 and 03 lines of a task file, from the line behind its opening to the first 07 line, to the end of the text or to the first line that
 // is refused.
+#![tactic(auto)]
+
 ghost use Rattle.std.specs.Prelude.{◌≡◌};
 ghost use Rattle.refusals.specs.declared.Outcome.TheVariants.{Done};
 ghost use Rattle.taskfile.specs.File.{line_outcome};

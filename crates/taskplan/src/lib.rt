@@ -1,5 +1,7 @@
 // A task file taken to its set and its plan, or to its refusal: what the tool prints and what both questions are asked of.
 // Types, definitions and laws; the code stands in taskplan_code.
+#![tactic(auto)]
+
 use plan::plan::Plan;
 use refusals::Outcome;
 use tasks::set::TaskSet;

@@ -1,5 +1,7 @@
 // A task file taken to what its rows say, and to its outcome: the first steps to its set and its plan, and whether it has them.
 // What it means stands in filerows/specs/Read.antt and taskplan/specs/File.antt.
+#![tactic(auto)]
+
 ghost use Rattle.std.specs.Prelude.{◌≡◌};
 ghost use Rattle.taskplan.specs.File.{filed_of};
 ghost use Rattle.filerows.specs.Read.{read_rows};

@@ -1,5 +1,7 @@
 // Reading a task file: the set, or the refusal and the all-zero set.
 // Lines are taken in order, then rows 5 and 6 of the figures.
+#![tactic(auto)]
+
 ghost use Rattle.std.specs.Prelude.{◌≡◌};
 ghost use Rattle.taskread.specs.Read.{read_of};
 

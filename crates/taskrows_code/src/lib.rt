@@ -1,4 +1,6 @@
 // Row 5 of the refusals, over a board's figures, and row 6, over those of one task or one interrupt.
+#![tactic(auto)]
+
 ghost use Rattle.std.specs.Prelude.{◌≡◌};
 ghost use Rattle.taskrows.specs.Rows.{board_row, out_of_range, range_row, interrupt_row};
 

@@ -1,4 +1,6 @@
 // The lines of a set's tasks, each an 02 or an 03 line, written one behind the other. What they are stands in tasktext/specs/Text.antt.
+#![tactic(auto)]
+
 ghost use Rattle.std.specs.Prelude.{◌≡◌, ◌+◌, ◌≤◌, length as bytes};
 ghost use Rattle.digits.specs.Stored.{stored};
 ghost use Rattle.tasks.specs.Set.{most_tasks, members};

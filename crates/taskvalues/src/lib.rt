@@ -1,4 +1,6 @@
 // The figures of a header, of a task and of an interrupt as the values of their lines' fields.
+#![tactic(auto)]
+
 ghost use Rattle.std.specs.Prelude.{◌≡◌};
 ghost use Rattle.tasks.specs.Values.{header_values, task_values, interrupt_values};
 

@@ -1,5 +1,7 @@
 // Writing a task set as a file, at the start of a lent buffer.
 // Row 11 comes before row 12, and a refused write stores nothing.
+#![tactic(auto)]
+
 ghost use Rattle.taskwrite.specs.Write.{Wrote};
 
 use refusals::{Refusal, Written};

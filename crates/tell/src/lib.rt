@@ -1,5 +1,7 @@
 // Numbers into lent memory, with a status: 0, or a refusal as one number.
 // What they are stands in told/specs/Told.antt.
+#![tactic(auto)]
+
 ghost use Rattle.std.specs.Prelude.{◌≡◌};
 ghost use Rattle.refusals.specs.declared.Outcome.TheVariants.{Done};
 ghost use Rattle.told.specs.Told.{status_of, told_of, leaves_numbers};

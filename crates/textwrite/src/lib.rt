@@ -1,4 +1,6 @@
 // The text of a task set: one 01 line, the 05 line and the 06 line where the set has them, then the lines of the tasks and the 07 lines, each in file order.
+#![tactic(auto)]
+
 ghost use Rattle.std.specs.Prelude.{◌≡◌, ◌≤◌, length as bytes};
 ghost use Rattle.digits.specs.Stored.{stored};
 ghost use Rattle.tasks.specs.Set.{most_tasks, most_interrupts};

@@ -1,5 +1,7 @@
 // The switches of one tick as text: a line for each processor whose time is over, and every processor carried past the tick.
 // What they are stands in turn's specs/Switches.antt, what is carried from switch to switch in specs/Walk.antt.
+#![tactic(auto)]
+
 ghost use Rattle.std.specs.Prelude.{◌≡◌, suc, ◌+◌, ◌*◌, ◌≤◌, ◌<◌, length as count, take, drop};
 ghost use Rattle.digits.specs.Stored.{stored};
 ghost use Rattle.frames.specs.declared.table.Frame.{Frame};

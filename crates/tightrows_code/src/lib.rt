@@ -1,5 +1,7 @@
 // Rows 7 and 8 of the refusals, each over all tasks of a set; row 8 by each task's own cache cost.
 // What they mean stands in tightrows/specs/Rows.antt.
+#![tactic(auto)]
+
 ghost use Rattle.std.specs.Prelude.{◌≡◌, ◌≤◌};
 ghost use Rattle.tasks.specs.Set.{members, most_tasks};
 ghost use Rattle.tasks.specs.Search.{first_task};

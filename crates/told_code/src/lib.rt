@@ -1,4 +1,6 @@
 // A refusal as one number, and the numbers of a verdict. What they are stands in told/specs/Told.antt.
+#![tactic(auto)]
+
 ghost use Rattle.std.specs.Prelude.{◌≡◌};
 ghost use Rattle.refusals.specs.declared.Outcome.TheVariants.{Refused};
 ghost use Rattle.verdict.specs.Numbers.{verdict_numbers};

@@ -1,4 +1,6 @@
 // A writer's answer, told as a status and the length of what was written. What it says stands in specs/Length.antt.
+#![tactic(auto)]
+
 ghost use Rattle.std.specs.Prelude.{◌≡◌};
 ghost use Rattle.toldtext.specs.Length.{written_status, written_length};
 

@@ -1,4 +1,6 @@
 // How many switches a turn has, without walking through it. What they are stands in turn's specs/Count.antt.
+#![tactic(auto)]
+
 ghost use Rattle.std.specs.Prelude.{◌≡◌, take};
 ghost use Rattle.turn.specs.Stretch.{Laid};
 ghost use Rattle.turn.specs.Count.{amid, stretches, switch_count};

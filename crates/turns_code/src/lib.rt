@@ -1,5 +1,7 @@
 // The order and the fit of a packing rule, and what is taken from file order into the tasks' turns and back.
 // What it means stands in packing/specs/Rules.antt and packing/specs/Turns.antt; the turns come from sorting.
+#![tactic(auto)]
+
 ghost use Rattle.std.specs.Prelude.{◌≡◌, ◌*◌, take, replicate};
 ghost use Rattle.digits.specs.Stored.{stored};
 ghost use Rattle.tasks.specs.Set.{most_tasks};

@@ -1,4 +1,6 @@
 // One name more, among the accepted or under a refusal number. What it means stands in tally/specs/Tally.antt.
+#![tactic(auto)]
+
 ghost use Rattle.std.specs.Prelude.{◌≡◌, ◌<◌};
 ghost use Rattle.tally.specs.Tally.{numbers, most_names, among_accepted, under, Adds};
 

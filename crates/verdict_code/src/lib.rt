@@ -1,5 +1,7 @@
 // Does this server pass with this reserve: yes or no, for placement and sizing. Interrupts can be held off for `masked` ticks.
 // What it means stands in verdict/specs/Verdict.antt. Lengths up to the horizon are looked at.
+#![tactic(auto)]
+
 ghost use Rattle.std.specs.Prelude.{◌≡◌};
 ghost use Rattle.demand.specs.Load.{loads_of};
 ghost use Rattle.demand.specs.Supply.{Allowed};

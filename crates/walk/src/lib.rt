@@ -1,5 +1,7 @@
 // The switches of one turn of the ring as text, written from switch to switch: the time goes with the lines and the processors.
 // What they are stands in turn's specs/Switches.antt, the lines of one tick in ticklines.
+#![tactic(auto)]
+
 ghost use Rattle.std.specs.Prelude.{◌≡◌, ◌≤◌, length as count, take};
 ghost use Rattle.digits.specs.Stored.{stored};
 ghost use Rattle.turn.specs.Switches.{switch_text};

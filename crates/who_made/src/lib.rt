@@ -1,5 +1,7 @@
 // Who runs on a processor at a tick, about a set and a plan that is checked already; and the refused question.
 // What is answered stands in whoruns/specs/WhoRuns.antt.
+#![tactic(auto)]
+
 ghost use Rattle.std.specs.Prelude.{◌≡◌, true};
 ghost use Rattle.plancheck.specs.Makes.{makes};
 ghost use Rattle.whoruns.specs.WhoRuns.{refused_who, who_runs};

@@ -1,4 +1,6 @@
 // The servers that have a whole processor, in server order.
+#![tactic(auto)]
+
 ghost use Rattle.std.specs.Prelude.{◌≡◌, take};
 ghost use Rattle.reserves.specs.Slotted.{SlottedFirst};
 ghost use Rattle.reserves.specs.Whole.{whole_server};

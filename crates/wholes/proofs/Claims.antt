@@ -1,6 +1,6 @@
 -- Each claim of specs/Claims.antt, proved.
 -- Assumes nothing.
-use Prim.Native.Nat.{ℕ, ◌≤◌}
+use Prim.Native.Nat.{◌≤◌}
 use mathlib.Core.Path.{◌≡◌, sym, ap, ◌∙◌}
 use Rattle.wholes.specs.declared.Multiple.TheVariants.{Within}
 use Rattle.wholes.specs.Claims.{MeasureMeans, MultipleMeans, MultipleOfMeans, WithinMeans, CeilingMeans}

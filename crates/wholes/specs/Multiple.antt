@@ -1,6 +1,6 @@
 -- The least common multiple of two numbers, and of a first number and a list; and what a function answers under a limit.
 -- Document 01: "The horizon H is the least common multiple of S and every T of the file, at most 10,000,000" (RULES 1.4).
-use Rattle.std.specs.Prelude.{ℕ, ◌*◌, ◌/◌, ◌≤◌, ◌<◌, List, [], ◌∷◌, Bool, true, false, cond, leb, length, get_or}
+use Rattle.std.specs.Prelude.{ℕ, ◌*◌, ◌/◌, ◌≤◌, ◌<◌, List, [], ◌∷◌, cond, leb, length, get_or}
 use Rattle.std.specs.Int.{◌∣◌}
 use Rattle.wholes.specs.Measure.{common_measure}
 use Rattle.wholes.specs.declared.Multiple.{Multiple}

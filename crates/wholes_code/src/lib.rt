@@ -1,4 +1,6 @@
 // A quotient rounded up: the processors of a ring are counted with it.
+#![tactic(auto)]
+
 ghost use Rattle.std.specs.Prelude.{◌≡◌, ◌≤◌};
 ghost use Rattle.wholes.specs.Ceiling.{ceiling_of};
 

@@ -1,5 +1,7 @@
 // The question who runs on a processor at a tick, about a set and its plan.
 // What is answered stands in whoruns/specs/WhoRuns.antt.
+#![tactic(auto)]
+
 ghost use Rattle.std.specs.Prelude.{◌≡◌};
 ghost use Rattle.whoruns.specs.WhoRuns.{who_runs};
 

@@ -1,5 +1,7 @@
 // A line of plain words with numbers in it, put to the start of a lent buffer.
 // What it is stands in specs/Words.antt, and what is answered in specs/Lined.antt.
+#![tactic(auto)]
+
 ghost use Rattle.std.specs.Prelude.{◌≡◌, ◌+◌, ◌*◌, ◌≤◌, length};
 ghost use Rattle.digits.specs.Stored.{stored};
 ghost use Rattle.wordline.specs.Words.{signs, said};

@@ -1,5 +1,7 @@
 // Writing a plan that is handed in with its set: row 11 unless the planner makes it, then row 12, else the exact text.
 // What is answered stands in planfile/specs/Write.antt.
+#![tactic(auto)]
+
 ghost use Rattle.std.specs.Prelude.{◌≡◌};
 ghost use Rattle.refusals.specs.Leaves.{leaves};
 ghost use Rattle.plantext.specs.Text.{plan_text};

@@ -1,4 +1,6 @@
 // Row 11 before a task set is written: the set breaks row 3, 4, 5 or 6, or holds what no file's lines can carry.
+#![tactic(auto)]
+
 ghost use Rattle.std.specs.Prelude.{◌≡◌};
 ghost use Rattle.taskwrite.specs.Write.{writer_asks};
 

@@ -3,7 +3,6 @@ use mathlib.Core.Path.{sym}
 use mathlib.Core.List.{[]}
 use native.Mathlib.Omega.{arith}
 use Rattle.decimals.proofs.DecimalLaws.{below_digits, above_digits, digit_fits, digit_large}
-use borrow.Author.Rules.{rules}
 use Rattle.decimals.proofs.append.Goals as goal
 
 pub returns-then-byte-lt48 : goal.returns-then-byte-lt48

@@ -1,11 +1,7 @@
 -- `decimals::decimal` meets its contract: the number so far, with the bytes left behind it, is the number of the text.
 -- Assumes nothing.
-use Prim.Native.Nat.{◌-◌, ◌^◌, ◌≤◌, ◌<◌}
-use mathlib.Core.Path.{◌≡◌, sym, ◌∙◌}
+use mathlib.Core.Path.{sym, ◌∙◌}
 use native.Mathlib.Omega.{arith}
-use borrow.Author.Rules.{rules}
-use lib.ListN.{length, drop}
-use Rattle.decimals.specs.Decimal.{number_from, decimal_of}
 use Rattle.decimals.proofs.DecimalLaws.{decimal_of_lem, decimal_none, read_out, next_of, next_wrong}
 use Rattle.decimals.proofs.decimal.Goals as goal
 

@@ -1,10 +1,7 @@
 use Prim.Native.Nat.{◌-◌, ◌^◌, ◌≤◌, ◌<◌}
-use mathlib.Core.Path.{◌≡◌, sym, ◌∙◌}
-use native.Mathlib.Omega.{arith}
-use borrow.Author.Rules.{rules}
+use mathlib.Core.Path.{◌≡◌}
 use lib.ListN.{length, drop}
 use Rattle.decimals.specs.Decimal.{number_from, decimal_of}
-use Rattle.decimals.proofs.DecimalLaws.{decimal_of_lem, decimal_none, read_out, next_of, next_wrong}
 use Rattle.decimals.proofs.decimal.Given as goal
 
 abbrev pub invariant-loop-i : goal.invariant-loop-i

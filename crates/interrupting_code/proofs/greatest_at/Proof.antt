@@ -12,6 +12,7 @@ use Rattle.interrupting.proofs.SlicesLaws.{bounds_next, its_numbered, its_highes
 use Rattle.interrupting.proofs.ReachedLaws.{Reached, reached_none, reached_new, reached_same, reached_next}
 use Rattle.interrupting_code.proofs.greatest_at.Statement.{statement}
 use Rattle.interrupting_code.proofs.greatest_at.Tie as tie
+use Rattle.interrupting_code.proofs.greatest_at.Lts.{else-greatest-sum, else-processor-its, then-greatest-sum, then-processor-its}
 
 abbrev invariant-loop-i : tie.invariant-loop-i
 invariant-loop-i loads n t from count greatest₀ processor₀ sum₀ i₀ greatest processor sum i =
@@ -92,15 +93,13 @@ based c =
     let a = (start turn).args in
     let b = bound_at a.loads.now (3 * a.n) turn.loop-i.i in
     let old = turn.loop-i.invariant.1 in
-    ⊎_elim
-    (λ w.
-    let new : turn.loop-i.processor < b.processor = omega (arith, w.0.taken) in
-    (w.1, w.2 ∙ reached_new old b.processor new))
-    (λ w.
-    let no-new : b.processor ≤ turn.loop-i.processor = omega (arith, w.0.left) in
+    (elim c.if-processor-its.branch [
+      then-processor-its w ↦ let new : turn.loop-i.processor < b.processor = omega (arith, w.if-processor-its.true) in
+    (w.processor-is, w.sum-is ∙ reached_new old b.processor new)
+    | else-processor-its w ↦ let no-new : b.processor ≤ turn.loop-i.processor = omega (arith, w.if-processor-its.false) in
     let same = reached_same old b.processor no-new (top turn) in
-    (w.1 ∙ same.0, w.2 ∙ same.1))
-    c.if-processor-its.branch
+    (w.processor-is ∙ same.0, w.sum-is ∙ same.1)
+    ])
 
 -- with its term added it has room
 room : (c : tie.Joined-processor-its invariant-loop-i decreases-loop-i) →
@@ -145,7 +144,10 @@ loop-i-preserved c =
       omega (arith, within turn),
       rw (bounds_next a.loads.now (3 * a.n) i, summed, (based met).0)
           (reached_next turn.loop-i.invariant.1 b met.if-processor-its.sum sum c.if-greatest-sum.greatest (numbered turn).there (top turn) (based met).1 refl
-          (⊎_elim (λ w. omega (arith, w.0.taken, w.1, summed)) (λ w. omega (arith, w.0.left, w.1, summed)) c.if-greatest-sum.branch)),
+          (elim c.if-greatest-sum.branch [
+      then-greatest-sum w ↦ omega (arith, w.if-greatest-sum.true, w.greatest-is, summed)
+    | else-greatest-sum w ↦ omega (arith, w.if-greatest-sum.false, w.greatest-is, summed)
+    ])),
     )
 
 returns : tie.Need-returns invariant-loop-i decreases-loop-i

@@ -12,84 +12,84 @@ use Rattle.search.proofs.Descent.{Descended, descent_starts, descent_finds, desc
 use Rattle.last_short.proofs.last_short.Statement.{statement}
 use Rattle.last_short.proofs.last_short.Tie as tie
 
-abbrev invariant-loop : tie.invariant-loop
-invariant-loop loads n slot gap extra hi t₀ supply₀ t supply = Descended (asked loads n) slot gap extra hi t supply
+abbrev invariant-loop-t : tie.invariant-loop-t
+invariant-loop-t loads n slot gap extra hi t₀ supply₀ t supply = Descended (asked loads n) slot gap extra hi t supply
 
-abbrev decreases-loop : tie.decreases-loop
-decreases-loop loads n slot gap extra hi t₀ supply₀ t supply = t
+abbrev decreases-loop-t : tie.decreases-loop-t
+decreases-loop-t loads n slot gap extra hi t₀ supply₀ t supply = t
 
 -- what is asked, and why it never falls
-abbrev asking : tie.Start invariant-loop decreases-loop → ℕ → ℕ
+abbrev asking : tie.Start invariant-loop-t decreases-loop-t → ℕ → ℕ
 asking s = asked s.args.loads.now s.args.n
 
-rising : (s : tie.Start invariant-loop decreases-loop) → Rising (asking s)
+rising : (s : tie.Start invariant-loop-t decreases-loop-t) → Rising (asking s)
 rising s = asked_rising s.args.loads.now s.args.n s.requires.0
 
-supply-at-requires : tie.Need-supply-at-requires invariant-loop decreases-loop
-supply-at-requires c κs = omega arith
+supply_at-supply-requires : tie.Need-supply_at-supply-requires invariant-loop-t decreases-loop-t
+supply_at-supply-requires c κs = omega arith
 
-loop-holds : tie.Need-loop-init invariant-loop decreases-loop
-loop-holds c = descent_starts c.supply-at.ensures
+loop-t-init : tie.Need-loop-t-init invariant-loop-t decreases-loop-t
+loop-t-init c = descent_starts c.supply_at-supply.ensures
 
-add-w : tie.Need-overflow-add-w invariant-loop decreases-loop
-add-w c =
+overflow_add-w : tie.Need-overflow_add-w invariant-loop-t decreases-loop-t
+overflow_add-w c =
     let s = c.before.before.before.before.before in
     let a = s.args in
-    let room = asked_room a.loads.now a.n s.requires.0 c.before.before.loop.t (omega arith) in
+    let room = asked_room a.loads.now a.n s.requires.0 c.loop-t.t (omega arith) in
     omega (arith, c.asked_at.ensures, room)
 
-returns : tie.Need-returns invariant-loop decreases-loop
-returns c =
-    let l = c.before.before.before.loop in
-    descent_finds l.invariant c.before.before.loop-test.true (omega (arith, c.if1.true, c.before.asked_at.ensures))
+returns-then-supply-w : tie.Need-returns-then-supply-w invariant-loop-t decreases-loop-t
+returns-then-supply-w c =
+    let l = c.loop-t in
+    descent_finds l.invariant c.loop-t-test.true (omega (arith, c.if-supply-w.true, c.asked_at.ensures))
 
-returns-2 : tie.Need-returns-2 invariant-loop decreases-loop
-returns-2 c =
+returns-then-w-eq0 : tie.Need-returns-then-w-eq0 invariant-loop-t decreases-loop-t
+returns-then-w-eq0 c =
     let s = c.before.before.before.before.before.before.before in
-    descent_clears (rising s) c.before.before.before.before.loop.invariant (omega (arith, c.if2.true, c.before.before.asked_at.ensures))
+    descent_clears (rising s) c.loop-t.invariant (omega (arith, c.if-w-eq0.true, c.asked_at.ensures))
 
-sub-supply : tie.Need-overflow-sub-supply invariant-loop decreases-loop
-sub-supply c = omega arith
+overflow_sub-supply : tie.Need-overflow_sub-supply invariant-loop-t decreases-loop-t
+overflow_sub-supply c = omega arith
 
 -- the turn's jump
-next : (c : tie.Else2 invariant-loop decreases-loop) →
+next : (c : tie.Else-w-eq0 invariant-loop-t decreases-loop-t) →
     let s = c.before.before.before.before.before.before.before in
-    let v = c.before.before.asked_at.result + s.args.extra - 1 in
+    let v = c.asked_at.result + s.args.extra - 1 in
     Descended (asking s) s.args.slot s.args.gap s.args.extra s.args.hi (last_with s.args.slot s.args.gap v) v
-    × (last_with s.args.slot s.args.gap v < c.before.before.before.before.loop.t)
+    × (last_with s.args.slot s.args.gap v < c.loop-t.t)
 next c =
     let s = c.before.before.before.before.before.before.before in
-    let w = c.before.before.asked_at in
-    descent_next (rising s) c.before.before.before.before.loop.invariant (w.result + s.args.extra) s.requires.1.usable (omega (arith, w.ensures)) c.if2.false c.before.if1.false
+    let w = c.asked_at in
+    descent_next (rising s) c.loop-t.invariant (w.result + s.args.extra) s.requires.1.usable (omega (arith, w.ensures)) c.if-w-eq0.false c.if-supply-w.false
 
-last-with-requires : tie.Need-last-with-requires invariant-loop decreases-loop
-last-with-requires c κs =
+last_with-t-requires : tie.Need-last_with-t-requires invariant-loop-t decreases-loop-t
+last_with-t-requires c κs =
     let s = c.before.before.before.before.before.before.before in
-    (s.requires.1.usable, omega (arith, (next c).1, c.before.before.before.before.loop.invariant.within, s.requires.1.small))
+    (s.requires.1.usable, omega (arith, (next c).1, c.loop-t.invariant.within, s.requires.1.small))
 
-loop-less : tie.Need-loop-smaller invariant-loop decreases-loop
-loop-less c = rw c.last_with_lem.ensures (next c.before).1
+loop-t-smaller : tie.Need-loop-t-smaller invariant-loop-t decreases-loop-t
+loop-t-smaller c = rw c.last_with-t.ensures (next c.before).1
 
-loop-again : tie.Need-loop-preserved invariant-loop decreases-loop
-loop-again c = rw c.last_with_lem.ensures (next c.before).0
+loop-t-preserved : tie.Need-loop-t-preserved invariant-loop-t decreases-loop-t
+loop-t-preserved c = rw c.last_with-t.ensures (next c.before).0
 
-returns-3 : tie.Need-returns-3 invariant-loop decreases-loop
-returns-3 c = descent_ends c.before.loop.invariant (omega arith)
+returns : tie.Need-returns invariant-loop-t decreases-loop-t
+returns c = descent_ends c.loop-t.invariant (omega arith)
 
-pub last-short-spec : {M : Type 1} → statement M
-last-short-spec =
+pub last_short_spec : {M : Type 1} → statement M
+last_short_spec =
     tie.close
     (tie.spec
-    invariant-loop
-    decreases-loop
-    supply-at-requires
-    loop-holds
+    invariant-loop-t
+    decreases-loop-t
+    supply_at-supply-requires
+    loop-t-init
     (λ c κs. search rules)
-    add-w
-    returns
-    returns-2
-    sub-supply
-    last-with-requires
-    loop-less
-    loop-again
-    returns-3)
+    overflow_add-w
+    returns-then-supply-w
+    returns-then-w-eq0
+    overflow_sub-supply
+    last_with-t-requires
+    loop-t-smaller
+    loop-t-preserved
+    returns)

@@ -1,7 +1,6 @@
 -- `common_measure` meets its contract. The loop's invariant: the two numbers have the common measure of a and b.
 -- The measure is the second number. Assumes nothing.
-use mathlib.Core.Path.{◌≡◌, refl, sym, ap, ◌∙◌}
-use borrow.Author.Rules.{rules}
+use mathlib.Core.Path.{sym, ap, ◌∙◌}
 use native.Mathlib.Nat.{mod-lt}
 use native.Mathlib.Omega.{arith}
 use Rattle.wholes.specs.Measure.{common_measure}

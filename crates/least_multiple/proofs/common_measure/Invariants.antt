@@ -1,9 +1,5 @@
-use mathlib.Core.Path.{◌≡◌, refl, sym, ap, ◌∙◌}
-use borrow.Author.Rules.{rules}
-use native.Mathlib.Nat.{mod-lt}
-use native.Mathlib.Omega.{arith}
+use mathlib.Core.Path.{◌≡◌}
 use Rattle.wholes.specs.Measure.{common_measure}
-use Rattle.wholes.proofs.MeasureLaws.{measure_zero, measure_turn}
 use Rattle.least_multiple.proofs.common_measure.Given as goal
 
 abbrev pub invariant-loop-second : goal.invariant-loop-second

@@ -47,22 +47,22 @@ from_next c =
     (⊎_elim
     (λ (e : i ≡ 0).
     let one : c.if-i-eq0.from ≡ l.deadline = (elim c.if-i-eq0.branch [
-      then-i-eq0 w ↦ w.from-is
-    | else-i-eq0 w ↦ absurd (w.if-i-eq0.false e)
+      | then-i-eq0 w ↦ w.from-is
+      | else-i-eq0 w ↦ absurd (w.if-i-eq0.false e)
     ]) in
     (elim c.if-d-from.branch [
-      then-d-from w ↦ omega (arith, w.if-d-from.true, w.from-is)
-    | else-d-from w ↦ omega (arith, w.from-is, one, soonest_alone (loads_of numbers i) l (omega (arith, each_length (load_at numbers) i)))
+      | then-d-from w ↦ omega (arith, w.if-d-from.true, w.from-is)
+      | else-d-from w ↦ omega (arith, w.from-is, one, soonest_alone (loads_of numbers i) l (omega (arith, each_length (load_at numbers) i)))
     ]))
     (λ (n : i ≡ 0 → ⊥).
     let same : c.if-i-eq0.from ≡ s.loop-i.from = (elim c.if-i-eq0.branch [
-      then-i-eq0 w ↦ absurd (n w.if-i-eq0.true)
-    | else-i-eq0 w ↦ w.from-is
+      | then-i-eq0 w ↦ absurd (n w.if-i-eq0.true)
+      | else-i-eq0 w ↦ w.from-is
     ]) in
     let next = soonest_more (loads_of numbers i) l (omega (arith, each_length (load_at numbers) i)) in
     (elim c.if-d-from.branch [
-      then-d-from w ↦ omega (arith, w.if-d-from.true, w.from-is, same, next)
-    | else-d-from w ↦ omega (arith, w.if-d-from.false, w.from-is, same, next)
+      | then-d-from w ↦ omega (arith, w.if-d-from.true, w.from-is, same, next)
+      | else-d-from w ↦ omega (arith, w.if-d-from.false, w.from-is, same, next)
     ]))
     (eq_or_ne i 0))
 
@@ -77,8 +77,8 @@ until-next c =
     let next = latest_next (loads_of numbers i) (load_at numbers i) in
     rw (each_next (load_at numbers) i)
     (elim c.if-until-d.branch [
-      then-until-d w ↦ omega (arith, w.if-until-d.true, w.until-is, next)
-    | else-until-d w ↦ omega (arith, w.if-until-d.false, w.until-is, next)
+      | then-until-d w ↦ omega (arith, w.if-until-d.true, w.until-is, next)
+      | else-until-d w ↦ omega (arith, w.if-until-d.false, w.until-is, next)
     ])
 
 loop-i-preserved : tie.Need-loop-i-preserved invariant-loop-i decreases-loop-i

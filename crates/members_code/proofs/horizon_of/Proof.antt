@@ -10,41 +10,41 @@ use Rattle.members_code.proofs.horizon_of.Statement.{statement}
 use Rattle.members_code.proofs.horizon_of.Tie as tie
 
 -- once the loads' periods are passed
-module _ (c : tie.After-multiple-of) where
+module _ (c : tie.After-multiple_of) where
   abbrev start : tie.Start
   start = c.before.before.before
 
   abbrev loads-timed : Timed start.args.loads.now start.args.n start.args.interrupts.now start.args.slot
-  loads-timed = start.pre
+  loads-timed = start.requires
 
-  within_is : {own : ℕ} → c.multiple-of.result ≡ Within own → own ≡ least_multiple_of start.args.slot (spaced start.args.loads.now 2 3 start.args.n)
-  within_is e = loads_within loads-timed start.args.limit (sym c.multiple-of.ensures ∙ e)
+  within_is : {own : ℕ} → c.multiple_of.result ≡ Within own → own ≡ least_multiple_of start.args.slot (spaced start.args.loads.now 2 3 start.args.n)
+  within_is e = loads_within loads-timed start.args.limit (sym c.multiple_of.ensures ∙ e)
 
-multiple-of-requires : tie.Need-multiple-of-requires
-multiple-of-requires c κs = loads_apart c.before.before.requires
+multiple_of-requires : tie.Need-multiple_of-requires
+multiple_of-requires c κs = loads_apart c.requires
+
+returns-in_default : tie.Need-returns-in_default
+returns-in_default c =
+    let at = c.before in
+    loads_past (loads-timed at) _ (sym at.multiple_of.ensures ∙ c.in_default.is)
+
+multiple_of-requires-2 : tie.Need-multiple_of-requires-2
+multiple_of-requires-2 c κs =
+    let at = c.before in
+    bounds_apart (loads-timed at) (within_is at c.in-Within.is)
 
 returns : tie.Need-returns
 returns c =
     let at = c.before.before in
-    loads_past (loads-timed at) _ (sym at.multiple-of.ensures ∙ c.enum_told.given.1)
+    c.multiple_of-2.ensures ∙ bounds_passed (loads-timed at) _ (within_is at c.in-Within.is)
 
-multiple-of-requires-2 : tie.Need-multiple-of-requires-2
-multiple-of-requires-2 c κs =
-    let at = c.before.before.before in
-    bounds_apart (loads-timed at) (within_is at c.before.own.given.1)
-
-returns-2 : tie.Need-returns-2
-returns-2 c =
-    let at = c.before.before.before.before in
-    c.multiple-of2.ensures ∙ bounds_passed (loads-timed at) _ (within_is at c.before.before.own.given.1)
-
-pub horizon-of-spec : {M : Type 1} → statement M
-horizon-of-spec =
+pub horizon_of_spec : {M : Type 1} → statement M
+horizon_of_spec =
     tie.close
     (tie.spec
-    multiple-of-requires
+    multiple_of-requires
     (λ c. search rules)
     (λ c. search rules)
-    returns
-    multiple-of-requires-2
-    returns-2)
+    returns-in_default
+    multiple_of-requires-2
+    returns)

@@ -14,7 +14,8 @@ use Rattle.digits.proofs.Stored.{stored_nil, stored_byte, stored_length}
 use Rattle.tasks.specs.Set.{most_tasks}
 use Rattle.places.specs.Places.{places_from, places_in}
 use Rattle.places.proofs.PlacesLaws.{places_joined, places_apart, places_few}
-use Rattle.places_code.proofs.places_of.Goals as goal
+use Rattle.places_code.proofs.places_of.Statement.{statement}
+use Rattle.places_code.proofs.places_of.Tie as tie
 
 -- the places of the first i tasks, `count` of them, stand in front
 record Listed (placement : List ℕ) (q : ℕ) (before places : List ℕ) (count i : ℕ) : Type 0 where
@@ -22,6 +23,12 @@ record Listed (placement : List ℕ) (q : ℕ) (before places : List ℕ) (count
   room : i ≤ length before
   counts : count ≡ length (places_in (take i placement) q)
   is : places ≡ stored before 0 (places_in (take i placement) q)
+
+abbrev invariant-loop-i : tie.invariant-loop-i
+invariant-loop-i placement n q places₀ count₀ i₀ places count i = (i ≤ n) × Listed placement q places₀ places count i
+
+abbrev decreases-loop-i : tie.decreases-loop-i
+decreases-loop-i placement n q places₀ count₀ i₀ places count i = n - i
 
 -- no task
 listed_none : (placement : List ℕ) (q : ℕ) (before : List ℕ) → Listed placement q before before 0 0
@@ -72,40 +79,58 @@ module _ {placement : List ℕ} {q : ℕ} {before places : List ℕ} {count i : 
           is = w.is ∙ ap (stored before 0) (sym same);
         }
 
-pub loop-i-init : goal.loop-i-init
+loop-i-init : tie.Need-loop-i-init invariant-loop-i decreases-loop-i
 loop-i-init c = (omega arith, listed_none _ _ _)
 
-pub overflow_cast-places : goal.overflow_cast-places
+overflow_cast-places : tie.Need-overflow_cast-places invariant-loop-i decreases-loop-i
 overflow_cast-places c =
-    let most : c.args.n ≤ most_tasks = c.requires.n_le_most_tasks in
+    let most : c.args.n ≤ most_tasks = c.requires.1.0 in
     let few : c.loop-i.count ≤ c.loop-i.i = listed-few c.loop-i.invariant.1 in
     search rules
 
-pub bounds-places-count : goal.bounds-places-count
+bounds-places-count : tie.Need-bounds-places-count invariant-loop-i decreases-loop-i
 bounds-places-count c =
-    omega (arith, listed-few c.loop-i.invariant.1, listed-length c.loop-i.invariant.1, c.requires.n_in_bounds_2, c.loop-i-test.true)
+    omega (arith, listed-few c.loop-i.invariant.1, listed-length c.loop-i.invariant.1, c.requires.1.1, c.loop-i-test.true)
 
-pub overflow_add-count : goal.overflow_add-count
+overflow_add-count : tie.Need-overflow_add-count invariant-loop-i decreases-loop-i
 overflow_add-count c =
     let few : c.loop-i.count ≤ c.loop-i.i = listed-few c.loop-i.invariant.1 in
     search rules
 
-pub loop-i-preserved : goal.loop-i-preserved
+loop-i-preserved : tie.Need-loop-i-preserved invariant-loop-i decreases-loop-i
 loop-i-preserved c =
     let here : c.loop-i.i < c.args.n = c.loop-i-test.true in
-    let there : c.loop-i.i < length c.args.placement.now = omega (arith, here, c.requires.n_in_bounds) in
-    let room : c.loop-i.i < length c.args.places.now = omega (arith, here, c.requires.n_in_bounds_2) in
+    let there : c.loop-i.i < length c.args.placement.now = omega (arith, here, c.requires.0) in
+    let room : c.loop-i.i < length c.args.places.now = omega (arith, here, c.requires.1.1) in
     let next = listed_next c.loop-i.invariant.1 there room in
     let apart = listed-apart c.loop-i.invariant.1 there room in
     (omega arith, ⊎_elim (λ w. rw (w.1, w.2) (next w.0.taken)) (λ w. rw (w.1, w.2) (apart w.0.left)) c.if-placement-i.branch)
 
-pub shape_of-places : goal.shape_of-places
+shape_of-places : tie.Need-shape_of-places invariant-loop-i decreases-loop-i
 shape_of-places c = listed-length c.loop-i.invariant.1
 
-pub returns : goal.returns
+returns : tie.Need-returns invariant-loop-i decreases-loop-i
 returns c =
     let w = c.loop-i.invariant.1 in
     let all : c.loop-i.i ≡ c.args.n = omega arith in (
       w.counts ∙ ap (λ (i : ℕ). length (places_in (take i c.args.placement.now) c.args.q)) all,
       w.is ∙ ap (λ (i : ℕ). stored c.args.places.now 0 (places_in (take i c.args.placement.now) c.args.q)) all,
     )
+
+pub places_of_spec : {M : Type 1} → statement M
+places_of_spec =
+    tie.close
+    (tie.spec
+    invariant-loop-i
+    decreases-loop-i
+    loop-i-init
+    (λ c. search rules)
+    (λ c. search rules)
+    overflow_cast-places
+    bounds-places-count
+    overflow_add-count
+    (λ c. search rules)
+    (λ c. search rules)
+    loop-i-preserved
+    shape_of-places
+    returns)
