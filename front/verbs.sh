@@ -54,7 +54,7 @@ answer_explain() {
 closest_of_all() {
   local server reserve
   sed -n 's/^12\(..\)\(......\).*/\1 \2/p' "$work/rota" | while read -r server reserve; do
-    "${load[@]}" "$here/target/bin/ask" pass $((16#$server)) $((16#$reserve)) <"$work/tasks"
+    "$here/crates/ask/out/ask" pass $((16#$server)) $((16#$reserve)) <"$work/tasks"
   done >"$work/answers" 2>"$work/said"
   [ "$(grep -c '^server .* passes' "$work/answers")" -eq "$(grep -c ^12 "$work/rota")" ] || fail "ask: $(head -n 1 "$work/said")"
 }

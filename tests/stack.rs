@@ -1,8 +1,9 @@
-// The deepest stack of each function named, by a disassembly: `objdump -d -r --no-show-raw-insn` on standard input; as
-// arguments the functions outside that may be called, parted by commas, then the names. Every way through every function is
+// The deepest stack of each function named, by a disassembly of an object, an archive or a linked program: `objdump -d -r
+// --no-show-raw-insn` on standard input; as arguments the functions outside that may be called, parted by commas, then the names. Every way through every function is
 // followed, and every call. Refused: a function that calls itself, directly or through others; an indirect call; a change of
 // the stack pointer that is not a push, a pop, an addition or a subtraction of a constant; any other call outside. An indirect
-// jump with room taken is one through a table of the function's own places, at that depth; without, it could be a call.
+// jump with room taken is one through a table of the function's own places, at that depth; without, it could be a call, but for
+// one to the sum of a table's address and an entry.
 // A figure is in bytes, from the function's return address on down. What a function outside takes is not in it, except its
 // own return address.
 use std::collections::HashMap;
@@ -15,6 +16,7 @@ struct Step {
     name: String,
     operands: Vec<String>,
     symbol: Option<String>,
+    place: Option<String>,
 }
 
 // How far down a function goes itself, and what it calls: how far down it is at that moment, and whom.
@@ -47,7 +49,8 @@ fn step(at: u64, text: &str) -> Step {
     if ["bnd", "notrack", "rep", "repz", "repnz", "lock", "data16", "cs"].contains(&name.as_str()) {
         return step(at, rest);
     }
-    Step { at, name, operands: operands(rest), symbol: None }
+    let place = rest.split_once('<').and_then(|(_, place)| place.trim_end().strip_suffix('>')).map(str::to_string);
+    Step { at, name, operands: operands(rest), symbol: None, place }
 }
 
 fn hex(text: &str) -> Option<u64> {
@@ -57,7 +60,13 @@ fn hex(text: &str) -> Option<u64> {
 // A relocation names the function, or the section that has it alone, and the four bytes from the operand to the next step.
 fn callee(symbol: &str) -> Result<String, String> {
     let name = symbol.strip_suffix("-0x4").ok_or(format!("a call into the middle of {}", symbol))?;
-    Ok(name.strip_prefix(".text.").unwrap_or(name).to_string())
+    Ok(name.strip_prefix(".text.unlikely.").or(name.strip_prefix(".text.")).unwrap_or(name).to_string())
+}
+
+// In a linked program there is no relocation: the disassembly names the function that begins at the address.
+fn linked_callee(name: &str, step: &Step) -> Option<String> {
+    let place = step.place.as_deref().filter(|place| *place != name && !place.contains("+0x"))?;
+    Some(place.strip_suffix("@plt").unwrap_or(place).to_string())
 }
 
 fn functions(listing: &str) -> Result<HashMap<String, Vec<Step>>, String> {
@@ -91,19 +100,20 @@ fn below(step: &Step) -> u64 {
     step.operands.iter().filter_map(far).max().unwrap_or(0)
 }
 
-// Where a call or jump leads: to another function by a relocation, to an address of its own, or wherever a register says.
+// Where a call or jump leads: to another function by a relocation or its name, to an address of its own, or wherever a register says.
 enum Target {
     Function(String),
     Address(u64),
     Indirect,
 }
 
-fn target(step: &Step) -> Result<Target, String> {
+fn target(name: &str, step: &Step) -> Result<Target, String> {
     let to = step.operands.first().ok_or("a jump to nowhere")?;
-    match &step.symbol {
+    match (&step.symbol, linked_callee(name, step)) {
         _ if to.starts_with('*') => Ok(Target::Indirect),
-        Some(symbol) => callee(symbol).map(Target::Function),
-        None => hex(to).map(Target::Address).ok_or(format!("a jump to {}", to)),
+        (Some(symbol), _) => callee(symbol).map(Target::Function),
+        (None, Some(callee)) => Ok(Target::Function(callee)),
+        (None, None) => hex(to).map(Target::Address).ok_or(format!("a jump to {}", to)),
     }
 }
 
@@ -126,6 +136,13 @@ fn probed(steps: &[Step]) -> Option<u64> {
     (text == pages && whole > 0 && whole % 0x1000 == 0).then_some(whole)
 }
 
+// Whether the last of these steps jumps to the sum of a table's address and what was read from it.
+fn jumps_by_entry(steps: &[Step]) -> bool {
+    let [.., read, sum, jump] = steps else { return false };
+    let to = jump.operands.first().and_then(|o| o.strip_prefix('*'));
+    read.name == "movslq" && sum.name == "add" && to.is_some() && [read, sum].iter().all(|s| s.operands.last().map(String::as_str) == to)
+}
+
 // What a step does: how far down the next one stands, if it goes on; whom it calls, and from how far down; where else it leads.
 struct Effect {
     after: Option<u64>,
@@ -142,7 +159,8 @@ fn moves_otherwise(step: &Step) -> bool {
         || ["leave", "enter", "pushf", "popf"].contains(&step.name.trim_end_matches('q'))
 }
 
-fn effect(name: &str, entry: u64, step: &Step, depth: u64) -> Result<Effect, String> {
+fn effect(name: &str, entry: u64, steps: &[Step], depth: u64) -> Result<Effect, String> {
+    let step = steps.last().unwrap();
     let mut does = Effect { after: Some(depth), call: None, leads: None, table: false };
     let of_rsp = step.operands.last().map(String::as_str) == Some("%rsp");
     let room = || constant(&step.operands[0]).ok_or("takes or gives back room that is not constant");
@@ -152,16 +170,16 @@ fn effect(name: &str, entry: u64, step: &Step, depth: u64) -> Result<Effect, Str
         "sub" if of_rsp => does.after = Some(depth + room()?),
         "add" if of_rsp => does.after = Some(depth.checked_sub(room()?).ok_or("gives back more than it took")?),
         "ret" if depth != WORD => return Err(format!("returns from depth {}", depth)),
-        "call" => match target(step)? {
+        "call" => match target(name, step)? {
             Target::Function(callee) => does.call = Some((depth, callee)),
             Target::Address(at) if at == entry => does.call = Some((depth, name.to_string())),
             Target::Address(_) => return Err(format!("a call into its middle at {:x}", step.at)),
             Target::Indirect => return Err("calls indirectly".to_string()),
         },
-        jump if jump.starts_with('j') => match target(step)? {
+        jump if jump.starts_with('j') => match target(name, step)? {
             Target::Function(callee) => does.call = Some((depth - WORD, callee)),
             Target::Address(at) => does.leads = Some(at),
-            Target::Indirect if depth > WORD => does.table = true,
+            Target::Indirect if depth > WORD || jumps_by_entry(steps) => does.table = true,
             Target::Indirect => return Err("jumps indirectly, which may be a call".to_string()),
         },
         _ if moves_otherwise(step) => return Err(format!("{} of the stack pointer at {:x}", step.name, step.at)),
@@ -190,7 +208,7 @@ fn frame(name: &str, steps: &[Step]) -> Result<Frame, String> {
             open.push((i + 6, depth + room));
             continue;
         }
-        let does = effect(name, steps[0].at, step, depth)?;
+        let does = effect(name, steps[0].at, &steps[..=i], depth)?;
         found.reach = found.reach.max(depth + below(step)).max(does.after.unwrap_or(0));
         found.calls.extend(does.call);
         open.extend(does.after.map(|after| (i + 1, after)));

@@ -10,8 +10,7 @@ use tell::tell;
 use told_code::numbers_of;
 
 // Who runs on a processor at a tick: the server, 0 for idle, and the ticks left.
-#[unsafe(no_mangle)]
-pub extern "C" fn rack_who(tasks: &[u8], processor: u64, tick: u64, answer: &mut [u64]) -> u64
+pub fn rack_who(tasks: &[u8], processor: u64, tick: u64, answer: &mut [u64]) -> u64
     ensures value { result ≡ status_of (who_told tasks.now processor tick answer.old) }
     ensures answer_after { answer.new ≡ leaves_numbers (who_told tasks.now processor tick answer.old) (who_numbers tasks.now processor tick) answer.old }
 {
@@ -22,8 +21,7 @@ pub extern "C" fn rack_who(tasks: &[u8], processor: u64, tick: u64, answer: &mut
 }
 
 // Does a server pass with a reserve.
-#[unsafe(no_mangle)]
-pub extern "C" fn rack_pass(tasks: &[u8], server: u64, reserve: u64, answer: &mut [u64]) -> u64
+pub fn rack_pass(tasks: &[u8], server: u64, reserve: u64, answer: &mut [u64]) -> u64
     ensures value { result ≡ status_of (pass_told tasks.now server reserve answer.old) }
     ensures answer_after { answer.new ≡ leaves_numbers (pass_told tasks.now server reserve answer.old) (pass_numbers tasks.now server reserve) answer.old }
 {

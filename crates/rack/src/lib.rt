@@ -1,4 +1,4 @@
-// The rack tool for programs in C and Rust: four functions on lent memory, declared for C in include/rack.h.
+// The rack tool for programs in C and Rust: four functions on lent memory. Crate rack_c exports them, declared for C in include/rack.h.
 // Each answers every input; what it answers stands in specs/Rack.antt.
 #![tactic(auto)]
 

@@ -25,8 +25,7 @@ fn no_place(tasks: &[u8]) -> u64
 }
 
 // The 21 lines at the start of `out`, and their number of bytes in `answer`. switchlist_code::LONGEST bytes always suffice.
-#[unsafe(no_mangle)]
-pub extern "C" fn rack_switches(tasks: &[u8], out: &mut [u8], answer: &mut [u64]) -> u64
+pub fn rack_switches(tasks: &[u8], out: &mut [u8], answer: &mut [u64]) -> u64
     ensures value { result ≡ status_of (list_told tasks.now out.old answer.old) }
     ensures out_after { out.new ≡ list_leaves tasks.now out.old answer.old }
     ensures answer_after { answer.new ≡ leaves_numbers (list_told tasks.now out.old answer.old) (list_numbers tasks.now) answer.old }

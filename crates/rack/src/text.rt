@@ -5,8 +5,7 @@ ghost use Rattle.rack.specs.Rack.{plan_bytes, plan_leaves};
 use refusals::Written;
 
 // The text at the start of `out`, and its length; 0 and nothing stored where it does not fit. 2,647 bytes always suffice.
-#[unsafe(no_mangle)]
-pub extern "C" fn rack_plan(tasks: &[u8], out: &mut [u8]) -> usize
+pub fn rack_plan(tasks: &[u8], out: &mut [u8]) -> usize
     ensures value { result ≡ plan_bytes tasks.now out.old }
     ensures out_after { out.new ≡ plan_leaves tasks.now out.old }
 {
