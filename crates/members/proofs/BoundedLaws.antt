@@ -1,11 +1,10 @@
 -- The interrupts of a board, from their numbers: they are sound, and what they ask over all processors is what those of the board ask.
 -- Assumes nothing.
-use Prim.Native.Nat.{ℕ, ◌/◌, ◌≤◌, ◌∣◌}
+use Prim.Native.Nat.{ℕ, ◌≤◌}
 use mathlib.Core.Path.{◌≡◌}
 use mathlib.Core.List.{List, [], ◌∷◌}
-use lib.ListN.{length}
 use Rattle.demand.specs.Load.{Sound}
-use Rattle.interrupting.specs.Interrupts.{Bound, Numbered, EveryBound, greatest, greatest_of_all, bounds_of}
+use Rattle.interrupting.specs.Interrupts.{Bound, Numbered, EveryBound, greatest, greatest_of_all}
 use Rattle.interrupting.proofs.Claims.{greatest_means}
 use Rattle.tasks.specs.declared.set.Header.{Header}
 use Rattle.members.specs.Server.{SoundBoard, board_of, Bounded}

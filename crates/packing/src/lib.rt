@@ -2,7 +2,6 @@
 // Types, definitions and laws; the code stands in sorting and turns_code.
 #![tactic(auto)]
 
-
 // The order in which tasks are placed: that of the file, or by load.
 #[derive(Clone, Copy)]
 pub enum Order {

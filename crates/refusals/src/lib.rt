@@ -2,7 +2,6 @@
 // Types, definitions and laws; the code stands in refusals_code.
 #![tactic(auto)]
 
-
 #[derive(Clone, Copy)]
 pub enum Refusal {
     Line(u8),

@@ -3,17 +3,14 @@
 use Prim.Native.Nat.{ℕ, zero, suc, ◌+◌, ◌-◌, ◌≤◌, ◌<◌}
 use mathlib.Core.Path.{◌≡◌, refl, sym, ap, ◌∙◌}
 use mathlib.Core.List.{List, [], ◌∷◌}
-use mathlib.Core.Logic.{⊎_elim}
 use native.Mathlib.Numerals.{add-one}
 use native.Mathlib.Omega.{arith}
-use lib.ListN.{length, get_or, take, drop, drop_of_length-le}
+use lib.ListN.{get_or, take, drop, drop_of_length-le}
 use lib.Seq.{drop-cons, get_or-take}
-use Rattle.laws.proofs.Orders.{le_or_lt}
 use Rattle.laws.proofs.Choices.{cond_ltb, cond_ltb_not}
 use Rattle.reserves.specs.Slotted.{SlottedFirst}
-use Rattle.reserves.specs.Reserves.{wholes}
 use Rattle.reserves.specs.Whole.{whole_from, whole_server}
-use Rattle.reserves.proofs.Starts.{taken_length, wholes_cons, wholes_nil}
+use Rattle.reserves.proofs.Starts.{taken_length}
 
 module _ (S : ℕ) where
   -- a ring server is passed over

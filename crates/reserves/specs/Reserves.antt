@@ -1,6 +1,6 @@
 -- The reserves of all servers in server order, and where those below a slot stand on the ring.
 -- Document 01, "From tasks to servers to ring", rule 3 (RULES 3.3).
-use Rattle.std.specs.Prelude.{ℕ, pred, ◌+◌, ◌*◌, ◌-◌, List, [], ◌∷◌, get_or, take, ltb, Bool, true, false, cond}
+use Rattle.std.specs.Prelude.{ℕ, pred, ◌+◌, ◌*◌, ◌-◌, List, [], ◌∷◌, get_or, take, ltb, cond}
 use Rattle.wholes.specs.Ceiling.{ceiling_of}
 
 -- the reserve of server q; servers count from 1

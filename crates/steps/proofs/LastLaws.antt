@@ -1,7 +1,7 @@
 -- Laws of the last step of a demand that never falls: it is where the demand comes to what it is at the bound. So it is known of one load,
 -- of two demands together, and of the greater of two.
 -- Assumes nothing.
-use Prim.Native.Nat.{ℕ, zero, ◌+◌, ◌*◌, ◌-◌, ◌/◌, ◌%◌, ◌≤◌, ◌<◌, min, max}
+use Prim.Native.Nat.{ℕ, ◌+◌, ◌*◌, ◌-◌, ◌/◌, ◌%◌, ◌≤◌, ◌<◌, min, max}
 use mathlib.Core.Path.{◌≡◌, ap, sym, ◌∙◌}
 use mathlib.Core.Bool.{false, cond}
 use mathlib.Core.Logic.{⊎_elim}

@@ -4,11 +4,11 @@ use Prim.Native.Nat.{ℕ, zero, suc, ◌+◌, ◌≤◌, ◌<◌}
 use native.Mathlib.Omega.{arith}
 use native.Mathlib.Decide.{ℕ_discrete}
 use mathlib.Core.List.{List, [], ◌∷◌}
-use mathlib.Core.Bool.{Bool, true, false, ◌||◌, or-true}
-use mathlib.Core.Path.{◌≡◌, refl, sym, ◌∙◌, subst}
+use mathlib.Core.Bool.{Bool, true, false, or-true}
+use mathlib.Core.Path.{◌≡◌, refl, sym, subst}
 use lib.ListN.{length, take, get_or}
 use lib.Seq.{get_or-take, length-take-le}
-use Rattle.tasks.specs.Search.{some, first_from, first_task}
+use Rattle.tasks.specs.Search.{some, first_task}
 use Rattle.tasks.proofs.FirstLaws.{Stops, stops_first, none_first}
 
 -- of the first n of a list, none before place i passes the test

@@ -1,6 +1,5 @@
 -- The numbers of a verdict. Document 01, the question "does it pass", and document 02, Req 02 (RULES 4.2).
 use Rattle.std.specs.Prelude.{ℕ, List, [], ◌∷◌}
-use Rattle.verdict.specs.declared.answer.Reading.{Reading}
 use Rattle.verdict.specs.declared.answer.Verdict.{Verdict}
 use Rattle.verdict.specs.declared.answer.Verdict.TheVariants.{Yes, No}
 

@@ -1,7 +1,6 @@
 -- `gap_of` meets its contract: a whole processor has no gap, and a ring reserve is below the slot.
 -- Assumes nothing.
 use mathlib.Core.Path.{sym}
-use borrow.Author.Rules.{rules}
 use native.Mathlib.Omega.{arith}
 use Rattle.demand.proofs.Supply.{gap_whole, gap_part, ring_of}
 use Rattle.demand_code.proofs.gap_of.Goals as goal

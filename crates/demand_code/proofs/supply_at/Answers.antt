@@ -4,7 +4,6 @@ use mathlib.Core.Path.{refl}
 use native.Mathlib.Omega.{arith}
 use Rattle.demand.specs.Supply.{supply_past}
 use Rattle.demand.proofs.Supply.{slots_within, supply_within}
-use borrow.Author.Rules.{rules}
 use Rattle.demand_code.proofs.supply_at.Goals as goal
 
 pub overflow_mul-whole : goal.overflow_mul-whole

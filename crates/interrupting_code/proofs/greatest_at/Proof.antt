@@ -2,7 +2,6 @@
 -- the greatest over processors. The measure is what is left of them. Assumes nothing.
 use Prim.Native.Nat.{ℕ, ◌+◌, ◌-◌, ◌*◌, ◌^◌, ◌≤◌, ◌<◌}
 use mathlib.Core.Path.{◌≡◌, refl, ap, ◌∙◌}
-use mathlib.Core.Logic.{⊎_elim}
 use borrow.Author.Rules.{rules}
 use native.Mathlib.Omega.{arith}
 use lib.ListN.{length}
@@ -94,11 +93,11 @@ based c =
     let b = bound_at a.loads.now (3 * a.n) turn.loop-i.i in
     let old = turn.loop-i.invariant.1 in
     (elim c.if-processor-its.branch [
-      then-processor-its w ↦ let new : turn.loop-i.processor < b.processor = omega (arith, w.if-processor-its.true) in
-    (w.processor-is, w.sum-is ∙ reached_new old b.processor new)
-    | else-processor-its w ↦ let no-new : b.processor ≤ turn.loop-i.processor = omega (arith, w.if-processor-its.false) in
-    let same = reached_same old b.processor no-new (top turn) in
-    (w.processor-is ∙ same.0, w.sum-is ∙ same.1)
+      | then-processor-its w ↦ let new : turn.loop-i.processor < b.processor = omega (arith, w.if-processor-its.true) in
+          (w.processor-is, w.sum-is ∙ reached_new old b.processor new)
+      | else-processor-its w ↦ let no-new : b.processor ≤ turn.loop-i.processor = omega (arith, w.if-processor-its.false) in
+          let same = reached_same old b.processor no-new (top turn) in
+          (w.processor-is ∙ same.0, w.sum-is ∙ same.1)
     ])
 
 -- with its term added it has room
@@ -145,9 +144,9 @@ loop-i-preserved c =
       rw (bounds_next a.loads.now (3 * a.n) i, summed, (based met).0)
           (reached_next turn.loop-i.invariant.1 b met.if-processor-its.sum sum c.if-greatest-sum.greatest (numbered turn).there (top turn) (based met).1 refl
           (elim c.if-greatest-sum.branch [
-      then-greatest-sum w ↦ omega (arith, w.if-greatest-sum.true, w.greatest-is, summed)
-    | else-greatest-sum w ↦ omega (arith, w.if-greatest-sum.false, w.greatest-is, summed)
-    ])),
+            | then-greatest-sum w ↦ omega (arith, w.if-greatest-sum.true, w.greatest-is, summed)
+            | else-greatest-sum w ↦ omega (arith, w.if-greatest-sum.false, w.greatest-is, summed)
+          ])),
     )
 
 returns : tie.Need-returns invariant-loop-i decreases-loop-i

@@ -2,7 +2,6 @@
 -- The measure is what is left of n. Assumes nothing.
 use Prim.Native.Nat.{ℕ, ◌+◌, ◌-◌, ◌≤◌, ◌<◌}
 use mathlib.Core.Path.{◌≡◌, refl, sym, ap, ap₂, ◌∙◌}
-use mathlib.Core.Logic.{⊎_elim}
 use mathlib.Core.List.{List, [], ◌∷◌, ◌++◌}
 use borrow.Author.Rules.{rules}
 use native.Mathlib.Numerals.{add-one}
@@ -16,6 +15,7 @@ use Rattle.places.specs.Places.{places_from, places_in}
 use Rattle.places.proofs.PlacesLaws.{places_joined, places_apart, places_few}
 use Rattle.places_code.proofs.places_of.Statement.{statement}
 use Rattle.places_code.proofs.places_of.Tie as tie
+use Rattle.places_code.proofs.places_of.Lts.{else-placement-i, then-placement-i}
 
 -- the places of the first i tasks, `count` of them, stand in front
 record Listed (placement : List ℕ) (q : ℕ) (before places : List ℕ) (count i : ℕ) : Type 0 where
@@ -103,8 +103,13 @@ loop-i-preserved c =
     let there : c.loop-i.i < length c.args.placement.now = omega (arith, here, c.requires.0) in
     let room : c.loop-i.i < length c.args.places.now = omega (arith, here, c.requires.1.1) in
     let next = listed_next c.loop-i.invariant.1 there room in
-    let apart = listed-apart c.loop-i.invariant.1 there room in
-    (omega arith, ⊎_elim (λ w. rw (w.1, w.2) (next w.0.taken)) (λ w. rw (w.1, w.2) (apart w.0.left)) c.if-placement-i.branch)
+    let apart = listed-apart c.loop-i.invariant.1 there room in (
+      omega arith,
+      (elim c.if-placement-i.branch [
+        | then-placement-i w ↦ rw (w.places-is, w.count-is) (next w.if-placement-i.true)
+        | else-placement-i w ↦ rw (w.places-is, w.count-is) (apart w.if-placement-i.false)
+      ]),
+    )
 
 shape_of-places : tie.Need-shape_of-places invariant-loop-i decreases-loop-i
 shape_of-places c = listed-length c.loop-i.invariant.1

@@ -1,10 +1,7 @@
 -- `framelines::figures::put_figures` meets its contract: the figures copied so far are stored, one by one.
 -- Assumes nothing.
-use Prim.Native.Nat.{◌-◌}
 use native.Mathlib.Omega.{arith}
-use borrow.Author.Rules.{rules}
-use lib.ListN.{length}
-use Rattle.digits.proofs.CopyLaws.{Copied, copied_none, copied_next, copied_all}
+use Rattle.digits.proofs.CopyLaws.{copied_none, copied_next, copied_all}
 use Rattle.put_figures.proofs.put_figures.Goals as goal
 
 pub loop-i-init : goal.loop-i-init

@@ -1,8 +1,6 @@
 use Prim.Native.Nat.{◌-◌}
-use native.Mathlib.Omega.{arith}
-use borrow.Author.Rules.{rules}
 use lib.ListN.{length}
-use Rattle.digits.proofs.CopyLaws.{Copied, copied_none, copied_next, copied_all}
+use Rattle.digits.proofs.CopyLaws.{Copied}
 use Rattle.put_figures.proofs.put_figures.Given as goal
 
 abbrev pub invariant-loop-i : goal.invariant-loop-i

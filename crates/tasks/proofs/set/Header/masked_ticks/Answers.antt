@@ -1,5 +1,4 @@
 -- `set::Header::masked_ticks` meets its contract.
-use borrow.Author.Rules.{rules}
 use Rattle.tasks.proofs.set.Header.masked_ticks.Goals as goal
 
 pub returns : goal.returns

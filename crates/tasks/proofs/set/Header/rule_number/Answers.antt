@@ -1,5 +1,4 @@
 -- `set::Header::rule_number` meets its contract.
-use borrow.Author.Rules.{rules}
 use Rattle.tasks.proofs.set.Header.rule_number.Goals as goal
 
 pub returns : goal.returns

@@ -1,6 +1,5 @@
 -- `set::Optional::given_or` meets its contract: each arm is told what there is.
 use mathlib.Core.Path.{sym, ap}
-use borrow.Author.Rules.{rules}
 use Rattle.tasks.specs.declared.set.Optional.{Optional}
 use Rattle.tasks.specs.Set.{given_or}
 use Rattle.tasks.proofs.set.Optional.given_or.Goals as goal

@@ -1,5 +1,4 @@
 -- `set::Task::cache_cost` meets its contract.
-use borrow.Author.Rules.{rules}
 use Rattle.tasks.proofs.set.Task.cache_cost.Goals as goal
 
 pub returns : goal.returns

@@ -1,6 +1,5 @@
 -- `set::TaskSet::zero` meets its contract.
 use mathlib.Core.Path.{ap}
-use borrow.Author.Rules.{rules}
 use Rattle.tasks.specs.declared.set.Interrupts.{Interrupts}
 use Rattle.tasks.specs.Set.{zero_set, set_with}
 use Rattle.tasks.proofs.set.TaskSet.zero.Goals as goal
