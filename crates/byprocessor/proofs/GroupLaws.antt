@@ -1,17 +1,15 @@
 -- Interrupts by processor: how many they are, what each is, their order, and the loads of each processor.
 -- Assumes nothing.
-use Prim.Native.Nat.{ℕ, zero, suc, ◌+◌, ◌≤◌, ◌<◌}
+use Prim.Native.Nat.{ℕ, zero, suc, ◌≤◌, ◌<◌}
 use mathlib.Core.Path.{◌≡◌, refl, sym, ap, ap₂, subst, ◌∙◌}
 use mathlib.Core.Logic.{◌⊎◌, inl, inr, ⊎_elim}
-use mathlib.Core.List.{List, [], ◌∷◌, ◌++◌, map, append_assoc, append-nil}
+use mathlib.Core.List.{List, [], ◌∷◌, ◌++◌, map, append-nil}
 use native.Mathlib.Omega.{arith}
-use native.Mathlib.Numerals.{add-one}
 use native.Mathlib.Decide.{ℕ_discrete}
 use borrow.Author.Tests.{eq-eqb, ne_eqb}
-use lib.ListN.{length, take, drop, get_or, length-append, length-map, take-append-drop}
-use lib.Seq.{take-suc, take-length}
+use lib.ListN.{length, take, drop, get_or, length-append, take-append-drop}
 use Rattle.laws.proofs.Choices.{cond_true, cond_false}
-use Rattle.laws.proofs.Orders.{eq_or_ne, le_or_lt}
+use Rattle.laws.proofs.Orders.{le_or_lt}
 use Rattle.demand.specs.Load.{Load}
 use Rattle.interrupting.specs.Interrupts.{Bound, EveryBound, Ordered, bound_to}
 use Rattle.interrupting.proofs.BoundLaws.{bounds_append, bounds_map, ordered_join}

@@ -1,6 +1,6 @@
 -- Interrupts as they ask: each with d = D − J, those of processor 1 first, then those of processor 2, and so on, each in file order; and
 -- their numbers with the unused room at zero. Document 02, Req 08.
-use Rattle.std.specs.Prelude.{ℕ, zero, suc, ◌+◌, ◌-◌, ◌*◌, ◌≤◌, ◌<◌, List, [], ◌∷◌, ◌++◌, map, cond, eqb, length, get_or, replicate}
+use Rattle.std.specs.Prelude.{ℕ, zero, suc, ◌-◌, ◌*◌, ◌≤◌, ◌<◌, List, [], ◌∷◌, ◌++◌, map, cond, eqb, length, get_or, replicate}
 use Rattle.digits.specs.Stored.{stored}
 use Rattle.interrupting.specs.Interrupts.{Bound, bound_numbers}
 use Rattle.tasks.specs.declared.set.Interrupt.{Interrupt}

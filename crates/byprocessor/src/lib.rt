@@ -1,4 +1,3 @@
 // The interrupts of a set by processor.
 // Definitions and laws; the code stands in byprocessor_code.
 #![tactic(auto)]
-

@@ -50,7 +50,7 @@ soonest_joined (k ∷ ls) l e =
 of_any : (h : Header) (c e d : ℕ) (ms : List Figures) → soonest_of d (map (charged_in h c) ms) ≡ soonest_of d (map (charged_in h e) ms)
 unfolding soonest_of charged_in
 of_any h c e d [] = refl
-of_any h c e d (f ∷ ms) = ap (min d) (of_any h c e _ ms)
+of_any h c e d (f ∷ ms) = ap (min d) (of_any h c e (charged_in h c f).deadline ms)
 
 soonest_any : (h : Header) (c e : ℕ) (ms : List Figures) → soonest (map (charged_in h c) ms) ≡ soonest (map (charged_in h e) ms)
 unfolding soonest charged_in

@@ -11,7 +11,7 @@ use Rattle.tasks.specs.declared.set.Task.{Task}
 use Rattle.tasks.specs.Set.{zero_task}
 use Rattle.ring.specs.declared.cover.Stand.{Stand}
 use Rattle.plan.specs.declared.server.Server.{Server}
-use Rattle.plan.specs.Plan.{no_server, zero_stand}
+use Rattle.plan.specs.Plan.{zero_stand}
 use Rattle.plan.proofs.RecordLaws.{row_at}
 use Rattle.planfigures.specs.Figures.{mark, server_figures, placed_figures, processor_figures}
 

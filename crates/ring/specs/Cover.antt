@@ -1,6 +1,6 @@
 -- Which server's reserve covers a position of the ring, and the ticks to that reserve's end.
 -- Document 01, "From tasks to servers to ring", rules 3 and 5 (RULES 3.3 and 3.5).
-use Rattle.std.specs.Prelude.{ℕ, zero, suc, ◌+◌, ◌-◌, List, Bool, true, false, cond, ◌&&◌, length, leb, ltb}
+use Rattle.std.specs.Prelude.{ℕ, zero, suc, ◌+◌, ◌-◌, List, Bool, cond, ◌&&◌, length, leb, ltb}
 use Rattle.ring.specs.declared.clock.Position.{Position}
 use Rattle.ring.specs.declared.cover.Stand.{Stand}
 use Rattle.reserves.specs.Reserves.{reserve_of, start_of, ring_length}

@@ -12,7 +12,7 @@ use Rattle.members.proofs.FiledLaws.{every_chosen}
 use Rattle.shares.proofs.ScaledLaws.{PeriodsDivide}
 use Rattle.taking.specs.Takes.{takes}
 use Rattle.joining.proofs.FitLaws.{join_room_same}
-use Rattle.servers.specs.Placement.{servers_in, place_by, room_in, join_by, placed_by}
+use Rattle.servers.specs.Placement.{servers_in, place_by, join_by, placed_by}
 use Rattle.servers.proofs.PlacementLaws.{by_last, by_fit_more}
 
 module _ (b : Board) (H K : ℕ) (some : 1 ≤ H) (other : 1 ≤ K) where

@@ -9,7 +9,7 @@ use lib.Seq.{length-take-le}
 use Rattle.interrupting.specs.Interrupts.{Bound, bound_numbers}
 use Rattle.tasks.specs.declared.set.TaskSet.{TaskSet}
 use Rattle.tasks.specs.Set.{interrupts_in}
-use Rattle.members.specs.Server.{Board, board_of}
+use Rattle.members.specs.Server.{board_of}
 use Rattle.byprocessor.specs.Interrupts.{by_processor, interrupt_numbers}
 use Rattle.byprocessor.proofs.GroupLaws.{On, Each, by_none, by_all}
 use Rattle.byprocessor.proofs.NumberLaws.{bounds_all, numbers_front}

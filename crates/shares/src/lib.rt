@@ -2,7 +2,6 @@
 // Types, definitions and laws; the code stands in share_of and shares_code.
 #![tactic(auto)]
 
-
 // A task's work without cache cost and its jobs in the horizon, its cache cost, and its effective deadline; or those of a server, with the
 // smallest deadline.
 #[derive(Clone, Copy)]

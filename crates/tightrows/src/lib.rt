@@ -2,7 +2,6 @@
 // Types, definitions and laws; the code stands in tightrows_code.
 #![tactic(auto)]
 
-
 // A row that is tried on each task: 7 SLOT or 8 TIGHT.
 #[derive(Clone, Copy)]
 pub enum TaskRow {

@@ -1,7 +1,6 @@
 // A turn of the ring: what a walk through it goes by. What switches it has stands in specs/Switches.antt; there is no code here.
 #![tactic(auto)]
 
-
 // A ring that is laid: the number of servers, the slot, the ring processors, the idle positions.
 #[derive(Clone, Copy)]
 pub struct Turn {

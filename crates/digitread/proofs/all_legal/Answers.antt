@@ -1,10 +1,7 @@
 -- `digitread::all_legal` meets its contract: the bytes passed are legal, so the whole part is as legal as what is left of it.
 -- Assumes nothing.
-use Prim.Native.Nat.{◌+◌, ◌-◌, ◌≤◌}
-use mathlib.Core.Path.{◌≡◌, sym, ◌∙◌, ap}
+use mathlib.Core.Path.{sym, ◌∙◌, ap}
 use native.Mathlib.Omega.{arith}
-use lib.ListN.{take, drop}
-use borrow.Author.Rules.{rules}
 use borrow.Author.Tests.{not-true, not-false}
 use Rattle.digits.specs.Digit.{all_legal}
 use Rattle.digits.proofs.Numbers.{part_start, part_end, legal_stops, legal_goes_on}

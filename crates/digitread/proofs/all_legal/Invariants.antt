@@ -1,11 +1,7 @@
 use Prim.Native.Nat.{◌+◌, ◌-◌, ◌≤◌}
-use mathlib.Core.Path.{◌≡◌, sym, ◌∙◌, ap}
-use native.Mathlib.Omega.{arith}
+use mathlib.Core.Path.{◌≡◌}
 use lib.ListN.{take, drop}
-use borrow.Author.Rules.{rules}
-use borrow.Author.Tests.{not-true, not-false}
 use Rattle.digits.specs.Digit.{all_legal}
-use Rattle.digits.proofs.Numbers.{part_start, part_end, legal_stops, legal_goes_on}
 use Rattle.digitread.proofs.all_legal.Given as goal
 
 abbrev pub invariant-loop-i : goal.invariant-loop-i

@@ -2,7 +2,6 @@
 -- Assumes nothing.
 use mathlib.Core.Path.{sym}
 use native.Mathlib.Omega.{arith}
-use borrow.Author.Rules.{rules}
 use Rattle.digits.proofs.Digits.{legal_low, value_figure, value_letter}
 use Rattle.digitread.proofs.value.Goals as goal
 

@@ -1,7 +1,6 @@
 -- `digitwrite::digit` meets its contract: the digit of a value by its two cases.
 -- Assumes nothing.
 use mathlib.Core.Path.{sym}
-use borrow.Author.Rules.{rules}
 use Rattle.digits.proofs.Digits.{digit_figure, digit_letter}
 use Rattle.digitwrite.proofs.digit.Goals as goal
 

@@ -1,6 +1,6 @@
 -- `digitwrite::too_large_lem` meets its contract: what is left after as many digits as the width is nothing exactly when the number fits.
 -- Assumes nothing.
-use Prim.Native.Nat.{ℕ, ◌-◌, ◌/◌, ◌^◌, ◌≤◌}
+use Prim.Native.Nat.{ℕ, ◌/◌, ◌^◌}
 use mathlib.Core.Path.{◌≡◌, sym, ◌∙◌, ap}
 use mathlib.Core.Bool.{not}
 use native.Mathlib.Nat.{div-one, div-div-eq-div-mul, pow-suc}

@@ -9,28 +9,34 @@ use borrow.Author.Rules.{rules}
 use Rattle.frameread_code.proofs.field.Statement.{statement}
 use Rattle.frameread_code.proofs.field.Tie as tie
 
-add_start : tie.Need-overflow-add-start
-add_start c =
-    let a = c.before.before.args in
-    omega (arith, field_at_within a.frame a.text.now a.at a.field c.field-start.result (width_of a.frame a.field) c.field-start.ensures refl c.before.before.requires.1.0 c.before.before.requires.0)
+overflow_add-start : tie.Need-overflow_add-start
+overflow_add-start c =
+    let a = c.args in
+    omega (arith, field_at_within a.frame a.text.now a.at a.field c.field_start.result (width_of a.frame a.field) c.field_start.ensures refl c.requires.1.0 c.requires.0)
 
-number-at-requires : tie.Need-number-at-requires
-number-at-requires c κs =
-    let a = c.before.before.before.args in
-    let pre = c.before.before.before.requires in (
-      field_at_within a.frame a.text.now a.at a.field c.before.field-start.result c.width.result c.before.field-start.ensures c.width.ensures pre.1.0 pre.0,
+number_at-requires : tie.Need-number_at-requires
+number_at-requires c κs =
+    let a = c.args in
+    let pre = c.requires in (
+      field_at_within a.frame a.text.now a.at a.field c.field_start.result c.width.result c.field_start.ensures c.width.ensures pre.1.0 pre.0,
       (
         omega (arith, c.width.ensures, width_most a.frame a.field),
-        field_at_legal a.frame a.text.now a.at a.field c.before.field-start.result c.width.result c.before.field-start.ensures c.width.ensures pre.1.0,
+        field_at_legal a.frame a.text.now a.at a.field c.field_start.result c.width.result c.field_start.ensures c.width.ensures pre.1.0,
       ),
     )
 
 returns : tie.Need-returns
 returns c =
-    let a = c.before.before.before.before.args in
+    let a = c.args in
     c.number_at.ensures
-    ∙ field_at_number a.frame a.text.now a.at a.field c.before.before.field-start.result c.before.width.result c.before.before.field-start.ensures c.before.width.ensures c.before.before.before.before.requires.1.0
+    ∙ field_at_number a.frame a.text.now a.at a.field c.field_start.result c.width.result c.field_start.ensures c.width.ensures c.requires.1.0
 
-pub field-spec : {M : Type 1} → statement M
-field-spec =
-    tie.close (tie.spec (λ c κs. search rules) add_start (λ c κs. search rules) number-at-requires returns)
+pub field_spec : {M : Type 1} → statement M
+field_spec =
+    tie.close
+    (tie.spec
+    (λ c κs. search rules)
+    overflow_add-start
+    (λ c κs. search rules)
+    number_at-requires
+    returns)

@@ -1,7 +1,6 @@
 -- `frames::table::row_of` meets its contract: each arm's row is that of the frame it is for.
 -- Assumes nothing.
 use mathlib.Core.Path.{sym, ap}
-use borrow.Author.Rules.{rules}
 use Rattle.frames.specs.Table.{kind_of, widths_of, sum, front, row_of}
 use Rattle.frames_code.proofs.row_of.Goals as goal
 

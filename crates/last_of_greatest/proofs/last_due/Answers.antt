@@ -2,7 +2,6 @@
 -- Assumes nothing.
 use Prim.Native.Nat.{◌≤◌, ◌<◌}
 use mathlib.Core.Path.{sym}
-use borrow.Author.Rules.{rules}
 use native.Mathlib.Nat.{le_trans, mod-le}
 use native.Mathlib.Omega.{arith}
 use Rattle.steps.proofs.LastLaws.{last_due, last_early}

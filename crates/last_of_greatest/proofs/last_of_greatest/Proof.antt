@@ -3,7 +3,6 @@
 use Prim.Native.Nat.{ℕ, ◌+◌, ◌*◌, ◌-◌, ◌^◌, ◌≤◌, ◌<◌, max}
 use mathlib.Core.Path.{◌≡◌, refl, ap, ◌∙◌}
 use mathlib.Core.List.{List}
-use mathlib.Core.Logic.{⊎_elim}
 use borrow.Author.Rules.{rules}
 use native.Mathlib.Omega.{arith}
 use lib.ListN.{length}
@@ -16,6 +15,7 @@ use Rattle.interrupting.proofs.ReachedLaws.{reached_new, reached_same}
 use Rattle.steps.proofs.RisenLaws.{last_of, Risen, risen_none, risen_new, risen_same, risen_next}
 use Rattle.last_of_greatest.proofs.last_of_greatest.Statement.{statement}
 use Rattle.last_of_greatest.proofs.last_of_greatest.Tie as tie
+use Rattle.last_of_greatest.proofs.last_of_greatest.Lts.{else-processor-its, then-processor-its}
 
 abbrev invariant-loop-i : tie.invariant-loop-i
 invariant-loop-i loads n hi from count greatest₀ risen₀ processor₀ sum₀ last₀ i₀ greatest risen processor sum last i =
@@ -29,10 +29,10 @@ start c = c.before.before.before
 
 -- this turn's interrupt, and those before it
 abbrev its : tie.In-loop-i invariant-loop-i decreases-loop-i → Bound
-its c = bound_at (start c).args.loads.now (3 * (start c).args.n) c.before.loop.i
+its c = bound_at (start c).args.loads.now (3 * (start c).args.n) c.loop-i.i
 
 abbrev earlier : tie.In-loop-i invariant-loop-i decreases-loop-i → List Bound
-earlier c = bounds_of (start c).args.loads.now (3 * (start c).args.n) c.before.loop.i
+earlier c = bounds_of (start c).args.loads.now (3 * (start c).args.n) c.loop-i.i
 
 within : (c : tie.In-loop-i invariant-loop-i decreases-loop-i) → c.loop-i.i < behind (start c).args.loads.now (start c).args.n
 within c = c.loop-i-test.true
@@ -97,20 +97,18 @@ based : (c : tie.Joined-processor-its invariant-loop-i decreases-loop-i) →
     let turn = c.before.before in
     let hi = (start turn).args.hi in
     (c.if-processor-its.processor ≡ (its turn).processor) × (c.if-processor-its.sum ≡ interrupt_demand (its turn).processor (earlier turn) hi) ×
-    (c.if-processor-its.new ≡ last_of (interrupt_demand (its turn).processor (earlier turn)) hi)
+    (c.if-processor-its.last ≡ last_of (interrupt_demand (its turn).processor (earlier turn)) hi)
 based c =
     let turn = c.before.before in
     let p = (its turn).processor in
     let old = turn.loop-i.invariant.1 in
-    ⊎_elim
-    (λ w.
-    let new : turn.loop-i.processor < p = omega (arith, w.0.taken) in
-    (w.1, w.2 ∙ reached_new old.reached p new, w.3 ∙ risen_new old p new))
-    (λ w.
-    let no-new : p ≤ turn.loop-i.processor = omega (arith, w.0.left) in
-    let same = reached_same old.reached p no-new (top turn) in
-    (w.1 ∙ same.0, w.2 ∙ same.1, w.3 ∙ risen_same old p no-new (top turn)))
-    c.if-processor-its.branch
+    (elim c.if-processor-its.branch [
+      | then-processor-its w ↦ let new : turn.loop-i.processor < p = omega (arith, w.if-processor-its.true) in
+          (w.processor-is, w.sum-is ∙ reached_new old.reached p new, w.last-is ∙ risen_new old p new)
+      | else-processor-its w ↦ let no-new : p ≤ turn.loop-i.processor = omega (arith, w.if-processor-its.false) in
+          let same = reached_same old.reached p no-new (top turn) in
+          (w.processor-is ∙ same.0, w.sum-is ∙ same.1, w.last-is ∙ risen_same old p no-new (top turn))
+    ])
 
 -- with its term added the sum has room
 room : (c : tie.Joined-processor-its invariant-loop-i decreases-loop-i) → let turn = c.before.before in c.if-processor-its.sum + term (its turn).load (start turn).args.hi < 2 ^ 63
@@ -154,11 +152,11 @@ loop-i-preserved c =
     let b = its turn in
     let base = based met in
     let next =
-    risen_next turn.loop-i.invariant.1 (sound-before turn) b (numbered turn).sound met.if-processor-its.sum met.if-processor-its.new
+    risen_next turn.loop-i.invariant.1 (sound-before turn) b (numbered turn).sound met.if-processor-its.sum met.if-processor-its.last
     (met.if-processor-its.sum + added.term_at-sum.result) lasted.larger-last.result c.larger-greatest.result c.last_of_greater-risen.result
     (numbered turn).there (top turn) base.1 base.2
     (ap (λ (x : ℕ). met.if-processor-its.sum + x) added.term_at-sum.ensures)
-    (lasted.larger-last.ensures ∙ ap (λ (x : ℕ). max met.if-processor-its.new x) due.last_due.ensures)
+    (lasted.larger-last.ensures ∙ ap (λ (x : ℕ). max met.if-processor-its.last x) due.last_due.ensures)
     c.larger-greatest.ensures
     c.last_of_greater-risen.ensures in
     (omega (arith, within turn), rw (bounds_next a.loads.now (3 * a.n) i, base.0) next)

@@ -1,6 +1,5 @@
 -- `loss` meets its contract: the result is the definition's.
 -- Assumes nothing.
-use borrow.Author.Rules.{rules}
 use Rattle.members_code.proofs.loss.Goals as goal
 
 pub returns : goal.returns

@@ -18,22 +18,19 @@ gained c = sym c.gains-gains.ensures ∙ c.if-gains.true
 
 asked_at-requires : tie.Need-asked_at-requires
 asked_at-requires c κs =
-    let s = c in
-    let a = s.args in
-    (s.requires.0, omega (arith, own_apart a.gain (asked a.loads.now a.n) a.slot a.gap s.requires.1.1 s.requires.0.loads.sound (gained c), s.requires.1.1.due, s.requires.1.0.small))
+    let a = c.args in
+    (c.requires.0, omega (arith, own_apart a.gain (asked a.loads.now a.n) a.slot a.gap c.requires.1.1 c.requires.0.loads.sound (gained c), c.requires.1.1.due, c.requires.1.0.small))
 
 overflow_add-w : tie.Need-overflow_add-w
 overflow_add-w c =
-    let s = c in
-    let a = s.args in
-    let within = (asked-at-requires c.before s.lifetimes).1 in
-    omega (arith, c.asked_at.ensures, asked_room a.loads.now a.n s.requires.0 _ within)
+    let a = c.args in
+    let within = (asked_at-requires c.before c.lifetimes).1 in
+    omega (arith, c.asked_at.ensures, asked_room a.loads.now a.n c.requires.0 _ within)
 
 returns-then-supply_at-w : tie.Need-returns-then-supply_at-w
 returns-then-supply_at-w c =
-    let s = c in
-    let a = s.args in
-    from_some a.gain (asked a.loads.now a.n) a.slot a.gap s.requires.1.1 s.requires.0.loads.sound (gained c.before.before.before)
+    let a = c.args in
+    from_some a.gain (asked a.loads.now a.n) a.slot a.gap c.requires.1.1 c.requires.0.loads.sound (gained c.before.before.before)
     (omega (arith, c.if-supply_at-w.true, c.supply_at.ensures, c.asked_at.ensures))
 
 returns-then-last-ne0 : tie.Need-returns-then-last-ne0
@@ -55,16 +52,14 @@ gained-still c = sym c.gains-gains.ensures ∙ not-false _ c.if-not-gains.false-
 
 overflow_sub-gained : tie.Need-overflow_sub-gained
 overflow_sub-gained c =
-    let s = c in
-    let a = s.args in
-    omega (arith, own_apart a.gain (asked a.loads.now a.n) a.slot a.gap s.requires.1.1 s.requires.0.loads.sound (gained-still c))
+    let a = c.args in
+    omega (arith, own_apart a.gain (asked a.loads.now a.n) a.slot a.gap c.requires.1.1 c.requires.0.loads.sound (gained-still c))
 
 returns : tie.Need-returns
 returns c =
     let e = c.before in
-    let s = e in
-    let a = s.args in
-    near_decides a.gain (asked a.loads.now a.n) a.slot a.gap s.requires.1.1 s.requires.0.loads.sound (gained-still e)
+    let a = e.args in
+    near_decides a.gain (asked a.loads.now a.n) a.slot a.gap e.requires.1.1 e.requires.0.loads.sound (gained-still e)
     e.last_short-last.ensures (omega (arith, e.if-last-ne0.false)) c.last_short.ensures
 
 pub none_fails_spec : {M : Type 1} → statement M

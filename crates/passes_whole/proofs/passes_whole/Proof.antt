@@ -30,37 +30,36 @@ abbrev board : (s : tie.Start) → Board
 board s = board_of s.args.header s.args.interrupts.now
 
 -- once they are charged
-module _ (c : tie.After-charge-server) where
+module _ (c : tie.After-charge_server-own) where
   abbrev start : tie.Start
   start = c.before.before.before.before.before
 
   abbrev loads : List ℕ
-  loads = c.charge-server.new.1.1.1.1.1.1.1.0
+  loads = c.charge_server-own.new.loads.0
 
   -- how far their numbers and the interrupts' go
   abbrev end : ℕ
   end = 3 * start.args.n + length start.args.interrupts.now
 
   inside : end ≤ length loads
-  inside = front_within start.pre.0 start.pre.1 _ (own_room start.pre.0 start.pre.1 refl) c.charge-server.ensures.1 refl
+  inside = front_within start.requires.0 start.requires.1 _ (own_room start.requires.0 start.requires.1 refl) c.charge_server-own.ensures.1 refl
 
   front : take end loads ≡ numbers_of (server_loads start.args.header (members start)) ++ start.args.interrupts.now
-  front = front_is start.pre.0 start.pre.1 _ (own_room start.pre.0 start.pre.1 refl) c.charge-server.ensures.1 refl
+  front = front_is start.requires.0 start.requires.1 _ (own_room start.requires.0 start.requires.1 refl) c.charge_server-own.ensures.1 refl
 
-charge-server-requires : tie.Need-charge-server-requires
-charge-server-requires c κs =
-    let s = c.before.before.before.before in
-    (s.requires.0, (s.requires.1, own_room s.requires.0 s.requires.1 refl))
+charge_server-own-requires : tie.Need-charge_server-own-requires
+charge_server-own-requires c κs =
+    (c.requires.0, (c.requires.1, own_room c.requires.0 c.requires.1 refl))
 
-slice-aggregate-passes : tie.Need-slice-aggregate-passes
-slice-aggregate-passes c = sym (length-take-le _ _ (omega (arith, inside c.before.before.before.before)))
+slice_bounds-passes-end : tie.Need-slice_bounds-passes-end
+slice_bounds-passes-end c = sym (length-take-le _ _ (omega (arith, inside c.before.before.before.before)))
 
 passes-requires : tie.Need-passes-requires
 passes-requires c κs =
     let at = c.before.before.before.before in
     let s = start at in
-    let t = may_test s.pre.0 s.pre.1 (overheads s) 0 at.charge-server.ensures.0 (omega arith) in (
-      front_interrupted s.pre.0 s.pre.1 (front at) (overheads s),
+    let t = may_test s.requires.0 s.requires.1 (overheads s) 0 at.charge_server-own.ensures.0 (omega arith) in (
+      front_interrupted s.requires.0 s.requires.1 (front at) (overheads s),
       (
         record {
           slot_some = t.slot_some;
@@ -70,7 +69,7 @@ passes-requires c κs =
         },
         (
           inr refl,
-          front_maskable s.pre.0 s.pre.1 (front at) _ at.charge-server.ensures.0 (omega (arith, c.before.before.masked-ticks.type-inv)),
+          front_maskable s.requires.0 s.requires.1 (front at) _ at.charge_server-own.ensures.0 (omega (arith, c.masked_ticks-masked.type-inv)),
         ),
       ),
     )
@@ -81,22 +80,22 @@ returns c =
     let s = start at in
     let h = s.args.header in
     c.passes.ensures ∙
-    ap (λ (g : ℕ → ℕ). passing g at.charge-server.result h.slot 0 h.slot) (front_asked s.pre.0 s.pre.1 (front at) c.before.before.before.masked-ticks.ensures) ∙
-    ap (λ (H : ℕ). passing (server_demand (board s) (members s)) H h.slot 0 h.slot) at.charge-server.ensures.0 ∙
-    fits_whole (board s) (members s) s.pre.0.members (bounded_sound s.pre.1 s.pre.0.slot)
+    ap (λ (g : ℕ → ℕ). passing g at.charge_server-own.result h.slot 0 h.slot) (front_asked s.requires.0 s.requires.1 (front at) c.masked_ticks-masked.ensures) ∙
+    ap (λ (H : ℕ). passing (server_demand (board s) (members s)) H h.slot 0 h.slot) at.charge_server-own.ensures.0 ∙
+    fits_whole (board s) (members s) s.requires.0.members (bounded_sound s.requires.1 s.requires.0.slot)
 
-pub passes-whole-spec : {M : Type 1} → statement M
-passes-whole-spec =
+pub passes_whole_spec : {M : Type 1} → statement M
+passes_whole_spec =
     tie.close
     (tie.spec
     (λ c. search rules)
-    charge-server-requires
+    charge_server-own-requires
     (λ c κs. search rules)
     (λ c. search rules)
     (λ c. search rules)
     (λ c. search rules)
     (λ c. search rules)
     (λ c. search rules)
-    slice-aggregate-passes
+    slice_bounds-passes-end
     passes-requires
     returns)

@@ -19,23 +19,31 @@ slots c k h = lt_of_le_of_lt (mul-le-mul_right c.args.slot h) c.requires.3
 sum : (c : tie.Start) (k : ℕ) → k ≤ c.args.ring → c.args.tick.0 % (c.args.ring * c.args.slot) + k * c.args.slot < 2 ^ 49
 sum c k h = omega (arith, slots c k h, mod-lt c.args.tick.0 (some c), c.requires.3)
 
-rem-reduced : tie.Need-nonzero-rem-reduced
-rem-reduced c = omega (arith, some c)
+nonzero_rem-reduced : tie.Need-nonzero_rem-reduced
+nonzero_rem-reduced c = omega (arith, some c)
 
-mul-offset : tie.Need-overflow-mul-offset
-mul-offset c = record { fits = lt_trans (slots c _ (omega arith)) (lit< tt) }
+overflow_mul-offset : tie.Need-overflow_mul-offset
+overflow_mul-offset c = record { fits = lt_trans (slots c _ (omega arith)) (lit< tt) }
 
-add-t9 : tie.Need-overflow-add-t9
-add-t9 c = record { fits = lt_trans (sum c _ (omega arith)) (lit< tt) }
+overflow_add-result : tie.Need-overflow_add-result
+overflow_add-result c = record { fits = lt_trans (sum c _ (omega arith)) (lit< tt) }
 
-rem-t10 : tie.Need-nonzero-rem-t10
-rem-t10 c = omega (arith, some c)
+nonzero_rem-result : tie.Need-nonzero_rem-result
+nonzero_rem-result c = omega (arith, some c)
 
 returns : tie.Need-returns
 unfolding phase
 returns c =
     rw (mod-add-mod c.args.tick.0 (c.args.ring * c.args.slot) ((c.args.processor - 1) * c.args.slot))
 
-pub position-spec : {M : Type 1} → statement M
-position-spec =
-    tie.close (tie.spec (λ c. search rules) rem-reduced (λ c. search rules) mul-offset add-t9 rem-t10 returns)
+pub position_spec : {M : Type 1} → statement M
+position_spec =
+    tie.close
+    (tie.spec
+    (λ c. search rules)
+    nonzero_rem-reduced
+    (λ c. search rules)
+    overflow_mul-offset
+    overflow_add-result
+    nonzero_rem-result
+    returns)

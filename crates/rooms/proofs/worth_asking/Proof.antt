@@ -8,35 +8,35 @@ use Rattle.joining.proofs.WalkLaws.{worth_none, worth_some}
 use Rattle.rooms.proofs.worth_asking.Statement.{statement}
 use Rattle.rooms.proofs.worth_asking.Tie as tie
 
-returns : tie.Need-returns
-returns c = sym (worth_none c.before.args.fit c.before.args.found c.before.args.room c.before.args.held c.if1.true)
+returns-then-found-eq0 : tie.Need-returns-then-found-eq0
+returns-then-found-eq0 c = sym (worth_none c.args.fit c.args.found c.args.room c.args.held c.if-found-eq0.true)
 
 -- something was found, by a fit
-module _ (c : tie.Else1) where
-  by : {fit : Fit} → c.before.args.fit ≡ fit →
-      worth_asking c.before.args.fit c.before.args.found c.before.args.room c.before.args.held
-      ≡ better fit (λ (x : ℕ). x) c.before.args.room c.before.args.held
+module _ (c : tie.Else-found-eq0) where
+  by : {fit : Fit} → c.args.fit ≡ fit →
+      worth_asking c.args.fit c.args.found c.args.room c.args.held
+      ≡ better fit (λ (x : ℕ). x) c.args.room c.args.held
   by e =
-      worth_some c.before.args.fit c.before.args.found c.before.args.room c.before.args.held c.if1.false ∙
-      ap (λ (f : Fit). better f (λ (x : ℕ). x) c.before.args.room c.before.args.held) e
+      worth_some c.args.fit c.args.found c.args.room c.args.held c.if-found-eq0.false ∙
+      ap (λ (f : Fit). better f (λ (x : ℕ). x) c.args.room c.args.held) e
 
-returns-2 : tie.Need-returns-2
-returns-2 c = sym (by c.before.before c.enum_told.given.1)
+returns-in-First : tie.Need-returns-in-First
+returns-in-First c = sym (by c.before c.in-First.is)
 
-returns-3 : tie.Need-returns-3
-returns-3 c = sym (by c.before.before c.enum-told2.given.1)
+returns-in-Best : tie.Need-returns-in-Best
+returns-in-Best c = sym (by c.before c.in-Best.is)
 
-returns-4 : tie.Need-returns-4
-returns-4 c = sym (by c.before.before c.enum-told3.given.1)
+returns-in-Worst : tie.Need-returns-in-Worst
+returns-in-Worst c = sym (by c.before c.in-Worst.is)
 
-pub worth-asking-spec : {M : Type 1} → statement M
-worth-asking-spec =
+pub worth_asking_spec : {M : Type 1} → statement M
+worth_asking_spec =
     tie.close
     (tie.spec
-    returns
+    returns-then-found-eq0
     (λ c. search rules)
     (λ c. search rules)
     (λ c. search rules)
-    returns-2
-    returns-3
-    returns-4)
+    returns-in-First
+    returns-in-Best
+    returns-in-Worst)

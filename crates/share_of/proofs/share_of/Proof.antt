@@ -36,14 +36,14 @@ due-alone : (h : Header) (f : Figures) → effective_deadline f.deadline h.relj 
 unfolding soonest soonest_of charged_in
 due-alone h f = sym (ap soonest (loads_alone h f))
 
-mul_at : tie.Need-overflow-mul-at
-mul_at c = omega (arith, c.before.requires.few)
+overflow_mul-at : tie.Need-overflow_mul-at
+overflow_mul-at c = omega (arith, c.requires.few)
 
-mul-charged-cost : tie.Need-overflow-mul-charged-cost
-mul-charged-cost c = omega (arith, c.before.requires.few)
+offset_bounds-figures-at : tie.Need-offset_bounds-figures-at
+offset_bounds-figures-at c = omega (arith, c.requires.few)
 
-charged-cost-requires : tie.Need-charged-cost-requires
-charged-cost-requires c κs =
+charged_cost-cost-requires : tie.Need-charged_cost-cost-requires
+charged_cost-cost-requires c κs =
     let m = member c.before.before.before.before in (
       omega (arith, m.meets, m.constrained, m.short),
       search rules,
@@ -51,41 +51,41 @@ charged-cost-requires c κs =
       omega arith,
     )
 
-charged-deadline-requires : tie.Need-charged-deadline-requires
-charged-deadline-requires c κs =
+charged_deadline-due-requires : tie.Need-charged_deadline-due-requires
+charged_deadline-due-requires c κs =
     let m = member c.before.before.before.before.before.before.before in
     omega (arith, m.early)
 
 -- once the deadline is charged
-module _ (c : tie.After-shared-slice-known4) where
-  abbrev charged : tie.After-charged-cost
+module _ (c : tie.After-shared_slice_known-4-1) where
+  abbrev charged : tie.After-charged_cost-cost
   charged = c.before.before.before.before
 
   abbrev start : tie.Start
   start = charged.before.before.before.before.before
 
   -- the cost without cache cost is small
-  small : charged.charged-cost.result ≤ 2 ^ 21
+  small : charged.charged_cost-cost.result ≤ 2 ^ 21
   unfolding effective_cost
   small =
       let m = member start in
       let relo : start.args.header.relo < 2 ^ 16 = search rules in
       let ctswo : start.args.header.ctswo < 2 ^ 16 = search rules in
-      omega (arith, charged.charged-cost.ensures, m.meets, m.constrained, m.short, relo, ctswo)
+      omega (arith, charged.charged_cost-cost.ensures, m.meets, m.constrained, m.short, relo, ctswo)
 
-div-jobs : tie.Need-nonzero-div-jobs
-div-jobs c =
+nonzero_div-jobs : tie.Need-nonzero_div-jobs
+nonzero_div-jobs c =
     let m = member (start c) in
     omega (arith, m.some, m.meets, m.constrained)
 
-mul-t13 : tie.Need-overflow-mul-t13
-mul-t13 c =
+overflow_mul-result : tie.Need-overflow_mul-result
+overflow_mul-result c =
     let s = start c in
     let f = figures_at s.args.figures.now s.args.i in
     omega (
       arith,
-      cost_small s.args.horizon s.pre.short (charged c).charged-cost.result (s.args.horizon / f.period) (small c)
-          (omega (arith, div-le_self s.args.horizon f.period, s.pre.short)),
+      cost_small s.args.horizon s.requires.short (charged c).charged_cost-cost.result (s.args.horizon / f.period) (small c)
+          (omega (arith, div-le_self s.args.horizon f.period, s.requires.short)),
     )
 
 returns : tie.Need-returns
@@ -93,31 +93,31 @@ returns c =
     let s = start c.before in
     let f = figures_at s.args.figures.now s.args.i in
     cc (
-      ap (λ (x : ℕ). x * (s.args.horizon / f.period)) (charged c.before).charged-cost.ensures ∙ work-alone s.args.header s.args.horizon f,
+      ap (λ (x : ℕ). x * (s.args.horizon / f.period)) (charged c.before).charged_cost-cost.ensures ∙ work-alone s.args.header s.args.horizon f,
       jobs-alone s.args.horizon f,
-      c.before.before.charged-deadline.ensures ∙ due-alone s.args.header f,
+      c.charged_deadline-due.ensures ∙ due-alone s.args.header f,
     )
 
-pub share-of-spec : {M : Type 1} → statement M
-share-of-spec =
+pub share_of_spec : {M : Type 1} → statement M
+share_of_spec =
     tie.close
     (tie.spec
-    mul_at
-    mul-charged-cost
+    overflow_mul-at
+    offset_bounds-figures-at
     (λ c. search rules)
     (λ c. search rules)
     (λ c. search rules)
-    charged-cost-requires
+    charged_cost-cost-requires
     (λ c. search rules)
     (λ c. search rules)
     (λ c. search rules)
     (λ c. search rules)
-    charged-deadline-requires
+    charged_deadline-due-requires
     (λ c. search rules)
     (λ c. search rules)
     (λ c. search rules)
-    div-jobs
-    mul-t13
+    nonzero_div-jobs
+    overflow_mul-result
     (λ c. search rules)
     (λ c. search rules)
     (λ c. search rules)

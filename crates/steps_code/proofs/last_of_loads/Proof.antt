@@ -12,74 +12,74 @@ use Rattle.steps.proofs.RisenLaws.{last_of, last_nothing, last_snoc}
 use Rattle.steps_code.proofs.last_of_loads.Statement.{statement}
 use Rattle.steps_code.proofs.last_of_loads.Tie as tie
 
-abbrev invariant-loop : tie.invariant-loop
-invariant-loop loads n hi last₀ i₀ last i = (i ≤ n) × (last ≡ last_of (demand (loads_of loads i)) hi)
+abbrev invariant-loop-i : tie.invariant-loop-i
+invariant-loop-i loads n hi last₀ i₀ last i = (i ≤ n) × (last ≡ last_of (demand (loads_of loads i)) hi)
 
-abbrev decreases-loop : tie.decreases-loop
-decreases-loop loads n hi last₀ i₀ last i = n - i
+abbrev decreases-loop-i : tie.decreases-loop-i
+decreases-loop-i loads n hi last₀ i₀ last i = n - i
 
-abbrev start : tie.In-loop invariant-loop decreases-loop → tie.Start invariant-loop decreases-loop
+abbrev start : tie.In-loop-i invariant-loop-i decreases-loop-i → tie.Start invariant-loop-i decreases-loop-i
 start c = c.before.before.before
 
 -- the load of this turn is sound
-here : (c : tie.In-loop invariant-loop decreases-loop) → Sound (load_at (start c).args.loads.now c.before.loop.i)
+here : (c : tie.In-loop-i invariant-loop-i decreases-loop-i) → Sound (load_at (start c).args.loads.now c.loop-i.i)
 here c =
     let s = start c in
-    every_at (load_at s.args.loads.now) Sound s.args.n c.loop-test.true s.pre.sound
+    every_at (load_at s.args.loads.now) Sound s.args.n c.loop-i-test.true s.requires.sound
 
-loop-holds : tie.Need-loop-init invariant-loop decreases-loop
+loop-i-init : tie.Need-loop-i-init invariant-loop-i decreases-loop-i
 unfolding each
-loop-holds c = (omega arith, sym (last_nothing (demand []) c.before.args.hi demand_nil))
+loop-i-init c = (omega arith, sym (last_nothing (demand []) c.args.hi demand_nil))
 
-mul_at : tie.Need-overflow-mul-at invariant-loop decreases-loop
-mul_at c = omega (arith, (start c).requires.few)
+overflow_mul-at : tie.Need-overflow_mul-at invariant-loop-i decreases-loop-i
+overflow_mul-at c = omega (arith, (start c).requires.few)
 
-add-last-due : tie.Need-overflow-add-last-due invariant-loop decreases-loop
-add-last-due c = omega (arith, (start c).requires.few)
+overflow_add-at : tie.Need-overflow_add-at invariant-loop-i decreases-loop-i
+overflow_add-at c = omega (arith, (start c).requires.few)
 
-add-last-due-2 : tie.Need-overflow-add-last-due-2 invariant-loop decreases-loop
-add-last-due-2 c = omega (arith, (start c.before).pre.few)
+overflow_add-at-in-loop-i : tie.Need-overflow_add-at-in-loop-i invariant-loop-i decreases-loop-i
+overflow_add-at-in-loop-i c = omega (arith, (start c.before).requires.few)
 
-last-due-requires : tie.Need-last-due-requires invariant-loop decreases-loop
-last-due-requires c κs = let s = here c.before.before in (s.due, s.constrained)
+last_due-requires : tie.Need-last_due-requires invariant-loop-i decreases-loop-i
+last_due-requires c κs = let s = here c.before.before in (s.due, s.constrained)
 
-loop-again : tie.Need-loop-preserved invariant-loop decreases-loop
-loop-again c =
+loop-i-preserved : tie.Need-loop-i-preserved invariant-loop-i decreases-loop-i
+loop-i-preserved c =
     let turn = c.before.before.before.before in
     let s = start turn in
     let a = s.args in
-    let i = turn.before.loop.i in
-    let sound = every_first (load_at a.loads.now) Sound a.n turn.before.loop.invariant.0 s.pre.sound in (
+    let i = turn.loop-i.i in
+    let sound = every_first (load_at a.loads.now) Sound a.n turn.loop-i.invariant.0 s.requires.sound in (
       omega arith,
-      c.larger.ensures ∙ ap₂ max turn.before.loop.invariant.1 c.before.last_due.ensures ∙
+      c.larger-last.ensures ∙ ap₂ max turn.loop-i.invariant.1 c.last_due.ensures ∙
           sym
           (ap (λ (ls : List Load). last_of (demand ls) a.hi) (each_next (load_at a.loads.now) i) ∙
           last_snoc (loads_of a.loads.now i) (load_at a.loads.now i) a.hi sound (here turn)),
     )
 
-returns : tie.Need-returns invariant-loop decreases-loop
+returns : tie.Need-returns invariant-loop-i decreases-loop-i
 returns c =
-    let a = c.before.before.before.args in
-    let e : c.before.loop.i ≡ a.n = omega arith in
-    c.before.loop.invariant.1 ∙ ap (λ (i : ℕ). last_of (demand (loads_of a.loads.now i)) a.hi) e
+    let a = c.args in
+    let e : c.loop-i.i ≡ a.n = omega arith in
+    c.loop-i.invariant.1 ∙ ap (λ (i : ℕ). last_of (demand (loads_of a.loads.now i)) a.hi) e
 
-pub last-of-loads-spec : {M : Type 1} → statement M
-last-of-loads-spec =
+pub last_of_loads_spec : {M : Type 1} → statement M
+last_of_loads_spec =
     tie.close
     (tie.spec
-    invariant-loop
-    decreases-loop
-    loop-holds
-    mul_at
-    add-last-due
+    invariant-loop-i
+    decreases-loop-i
+    loop-i-init
+    overflow_mul-at
+    overflow_add-at
     (λ c. search rules)
     (λ c. search rules)
-    add-last-due-2
+    overflow_add-at-in-loop-i
     (λ c. search rules)
     (λ c. search rules)
-    last-due-requires
+    last_due-requires
     (λ c κs. search rules)
     (λ c. search rules)
     (λ c. search rules)
-    loop-again
+    loop-i-preserved
     returns)

@@ -1,6 +1,5 @@
 -- `task_frame` meets its contract: each arm is told what the task's line gives.
 use mathlib.Core.Path.{sym, ap}
-use borrow.Author.Rules.{rules}
 use Rattle.taskframe.specs.Frames.{frame_by}
 use Rattle.taskframe.proofs.task_frame.Goals as goal
 

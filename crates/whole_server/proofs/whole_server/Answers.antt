@@ -1,9 +1,7 @@
 -- `whole::whole_server` meets its contract. The loop's invariant: the server asked for is the `more`-th from the i-th reserve on.
 -- The measure is what is left of n. Assumes nothing.
-use Prim.Native.Nat.{◌-◌}
-use borrow.Author.Rules.{rules}
 use native.Mathlib.Omega.{arith}
-use Rattle.reserves.proofs.WholeLaws.{Walked, walked_none, walked_here, walked_past, walked_next, walked_all}
+use Rattle.reserves.proofs.WholeLaws.{walked_none, walked_here, walked_past, walked_next, walked_all}
 use Rattle.whole_server.proofs.whole_server.Goals as goal
 use Rattle.whole_server.proofs.whole_server.Goals.{then-slot-reserve+else-more-eq0, else-slot-reserve}
 
@@ -21,8 +19,8 @@ pub loop-i-preserved : goal.loop-i-preserved
 loop-i-preserved c =
     let h = c.loop-i-test.true in
     elim c.if-slot-reserve.branch [
-      then-slot-reserve+else-more-eq0 w ↦ walked_next c.requires c.loop-i.invariant h (omega arith) (omega arith) w.more-is
-    | else-slot-reserve w ↦ walked_past c.requires c.loop-i.invariant h (omega arith) w.more-is
+      | then-slot-reserve+else-more-eq0 w ↦ walked_next c.requires c.loop-i.invariant h (omega arith) (omega arith) w.more-is
+      | else-slot-reserve w ↦ walked_past c.requires c.loop-i.invariant h (omega arith) w.more-is
     ]
 
 pub returns : goal.returns

@@ -1,5 +1,5 @@
 use Prim.Native.Nat.{◌-◌}
-use Rattle.reserves.proofs.WholeLaws.{Walked, walked_none, walked_here, walked_past, walked_next, walked_all}
+use Rattle.reserves.proofs.WholeLaws.{Walked}
 use Rattle.whole_server.proofs.whole_server.Given as goal
 
 abbrev pub invariant-loop-i : goal.invariant-loop-i

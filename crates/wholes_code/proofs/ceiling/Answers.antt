@@ -1,6 +1,5 @@
 -- `wholes::ceiling` meets its contract: the test on the remainder picks the case of `ceiling_of`.
 -- Assumes nothing.
-use borrow.Author.Rules.{rules}
 use borrow.Author.Tests.{eq-eqb, ne_eqb}
 use native.Mathlib.Omega.{arith}
 use Rattle.wholes.specs.Ceiling.{ceiling_of}

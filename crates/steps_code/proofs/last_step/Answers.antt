@@ -9,19 +9,14 @@ use Rattle.demand.proofs.Demand.{demand_mono}
 use Rattle.interrupting.specs.Interrupts.{asked, greatest_of_all, interrupts_of}
 use Rattle.interrupting.proofs.AskedLaws.{of_all_rising}
 use Rattle.steps.proofs.LastLaws.{last_together}
-use Rattle.steps_code.proofs.last_step.Statement.{statement}
-use Rattle.steps_code.proofs.last_step.Tie as tie
+use Rattle.steps_code.proofs.last_step.Goals as goal
 
-returns : tie.Need-returns
+pub returns : goal.returns
 unfolding asked
 returns c =
-    let s = c.before.before.before.before in
-    let a = s.args in
-    c.larger.ensures ∙ ap₂ max c.before.before.last-of-loads.ensures c.before.last-of-greatest.ensures ∙
+    let a = c.args in
+    c.larger.ensures ∙ ap₂ max c.last_of_loads-own.ensures c.last_of_greatest-theirs.ensures ∙
     sym
     (last_together (demand (loads_of a.loads.now a.n)) (greatest_of_all (interrupts_of a.loads.now a.n)) a.hi
-    (λ t u h. demand_mono (loads_of a.loads.now a.n) s.requires.0.loads.sound h)
-    (of_all_rising a.loads.now a.n s.requires.0))
-
-pub last-step-spec : {M : Type 1} → statement M
-last-step-spec = tie.close (tie.spec (λ c κs. search rules) (λ c κs. search rules) (λ c κs. search rules) returns)
+    (λ t u h. demand_mono (loads_of a.loads.now a.n) c.requires.0.loads.sound h)
+    (of_all_rising a.loads.now a.n c.requires.0))

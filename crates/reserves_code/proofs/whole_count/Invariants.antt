@@ -1,0 +1,14 @@
+use Prim.Native.Nat.{◌-◌}
+use mathlib.Core.Logic.{⊎_elim}
+use borrow.Author.Rules.{rules}
+use native.Mathlib.Omega.{arith}
+use Rattle.reserves.specs.Reserves.{wholes}
+use Rattle.reserves.proofs.Starts.{wholes_nil}
+use Rattle.reserves.proofs.SummedLaws.{Summed, summed_none, summed_all, count_more, count_same, count_room}
+use Rattle.reserves_code.proofs.whole_count.Given as goal
+
+abbrev pub invariant-loop-i : goal.invariant-loop-i
+invariant-loop-i l = Summed (wholes l.slot) l.reserves l.n l.count l.i
+
+abbrev pub decreases-loop-i : goal.decreases-loop-i
+decreases-loop-i l = l.n - l.i
