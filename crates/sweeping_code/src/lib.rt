@@ -1,14 +1,16 @@
 // The sweep of a list of names that comes in parts: each name is counted where it ends. What it means stands in sweeping/specs/Sweeping.antt.
+#![tactic(auto)]
 ghost use Rattle.sweeping.specs.Sweeping.{Sweeping, Sweeps, Ends};
 
 use names_code::cut_name;
 use sweepfile_code::held_answer;
+use std::fs::Files;
 use sweeping::Sweep;
 use tally::Tally;
 use tally_code::counted;
 
 // Counts the names that end in a part.
-pub fn sweep_part(part: &[u8], name: &mut [u8], sweep: Sweep) -> Sweep
+pub fn sweep_part<F: Files>(files: &F, part: &[u8], name: &mut [u8], sweep: Sweep) -> Sweep
     requires { Sweeping name.old sweep }
     ensures { Sweeps part.now name.old sweep name.new result }
 {
@@ -22,7 +24,7 @@ pub fn sweep_part(part: &[u8], name: &mut [u8], sweep: Sweep) -> Sweep
         if end == part.len() {
             return Sweep { held, tally };
         }
-        let answer = held_answer(name, held);
+        let answer = held_answer(files, name, held);
         tally = counted(tally, answer);
         held = 0;
         at = end + 1;
@@ -31,7 +33,7 @@ pub fn sweep_part(part: &[u8], name: &mut [u8], sweep: Sweep) -> Sweep
 }
 
 // Counts the name that the list's end ends, where there is one.
-pub fn sweep_last(name: &[u8], sweep: Sweep) -> Tally
+pub fn sweep_last<F: Files>(files: &F, name: &[u8], sweep: Sweep) -> Tally
     requires { Sweeping name.now sweep }
     ensures { Ends name.now sweep result }
 {
@@ -43,6 +45,6 @@ pub fn sweep_last(name: &[u8], sweep: Sweep) -> Tally
     if held == 0 {
         return tally;
     }
-    let answer = held_answer(name, held);
+    let answer = held_answer(files, name, held);
     counted(tally, answer)
 }
