@@ -1,5 +1,6 @@
 // What became of a name: its file opened, read and taken to its outcome. What it means stands in sweepfile/specs/Answered.antt.
 #![tactic(auto)]
+
 ghost use Rattle.std.specs.Prelude.{◌≡◌, length};
 ghost use Rattle.names.specs.Names.{longest_name};
 ghost use Rattle.sweepfile.specs.Answered.{OfFile, AnsweredHeld};

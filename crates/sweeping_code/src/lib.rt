@@ -1,10 +1,11 @@
 // The sweep of a list of names that comes in parts: each name is counted where it ends. What it means stands in sweeping/specs/Sweeping.antt.
 #![tactic(auto)]
+
 ghost use Rattle.sweeping.specs.Sweeping.{Sweeping, Sweeps, Ends};
 
 use names_code::cut_name;
-use sweepfile_code::held_answer;
 use std::fs::Files;
+use sweepfile_code::held_answer;
 use sweeping::Sweep;
 use tally::Tally;
 use tally_code::counted;
@@ -21,7 +22,8 @@ pub fn sweep_part<F: Files>(files: &F, part: &[u8], name: &mut [u8], sweep: Swee
         let cut = cut_name(part, at, name, held);
         held = cut.held;
         let end = cut.end;
-        if end == part.len() {
+        let part_ends = end == part.len();
+        if part_ends {
             return Sweep { held, tally };
         }
         let answer = held_answer(files, name, held);
@@ -39,10 +41,12 @@ pub fn sweep_last<F: Files>(files: &F, name: &[u8], sweep: Sweep) -> Tally
 {
     let tally = sweep.tally;
     let held = sweep.held;
-    if Tally::MOST_NAMES <= tally.names {
+    let no_more = Tally::MOST_NAMES <= tally.names;
+    if no_more {
         return tally;
     }
-    if held == 0 {
+    let none_begun = held == 0;
+    if none_begun {
         return tally;
     }
     let answer = held_answer(files, name, held);
