@@ -16,7 +16,7 @@ use tallytext_code::{BYTES, fit_tally};
 fn asks_progress<E: Env>(environment: &E) -> bool {
     let mut word = [0u8; BUFFER];
     let n = argument(environment, 1, &mut word);
-    word[..n] == *b"--progress"
+    &word[..n] == b"--progress".as_slice()
 }
 
 fn main(rt: HostRuntime) {

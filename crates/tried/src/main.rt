@@ -29,7 +29,7 @@ fn say_same<P: Print>(rt: &P, same: bool) -> io::Result<()> {
 fn say_written<P: Print>(rt: &P, set: TaskSet, text: &[u8]) -> io::Result<()> {
     let mut again = [0u8; BUFFER];
     match taskwrite_code::write(set, &mut again) {
-        Written::Bytes(n) => say_same(rt, *front(&again, n) == *text),
+        Written::Bytes(n) => say_same(rt, front(&again, n) == text),
         Written::Refused(refusal) => {
             print!(rt; "read, not written: ")?;
             say_refusal(rt, refusal)
