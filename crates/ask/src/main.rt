@@ -1,6 +1,7 @@
 // Asks a question of the task file on standard input: who runs on a processor at a tick, or does a server pass with a reserve.
 // The question stands in the arguments; what is printed is `line_for` of askwords' specs/Question.antt. Failures are told on standard error.
 #![tactic(auto)]
+
 use askwords::{Question, answer, asked};
 use refusals::Written;
 use shell::argument::{argument, has_argument};
@@ -26,8 +27,7 @@ fn question<E: Env>(environment: &E) -> Question {
 fn main(rt: HostRuntime) {
     let question = question(&rt);
     if let Question::Unclear = question {
-        let _ = eprintln!(
-            rt;
+        let _ = eprintln!(rt;
             "usage: ask who PROCESSOR TICK, or ask pass SERVER RESERVE, with a task file on standard input"
         );
         return;

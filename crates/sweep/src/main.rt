@@ -2,6 +2,7 @@
 // What is counted stands in sweeplist's specs/Swept.antt, what is printed is `tally_text` of tallytext's specs/Text.antt. A list that
 // can't be read and a report that can't be written are told on standard error, and so is progress where it is asked for.
 #![tactic(auto)]
+
 use refusals::Written;
 use shell::argument::{argument, has_argument};
 use shell::failure::tell_failure;
@@ -22,14 +23,14 @@ fn asks_progress<E: Env>(environment: &E) -> bool {
 fn main(rt: HostRuntime) {
     let progress = asks_progress(&rt);
     if has_argument(&rt, 2) || has_argument(&rt, 1) && !progress {
-        let _ = eprintln!(rt; "usage: sweep [--progress], with a list of file names on standard input");
+        let _ = eprintln!(rt;
+            "usage: sweep [--progress], with a list of file names on standard input"
+        );
         return;
     }
     let swept = sweep_list(&rt, &mut rt.stdin(), progress);
     if !swept.whole {
-        let error = swept
-            .failure
-            .unwrap_or(io::Error::other("it does not end"));
+        let error = swept.failure.unwrap_or(io::Error::other("it does not end"));
         tell_failure(&rt, "sweep: standard input", &error);
         return;
     }

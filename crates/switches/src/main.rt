@@ -1,6 +1,7 @@
 // Reads a task file on standard input and prints the switch list of its plan, or one 1F line, on standard output.
 // What it prints is `switched` of switchfile's specs/OfFile.antt. A failure to read or write is told on standard error.
 #![tactic(auto)]
+
 use refusals::Written;
 use shell::failure::tell_failure;
 use shell::front::front;

@@ -1,6 +1,7 @@
 // Reads each task file that the arguments name, good and damaged, writes it again where it was read, and prints each answer.
 // The gate holds what it prints to the file stdout, which was made by the independent program of tests/.
 #![tactic(auto)]
+
 use refusals::{Outcome, Refusal, Written};
 use shell::argument::{argument, has_argument};
 use shell::failure::tell_failure;
