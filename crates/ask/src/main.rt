@@ -3,45 +3,49 @@
 #![tactic(auto)]
 
 use askwords::{Question, answer, asked};
-use libc::{STDERR_FILENO, STDIN_FILENO, STDOUT_FILENO};
 use refusals::Written;
+use shell::argument::{argument, has_argument};
+use shell::failure::tell_failure;
 use shell::front::front;
-use shell::input::{Input, read_input};
+use shell::input::{BUFFER, Input, read_input};
+use std::env::Env;
 
-// The question in the arguments. One that is missing or too long is empty, and so unclear.
-fn question() -> Question {
-    if os::arg_count() != 4 {
+// The question in the three arguments. One that is missing or too long is empty, and so unclear.
+fn question<E: Env>(environment: &E) -> Question {
+    if !has_argument(environment, 3) || has_argument(environment, 4) {
         return Question::Unclear;
     }
-    let mut word = io::buffer();
-    let mut first = io::buffer();
-    let mut second = io::buffer();
-    let w = os::arg(1, &mut word);
-    let f = os::arg(2, &mut first);
-    let s = os::arg(3, &mut second);
+    let mut word = [0u8; BUFFER];
+    let mut first = [0u8; BUFFER];
+    let mut second = [0u8; BUFFER];
+    let w = argument(environment, 1, &mut word);
+    let f = argument(environment, 2, &mut first);
+    let s = argument(environment, 3, &mut second);
     asked(&word[..w], &first[..f], &second[..s])
 }
 
-fn main() {
-    let question = question();
+fn main(rt: HostRuntime) {
+    let question = question(&rt);
     if let Question::Unclear = question {
-        io::write_all(
-            STDERR_FILENO,
-            b"usage: ask who PROCESSOR TICK, or ask pass SERVER RESERVE, with a task file on standard input\n",
+        let _ = eprintln!(rt;
+            "usage: ask who PROCESSOR TICK, or ask pass SERVER RESERVE, with a task file on standard input"
         );
         return;
     }
-    let mut text = io::buffer();
-    let Input::Bytes(n) = read_input(STDIN_FILENO, &mut text) else {
-        os::fail(b"ask: standard input");
-        return;
+    let mut text = [0u8; BUFFER];
+    let n = match read_input(&mut rt.stdin(), &mut text) {
+        Input::Bytes(n) => n,
+        Input::Failed(error) => {
+            tell_failure(&rt, "ask: standard input", &error);
+            return;
+        }
     };
-    let mut out = io::buffer();
+    let mut out = [0u8; BUFFER];
     let Written::Bytes(k) = answer(question, front(&text, n), &mut out) else {
-        io::write_all(STDERR_FILENO, b"ask: no room for the answer\n");
+        let _ = eprintln!(rt; "ask: no room for the answer");
         return;
     };
-    if !io::write_all(STDOUT_FILENO, front(&out, k)) {
-        os::fail(b"ask: standard output");
+    if let Err(error) = rt.write_all(front(&out, k)) {
+        tell_failure(&rt, "ask: standard output", &error);
     }
 }

@@ -6,19 +6,17 @@ use mathlib.Core.List.{List}
 use native.Mathlib.Omega.{arith}
 use lib.ListN.{length, take, drop, length-drop}
 use lib.Seq.{take_all}
-use Rattle.bytes.specs.Bytes.{index_of, slice}
 use Rattle.digits.specs.Stored.{stored}
 use Rattle.frames.specs.Table.{LF}
 use Rattle.names.specs.declared.Cut.{Cut}
 use Rattle.names.specs.Names.{longest_name}
-use Rattle.names.specs.Parts.{most_held, up_to_lF, held_with, name_with, cut_of}
+use Rattle.names.specs.Parts.{most_held, index_of, up_to_lF, held_with, name_with, cut_of}
 use Rattle.names.proofs.PartLaws.{index_within, up_to_length}
 use Rattle.names.proofs.HeldLaws.{with_fits, with_none}
 
-module _ (part : List ℕ) (from : ℕ) {end : ℕ} (found : end ≡ from + index_of LF (slice from (length part) part)) where
+module _ (part : List ℕ) (from : ℕ) {end : ℕ} (found : end ≡ from + index_of LF (drop from (take (length part) part))) where
   -- the next LF of a part from a place on, or the part's end, stands behind the bytes up to it
   end_is : end ≡ from + length (up_to_lF (drop from part))
-  unfolding slice
   end_is =
       found ∙ ap (λ (l : List ℕ). from + index_of LF (drop from l)) (take_all (length part) part (omega arith))
       ∙ ap (λ (n : ℕ). from + n) (sym (up_to_length (drop from part)))

@@ -1,6 +1,6 @@
 -- Laws of a list of names that comes in parts: what the next LF cuts off, and the names of all parts are those of the whole list.
 -- Assumes nothing.
-use Prim.Native.Nat.{ℕ, suc, ◌+◌, ◌≤◌, ◌<◌}
+use Prim.Native.Nat.{ℕ, suc, ◌≤◌, ◌<◌}
 use mathlib.Core.Path.{◌≡◌, refl, sym, ◌∙◌, ap, ap₂}
 use mathlib.Core.Bool.{Bool, true, false, cond}
 use mathlib.Core.List.{List, [], ◌∷◌, ◌++◌, append_assoc, append-nil}
@@ -8,21 +8,28 @@ use native.Mathlib.Omega.{arith}
 use lib.Dec.{eqb}
 use lib.ListN.{length, drop}
 use lib.Seq.{length-take-le, take_all}
-use Rattle.bytes.specs.Bytes.{index_of, index_after}
 use Rattle.frames.specs.Table.{LF}
 use Rattle.names.specs.Names.{onto, names}
-use Rattle.names.specs.Parts.{ended, begun_by, last_name, names_in, up_to_lF}
+use Rattle.names.specs.Parts.{ended, begun_by, last_name, names_in, index_of, up_to_lF}
 use Rattle.names.specs.Claims.{whole}
 
-after_within : (t : Bool) (k n : ℕ) → k ≤ n → index_after t k ≤ suc n
-unfolding index_after
-after_within true k n h = omega arith
-after_within false k n h = omega arith
+-- a byte stands first where it is the first, and else one further than behind that
+pub index_here : (b x : ℕ) (xs : List ℕ) → eqb x b ≡ true → index_of b (x ∷ xs) ≡ 0
+unfolding index_of
+index_here b x xs e = rw e refl
+
+pub index_behind : (b x : ℕ) (xs : List ℕ) → eqb x b ≡ false → index_of b (x ∷ xs) ≡ suc (index_of b xs)
+unfolding index_of
+index_behind b x xs e = rw e (omega arith)
 
 pub index_within : (b : ℕ) (xs : List ℕ) → index_of b xs ≤ length xs
 unfolding index_of
 index_within b [] = omega arith
-index_within b (x ∷ xs) = after_within (eqb x b) (index_of b xs) (length xs) (index_within b xs)
+index_within b (x ∷ xs) = by_test (eqb x b) refl (index_within b xs)
+  where
+    by_test : (t : Bool) → eqb x b ≡ t → index_of b xs ≤ length xs → index_of b (x ∷ xs) ≤ suc (length xs)
+    by_test true e h = omega (arith, index_here b x xs e)
+    by_test false e h = omega (arith, index_behind b x xs e, h)
 
 -- the next LF stands behind the bytes up to it
 pub up_to_length : (xs : List ℕ) → length (up_to_lF xs) ≡ index_of LF xs
@@ -41,16 +48,16 @@ pub record CutAt (begun part : List ℕ) : Type 0 where
 
 cut_byte : (begun part : List ℕ) (b : ℕ) (t : Bool) → eqb b LF ≡ t → (index_of LF part < length part → CutAt (begun ++ (b ∷ [])) part)
     → index_of LF (b ∷ part) < suc (length part) → CutAt begun (b ∷ part)
-unfolding ended begun_by up_to_lF index_of index_after
+unfolding ended begun_by up_to_lF
 cut_byte begun part b true e later h = record {
-  names = rw e (ap (λ (l : List ℕ). l ∷ ended [] part) (sym (append-nil begun)));
-  rest = rw e;
+  names = rw (e, index_here LF b part e) (ap (λ (l : List ℕ). l ∷ ended [] part) (sym (append-nil begun)));
+  rest = rw (e, index_here LF b part e);
 }
 cut_byte begun part b false e later h =
-    let at = later (omega (arith, rw e at h)) in
+    let at = later (omega (arith, index_behind LF b part e)) in
     record {
-      names = rw e (at.names ∙ ap (λ (l : List ℕ). l ∷ ended [] (drop (suc (index_of LF part)) part)) (append_assoc begun (b ∷ []) (up_to_lF part)));
-      rest = rw e at.rest;
+      names = rw (e, index_behind LF b part e) (at.names ∙ ap (λ (l : List ℕ). l ∷ ended [] (drop (suc (index_of LF part)) part)) (append_assoc begun (b ∷ []) (up_to_lF part)));
+      rest = rw (e, index_behind LF b part e) at.rest;
     }
 
 pub cut_at : (begun part : List ℕ) → index_of LF part < length part → CutAt begun part
@@ -65,11 +72,11 @@ pub record NoCut (begun part : List ℕ) : Type 0 where
 
 begun_byte : (begun part : List ℕ) (b : ℕ) (t : Bool) → eqb b LF ≡ t → (index_of LF part ≡ length part → NoCut (begun ++ (b ∷ [])) part)
     → index_of LF (b ∷ part) ≡ suc (length part) → NoCut begun (b ∷ part)
-unfolding ended begun_by up_to_lF index_of index_after
-begun_byte begun part b true e later h = absurd (omega (arith, rw e at h))
+unfolding ended begun_by up_to_lF
+begun_byte begun part b true e later h = absurd (omega (arith, index_here LF b part e))
 begun_byte begun part b false e later h =
-    let all = later (omega (arith, rw e at h)) in
-    record { names = rw e all.names; rest = rw e (all.rest ∙ append_assoc begun (b ∷ []) (up_to_lF part)) }
+    let all = later (omega (arith, index_behind LF b part e)) in
+    record { names = rw e all.names; rest = rw (e, index_behind LF b part e) (all.rest ∙ append_assoc begun (b ∷ []) (up_to_lF part)) }
 
 pub no_cut : (begun part : List ℕ) → index_of LF part ≡ length part → NoCut begun part
 unfolding ended begun_by up_to_lF index_of

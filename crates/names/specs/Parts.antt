@@ -1,7 +1,7 @@
 -- A list of names that comes in parts, wherever these are cut: which names end in a part, what is begun behind it, and what is held of that.
 -- Document 02, Req 03 (RULES 9).
 use Rattle.std.specs.Prelude.{ℕ, ◌+◌, ◌≤◌, min, List, [], ◌∷◌, ◌++◌, ◌≡◌, cond, eqb, leb, length, take, drop}
-use Rattle.bytes.specs.Bytes.{index_of}
+use Rattle.std.specs.List.{position_or_len}
 use Rattle.digits.specs.Stored.{stored}
 use Rattle.frames.specs.Table.{LF}
 use Rattle.names.specs.Names.{longest_name}
@@ -36,6 +36,10 @@ pub record Holds (begun name : List ℕ) (held : ℕ) : Type 0 where
   pub room : length name ≡ longest_name
   pub count : held ≡ min (length begun) most_held
   pub bytes : length begun ≤ longest_name → take (length begun) name ≡ begun
+
+-- where a byte stands first, or how many bytes there are where it stands nowhere
+unfoldable pub index_of : (b : ℕ) → List ℕ → ℕ
+index_of b xs = position_or_len (λ (x : ℕ). eqb x b) xs
 
 -- the bytes up to the next LF, or all where there is none
 unfoldable pub up_to_lF : List ℕ → List ℕ

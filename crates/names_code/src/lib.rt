@@ -1,11 +1,10 @@
 // The names of a list that comes in parts: the name at hand, cut at the next LF. What it means stands in names/specs/Parts.antt.
 #![tactic(auto)]
 
-ghost use Rattle.std.specs.Prelude.{◌≡◌, ◌≤◌, length, drop};
+ghost use Rattle.std.specs.Prelude.{◌≡◌, ◌+◌, ◌≤◌, length, take, drop};
 ghost use Rattle.names.specs.Names.{longest_name};
-ghost use Rattle.names.specs.Parts.{most_held, up_to_lF, name_with, cut_of};
+ghost use Rattle.names.specs.Parts.{most_held, index_of, up_to_lF, name_with, cut_of};
 
-use bytes::scan::find;
 use fieldwrite::put_bytes;
 use names::Cut;
 
@@ -13,6 +12,20 @@ use names::Cut;
 pub const LONGEST_NAME: usize = 255;
 
 const MOST_HELD: usize = LONGEST_NAME + 1;
+
+// Where a byte stands first from a place on, before an end, or else that end.
+pub fn find(bytes: &[u8], from: usize, end: usize, byte: u8) -> usize
+    requires { (from ≤ end) × (end ≤ length bytes.now) }
+    ensures place { result ≡ from + index_of byte (drop from (take end bytes.now)) }
+    ensures within { (from ≤ result) × (result ≤ end) }
+{
+    for at in from..end {
+        if bytes[at] == byte {
+            return at;
+        }
+    }
+    end
+}
 
 // Cuts the name at hand at the next LF, and holds its bytes.
 pub fn cut_name(part: &[u8], from: usize, name: &mut [u8], held: usize) -> Cut
@@ -22,7 +35,8 @@ pub fn cut_name(part: &[u8], from: usize, name: &mut [u8], held: usize) -> Cut
 {
     let end = find(part, from, part.len(), b'\n');
     let more = end - from;
-    if LONGEST_NAME < held + more {
+    let too_long = LONGEST_NAME < held + more;
+    if too_long {
         return Cut {
             end,
             held: MOST_HELD,

@@ -2,23 +2,26 @@
 // What it prints is `answered` of planfile's specs/Tool.antt. A failure to read or write is told on standard error.
 #![tactic(auto)]
 
-use libc::{STDERR_FILENO, STDIN_FILENO, STDOUT_FILENO};
 use refusals::Written;
+use shell::failure::tell_failure;
 use shell::front::front;
-use shell::input::{Input, read_input};
+use shell::input::{BUFFER, Input, read_input};
 
-fn main() {
-    let mut text = io::buffer();
-    let Input::Bytes(n) = read_input(STDIN_FILENO, &mut text) else {
-        os::fail(b"rota: standard input");
-        return;
+fn main(rt: HostRuntime) {
+    let mut text = [0u8; BUFFER];
+    let n = match read_input(&mut rt.stdin(), &mut text) {
+        Input::Bytes(n) => n,
+        Input::Failed(error) => {
+            tell_failure(&rt, "rota: standard input", &error);
+            return;
+        }
     };
-    let mut out = io::buffer();
+    let mut out = [0u8; BUFFER];
     let Written::Bytes(k) = planfile_code::answer(front(&text, n), &mut out) else {
-        io::write_all(STDERR_FILENO, b"rota: no room for the plan\n");
+        let _ = eprintln!(rt; "rota: no room for the plan");
         return;
     };
-    if !io::write_all(STDOUT_FILENO, front(&out, k)) {
-        os::fail(b"rota: standard output");
+    if let Err(error) = rt.write_all(front(&out, k)) {
+        tell_failure(&rt, "rota: standard output", &error);
     }
 }

@@ -1,34 +1,42 @@
-// An input, by its descriptor, into a lent buffer. One that ends is told apart from a read that fails.
-// No contract can say which bytes are read: what is said is that the count lies within the buffer.
+// An input into a lent buffer. One that ends is told apart from a read that fails.
+// No contract can say which bytes a file or a terminal gives: what is said is that the count lies within the buffer, and of a reader
+// that knows its bytes, which of them were read.
 ghost use Rattle.std.specs.Prelude.{length};
-ghost use Rattle.shell.specs.Within.{Within};
+ghost use Rattle.shell.specs.Within.{Within, Reads, ReadsAll};
+
+use std::io;
+use std::io::Read;
+
+// How many bytes a buffer of the programs has.
+pub const BUFFER: usize = 4096;
 
 #[derive(Clone, Copy)]
 pub enum Input {
     Bytes(usize),
-    Failed,
+    Failed(io::Error),
 }
 
 // One read. No bytes: the input has ended.
-pub fn read_some(fd: i32, buf: &mut [u8]) -> Input
-    ensures { Within result (length buf.old) }
+pub fn read_some<R: Read>(input: &mut R, buf: &mut [u8]) -> Input
+    ensures within { Within result (length buf.old) }
+    ensures bytes { Reads (R.remaining input.old) (R.remaining input.new) result buf.new }
 {
-    let got = libc::read(fd, buf);
-    if got < 0 {
-        return Input::Failed;
+    match input.read(buf) {
+        Ok(n) => Input::Bytes(n),
+        Err(error) => Input::Failed(error),
     }
-    let n = io::count(got, buf);
-    Input::Bytes(n)
 }
 
 // Reads until the buffer is full, the input ends or a read fails.
-pub fn read_input(fd: i32, buf: &mut [u8]) -> Input
-    ensures { Within result (length buf.old) }
+pub fn read_input<R: Read>(input: &mut R, buf: &mut [u8]) -> Input
+    ensures within { Within result (length buf.old) }
+    ensures bytes { ReadsAll (R.remaining input.old) (R.remaining input.new) result buf.new }
 {
     let mut done: usize = 0;
     while done < buf.len() {
-        let Input::Bytes(more) = read_some(fd, &mut buf[done..]) else {
-            return Input::Failed;
+        let more = match read_some(input, &mut buf[done..]) {
+            Input::Bytes(more) => more,
+            Input::Failed(error) => return Input::Failed(error),
         };
         if more == 0 {
             return Input::Bytes(done);

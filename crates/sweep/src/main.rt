@@ -3,40 +3,43 @@
 // can't be read and a report that can't be written are told on standard error, and so is progress where it is asked for.
 #![tactic(auto)]
 
-use libc::{STDERR_FILENO, STDIN_FILENO, STDOUT_FILENO};
 use refusals::Written;
+use shell::argument::{argument, has_argument};
+use shell::failure::tell_failure;
 use shell::front::front;
+use shell::input::BUFFER;
+use std::env::Env;
+use std::io;
 use sweeplist::sweep_list;
 use tallytext_code::{BYTES, fit_tally};
 
 // Whether the first argument asks for progress.
-fn asks_progress() -> bool {
-    let mut word = io::buffer();
-    let n = os::arg(1, &mut word);
-    check::same(&word[..n], b"--progress")
+fn asks_progress<E: Env>(environment: &E) -> bool {
+    let mut word = [0u8; BUFFER];
+    let n = argument(environment, 1, &mut word);
+    &word[..n] == b"--progress".as_slice()
 }
 
-fn main() {
-    let words = os::arg_count();
-    let progress = asks_progress();
-    if words > 2 || words == 2 && !progress {
-        io::write_all(
-            STDERR_FILENO,
-            b"usage: sweep [--progress], with a list of file names on standard input\n",
+fn main(rt: HostRuntime) {
+    let progress = asks_progress(&rt);
+    if has_argument(&rt, 2) || has_argument(&rt, 1) && !progress {
+        let _ = eprintln!(rt;
+            "usage: sweep [--progress], with a list of file names on standard input"
         );
         return;
     }
-    let swept = sweep_list(STDIN_FILENO, progress);
+    let swept = sweep_list(&rt, &mut rt.stdin(), progress);
     if !swept.whole {
-        os::fail(b"sweep: standard input");
+        let error = swept.failure.unwrap_or(io::Error::other("it does not end"));
+        tell_failure(&rt, "sweep: standard input", &error);
         return;
     }
     let mut out = [0u8; BYTES];
     let Written::Bytes(k) = fit_tally(swept.tally, &mut out) else {
-        io::write_all(STDERR_FILENO, b"sweep: no room for the report\n");
+        let _ = eprintln!(rt; "sweep: no room for the report");
         return;
     };
-    if !io::write_all(STDOUT_FILENO, front(&out, k)) {
-        os::fail(b"sweep: standard output");
+    if let Err(error) = rt.write_all(front(&out, k)) {
+        tell_failure(&rt, "sweep: standard output", &error);
     }
 }

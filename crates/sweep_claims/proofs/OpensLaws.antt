@@ -1,7 +1,7 @@
 -- Laws of names that may be opened: by their length, and by a NUL among their bytes.
 -- Assumes nothing.
 use Prim.Native.Nat.{ℕ, zero, suc, ◌≤◌, ◌<◌}
-use mathlib.Core.Path.{◌≡◌, refl, ap}
+use mathlib.Core.Path.{◌≡◌, refl, ap, ◌∙◌}
 use mathlib.Core.Bool.{Bool, true, false}
 use mathlib.Core.List.{List, [], ◌∷◌}
 use native.Mathlib.Omega.{arith}
@@ -9,8 +9,9 @@ use lib.Dec.{eqb, leb, ltb}
 use lib.ListN.{length, get_or}
 use borrow.Author.Tests.{le-leb, lt-ltb, eq-eqb, leb-true, eqb-true, eqb-false}
 use Rattle.laws.proofs.Tests.{and_both, and_parts, never_true}
-use Rattle.bytes.specs.Bytes.{index_of, index_after}
 use Rattle.names.specs.Names.{longest_name}
+use Rattle.names.specs.Parts.{index_of}
+use Rattle.names.proofs.PartLaws.{index_here, index_behind}
 use Rattle.sweepfile.specs.Answered.{opens}
 
 -- a name that may be opened has from 1 to 255 bytes
@@ -23,25 +24,24 @@ opens_says name e =
 
 -- where none is found none stands
 no_byte : (b : ℕ) (xs : List ℕ) (other : ℕ) → index_of b xs ≡ length xs → (i : ℕ) → i < length xs → get_or xs i other ≡ b → ⊥
-unfolding index_of index_after
 no_byte b [] other e i h f = omega arith
 no_byte b (x ∷ xs) other e i h f = by_test (eqb x b) refl e i h f (no_byte b xs other)
   where
-    by_test : (t : Bool) → eqb x b ≡ t → index_after t (index_of b xs) ≡ suc (length xs) → (i : ℕ) → i < suc (length xs) → get_or (x ∷ xs) i other ≡ b
+    by_test : (t : Bool) → eqb x b ≡ t → index_of b (x ∷ xs) ≡ suc (length xs) → (i : ℕ) → i < suc (length xs) → get_or (x ∷ xs) i other ≡ b
         → (index_of b xs ≡ length xs → (j : ℕ) → j < length xs → get_or xs j other ≡ b → ⊥) → ⊥
-    by_test true t e i h f later = omega arith
+    by_test true t e i h f later = omega (arith, e, index_here b x xs t)
     by_test false t e zero h f later = eqb-false x b t f
-    by_test false t e (suc i) h f later = later (omega arith) i (omega arith) f
+    by_test false t e (suc i) h f later = later (omega (arith, e, index_behind b x xs t)) i (omega arith) f
 
 -- and where none stands none is found
 not_found : (b : ℕ) (xs : List ℕ) (other : ℕ) → ((i : ℕ) → i < length xs → get_or xs i other ≡ b → ⊥) → index_of b xs ≡ length xs
-unfolding index_of index_after
+unfolding index_of
 not_found b [] other none = refl
 not_found b (x ∷ xs) other none = by_test (eqb x b) refl (not_found b xs other (λ i h. none (suc i) (omega arith)))
   where
-    by_test : (t : Bool) → eqb x b ≡ t → index_of b xs ≡ length xs → index_after t (index_of b xs) ≡ suc (length xs)
+    by_test : (t : Bool) → eqb x b ≡ t → index_of b xs ≡ length xs → index_of b (x ∷ xs) ≡ suc (length xs)
     by_test true t e = absurd (none 0 (omega arith) (eqb-true x b t))
-    by_test false t e = ap suc e
+    by_test false t e = index_behind b x xs t ∙ ap suc e
 
 pub too_long : (name : List ℕ) → longest_name < length name → opens name ≡ false
 too_long name h = never_true (opens name) (λ e. omega (arith, (opens_says name e).0))

@@ -9,9 +9,8 @@ use native.Mathlib.Omega.{arith}
 use lib.ListN.{length, take}
 use borrow.Author.Tests.{le-leb, lt-ltb, eq-eqb}
 use Rattle.laws.proofs.Tests.{clash, and_both}
-use Rattle.bytes.specs.Bytes.{index_of, slice}
 use Rattle.names.specs.Names.{longest_name}
-use Rattle.names.specs.Parts.{Holds}
+use Rattle.names.specs.Parts.{Holds, index_of}
 use Rattle.names.proofs.PartLaws.{index_within}
 use Rattle.names.proofs.HeldLaws.{held_all}
 use Rattle.tally.specs.declared.Answer.{Answer}
@@ -23,9 +22,9 @@ pub not_opened : (room : List ℕ) (held : ℕ) → AnsweredHeld room held Unope
 not_opened room held name so = record { unopened = λ e. refl; file = inl refl }
 
 -- all of it is held, it is not empty, and no NUL was found in it: it may be opened
-module _ (room : List ℕ) (held : ℕ) {found : ℕ} (is : found ≡ 0 + index_of 0 (slice 0 held room)) (some : 1 ≤ held) (short : held ≤ longest_name) (none : held ≤ found) where
+module _ (room : List ℕ) (held : ℕ) {found : ℕ} (is : found ≡ 0 + index_of 0 (take held room)) (some : 1 ≤ held) (short : held ≤ longest_name) (none : held ≤ found) where
   may_open : {name : List ℕ} → Holds name room held → opens name ≡ true
-  unfolding opens slice
+  unfolding opens
   may_open {name} so =
       let long : held ≡ length name = omega (arith, so.count) in
       let all : index_of 0 (take held room) ≡ index_of 0 name = ap (index_of 0) (held_all so short) in

@@ -1,9 +1,8 @@
 -- What became of a name: it is not opened, or its file's bytes are read and planned.
 -- Document 02, Req 03 (RULES 9). Which bytes a file has no contract can say: there are some.
 use Rattle.std.specs.Prelude.{ℕ, List, [], ◌∷◌, ◌⊎◌, ◌≡◌, Bool, false, ◌&&◌, eqb, leb, ltb, length}
-use Rattle.bytes.specs.Bytes.{index_of}
 use Rattle.names.specs.Names.{longest_name}
-use Rattle.names.specs.Parts.{Holds}
+use Rattle.names.specs.Parts.{Holds, index_of}
 use Rattle.tally.specs.declared.Answer.{Answer}
 use Rattle.tally.specs.declared.Answer.TheVariants.{Unopened, Filed}
 use Rattle.taskplan.specs.File.{filed_of}

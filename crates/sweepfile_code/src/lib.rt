@@ -5,24 +5,27 @@ ghost use Rattle.std.specs.Prelude.{◌≡◌, length};
 ghost use Rattle.names.specs.Names.{longest_name};
 ghost use Rattle.sweepfile.specs.Answered.{OfFile, AnsweredHeld};
 
-use bytes::scan::find;
-use names_code::LONGEST_NAME;
+use names_code::{LONGEST_NAME, find};
 use shell::front::front;
-use shell::input::{Input, read_input};
+use shell::input::{BUFFER, Input, read_input};
+use std::fs::{Files, open};
+use std::str::from_utf8;
 use tally::Answer;
 use taskplan_code::outcome_of;
 
-// The answer of the file at a path, read as the program `rota` reads its input.
-fn file_answer(path: &[u8]) -> Answer
+// The answer of the file at a path, read as the program `rota` reads its input. A path is text: bytes that are none name no file.
+fn file_answer<F: Files>(files: &F, path: &[u8]) -> Answer
     ensures { OfFile result }
 {
-    let fd = os::open_read(path);
-    if fd < 0 {
+    let Ok(path) = from_utf8(path) else {
         return Answer::Unopened;
-    }
-    let mut text = io::buffer();
-    let input = read_input(fd, &mut text);
-    libc::close(fd);
+    };
+    let Ok(mut file) = open(files, path) else {
+        return Answer::Unopened;
+    };
+    let mut text = [0u8; BUFFER];
+    let input = read_input(&mut file, &mut text);
+    drop(file);
     let Input::Bytes(n) = input else {
         return Answer::Unopened;
     };
@@ -31,7 +34,7 @@ fn file_answer(path: &[u8]) -> Answer
 }
 
 // The answer of the name of which so many bytes are held.
-pub fn held_answer(name: &[u8], held: usize) -> Answer
+pub fn held_answer<F: Files>(files: &F, name: &[u8], held: usize) -> Answer
     requires { length name.now ≡ longest_name }
     ensures { AnsweredHeld name.now held result }
 {
@@ -44,5 +47,5 @@ pub fn held_answer(name: &[u8], held: usize) -> Answer
     if find(name, 0, held, 0) < held {
         return Answer::Unopened;
     }
-    file_answer(&name[..held])
+    file_answer(files, &name[..held])
 }

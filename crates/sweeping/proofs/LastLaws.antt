@@ -26,6 +26,10 @@ counts_nothing tally = counts_none [] tally (take_all (most_names - tally.names)
 none_taken : {A : Type 0} (n : ℕ) (xs : List A) → n ≡ 0 → take n xs ≡ []
 none_taken n xs e = ap (λ (k : ℕ). take k xs) e
 
+-- nor any, once as many names were counted as are read
+pub counts_full : (names : List (List ℕ)) (tally : Tally) → most_names ≤ tally.names → Counts names tally tally
+counts_full names tally full = counts_none names tally (none_taken (most_names - tally.names) names (omega arith))
+
 last_empty : (begun : List ℕ) → length begun ≡ 0 → last_name begun ≡ []
 last_empty [] e = refl
 last_empty (b ∷ begun) e = absurd (omega arith)

@@ -7,9 +7,8 @@ use native.Mathlib.Omega.{arith}
 use native.Mathlib.Numerals.{unary_clauses}
 use lib.ListN.{length, take, drop, length-drop}
 use lib.Seq.{take_all, take-append_seam, drop-drop}
-use Rattle.bytes.specs.Bytes.{index_of}
 use Rattle.frames.specs.Table.{LF}
-use Rattle.names.specs.Parts.{Holds, ended, begun_by, up_to_lF, held_with, name_with}
+use Rattle.names.specs.Parts.{Holds, ended, begun_by, index_of, up_to_lF, held_with, name_with}
 use Rattle.names.proofs.PartLaws.{up_to_length, cut_at, no_cut}
 use Rattle.names.proofs.HeldLaws.{holds_none, holds_with}
 use Rattle.tally.specs.declared.Answer.{Answer}

@@ -4,13 +4,14 @@
 ghost use Rattle.sweeping.specs.Sweeping.{Sweeping, Sweeps, Ends};
 
 use names_code::cut_name;
+use std::fs::Files;
 use sweepfile_code::held_answer;
 use sweeping::Sweep;
 use tally::Tally;
 use tally_code::counted;
 
 // Counts the names that end in a part.
-pub fn sweep_part(part: &[u8], name: &mut [u8], sweep: Sweep) -> Sweep
+pub fn sweep_part<F: Files>(files: &F, part: &[u8], name: &mut [u8], sweep: Sweep) -> Sweep
     requires { Sweeping name.old sweep }
     ensures { Sweeps part.now name.old sweep name.new result }
 {
@@ -21,10 +22,11 @@ pub fn sweep_part(part: &[u8], name: &mut [u8], sweep: Sweep) -> Sweep
         let cut = cut_name(part, at, name, held);
         held = cut.held;
         let end = cut.end;
-        if end == part.len() {
+        let part_ends = end == part.len();
+        if part_ends {
             return Sweep { held, tally };
         }
-        let answer = held_answer(name, held);
+        let answer = held_answer(files, name, held);
         tally = counted(tally, answer);
         held = 0;
         at = end + 1;
@@ -33,18 +35,20 @@ pub fn sweep_part(part: &[u8], name: &mut [u8], sweep: Sweep) -> Sweep
 }
 
 // Counts the name that the list's end ends, where there is one.
-pub fn sweep_last(name: &[u8], sweep: Sweep) -> Tally
+pub fn sweep_last<F: Files>(files: &F, name: &[u8], sweep: Sweep) -> Tally
     requires { Sweeping name.now sweep }
     ensures { Ends name.now sweep result }
 {
     let tally = sweep.tally;
     let held = sweep.held;
-    if Tally::MOST_NAMES <= tally.names {
+    let no_more = Tally::MOST_NAMES <= tally.names;
+    if no_more {
         return tally;
     }
-    if held == 0 {
+    let none_begun = held == 0;
+    if none_begun {
         return tally;
     }
-    let answer = held_answer(name, held);
+    let answer = held_answer(files, name, held);
     counted(tally, answer)
 }
