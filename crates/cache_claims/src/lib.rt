@@ -1,3 +1,2 @@
 // What is claimed of cache costs by task. No code.
 #![tactic(auto)]
-

@@ -2,7 +2,6 @@
 // Types, definitions and laws; the code stands in switchline_code.
 #![tactic(auto)]
 
-
 // Where the line of a switch ends, and what is carried past it: the server that begins, and until when it runs.
 #[derive(Clone, Copy)]
 pub struct Switched {

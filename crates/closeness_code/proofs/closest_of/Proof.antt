@@ -29,10 +29,9 @@ use Rattle.closeness_code.proofs.closest_of.Tie as tie
 abbrev asking : tie.Start → ℕ → ℕ
 asking s = asked s.args.loads.now s.args.n
 
-first-asked-requires : tie.Need-first-asked-requires
-first-asked-requires c κs =
-    let s = c.before in
-    (s.requires.0, own_first (loads_of s.args.loads.now s.args.n) s.requires.1.1.0 s.requires.0.loads.sound)
+first_asked-first-requires : tie.Need-first_asked-first-requires
+first_asked-first-requires c κs =
+    (c.requires.0, own_first (loads_of c.args.loads.now c.args.n) c.requires.1.1.0 c.requires.0.loads.sound)
 
 -- where nothing is asked up to hi there is no closest
 nothing : (s : tie.Start) → ((x : ℕ) → x ≤ s.args.hi → asking s x ≡ 0) → (x : ℕ) → x ≤ s.args.hi → gaining s.args.gain (asking s) x ≡ 0
@@ -43,34 +42,34 @@ nothing s none x h =
     (λ y b. omega (arith, asked_above s.args.loads.now s.args.n s.requires.0 y, none y b)) in
     gaining_after s.args.gain x (asking s) (omega arith) ∙ none x h
 
-returns : tie.Need-returns
-returns c =
+returns-then-first-eq0 : tie.Need-returns-then-first-eq0
+returns-then-first-eq0 c =
     let s = c.before.before.before in
     let a = s.args in
-    closest_none a.gain (asking s) a.slot a.gap a.hi (nothing s (λ x h. c.before.first-asked.ensures.never c.if1.true x))
+    closest_none a.gain (asking s) a.slot a.gap a.hi (nothing s (λ x h. c.first_asked-first.ensures.never c.if-first-eq0.true x))
 
-returns-2 : tie.Need-returns-2
-returns-2 c =
+returns-then-hi-first : tie.Need-returns-then-hi-first
+returns-then-hi-first c =
     let f = c.before.before in
     let s = f.before.before in
     let a = s.args in
-    closest_none a.gain (asking s) a.slot a.gap a.hi (nothing s (λ x h. f.first-asked.ensures.none x (omega (arith, c.if2.true))))
+    closest_none a.gain (asking s) a.slot a.gap a.hi (nothing s (λ x h. f.first_asked-first.ensures.none x (omega (arith, c.if-hi-first.true))))
 
 -- past these tests there is a first length, up to hi
-abbrev start : tie.Else2 → tie.Start
+abbrev start : tie.Else-hi-first → tie.Start
 start c = c.before.before.before.before
 
-abbrev first : tie.Else2 → ℕ
-first c = c.before.before.first-asked.result
+abbrev first : tie.Else-hi-first → ℕ
+first c = c.first_asked-first.result
 
-begins : (c : tie.Else2) → Begins (asking (start c)) (first c)
-begins c = c.before.before.first-asked.ensures
+begins : (c : tie.Else-hi-first) → Begins (asking (start c)) (first c)
+begins c = c.first_asked-first.ensures
 
-some : (c : tie.Else2) → 1 ≤ first c
-some c = omega (arith, c.before.if1.false)
+some : (c : tie.Else-hi-first) → 1 ≤ first c
+some c = omega (arith, c.if-first-eq0.false)
 
-within : (c : tie.Else2) → first c ≤ (start c).args.hi
-within c = omega (arith, c.if2.false)
+within : (c : tie.Else-hi-first) → first c ≤ (start c).args.hi
+within c = omega (arith, c.if-hi-first.false)
 
 -- what `closest` asks of a range that ends at b
 searched : (s : tie.Start) (b : ℕ) → b ≤ s.args.hi → Searched s.args.slot s.args.gap 0 b
@@ -82,81 +81,81 @@ closest-requires c κs =
     let e = c.before.before in
     let s = start e in
     let a = s.args in
-    (s.pre.0, (s.pre.1.0, ((begins_steps (begins e) (some e), within e), plain_covered a.gain (asking s) a.slot a.gap a.hi s.pre.1.1.1 _ a.hi (omega arith))))
+    (s.requires.0, (s.requires.1.0, ((begins_steps (begins e) (some e), within e), plain_covered a.gain (asking s) a.slot a.gap a.hi s.requires.1.1.1 _ a.hi (omega arith))))
 
-returns-3 : tie.Need-returns-3
-returns-3 c =
+returns-then-not-gains : tie.Need-returns-then-not-gains
+returns-then-not-gains c =
     let g = c.before.before in
     let e = g.before in
     let s = start e in
     let a = s.args in
-    closest_ungained a.gain (asking s) a.slot a.gap a.hi (begins e) (some e) (within e) (sym g.gains.ensures ∙ not-true _ c.before.if3.true) c.closest.ensures
+    closest_ungained a.gain (asking s) a.slot a.gap a.hi (begins e) (some e) (within e) (sym g.gains.ensures ∙ not-true _ c.if-not-gains.true-raw) c.closest.ensures
 
 -- past the third test some length gains
-gained : (c : tie.Else3) → gains_some (start c.before.before).args.gain ≡ true
-gained c = sym c.before.gains.ensures ∙ not-false _ c.if3.false
+gained : (c : tie.Else-not-gains) → gains_some (start c.before.before).args.gain ≡ true
+gained c = sym c.gains.ensures ∙ not-false _ c.if-not-gains.false-raw
 
-gain-steps : (c : tie.Else3) → let s = start c.before.before in steps (asking s) s.args.gain.from ≡ true
+gain-steps : (c : tie.Else-not-gains) → let s = start c.before.before in steps (asking s) s.args.gain.from ≡ true
 gain-steps c =
     let s = start c.before.before in
-    from_steps s.args.loads.now s.args.n s.pre.0 s.pre.1.1.0
-    (gains_there (loads_of s.args.loads.now s.args.n) s.pre.1.1.0 (gained c))
+    from_steps s.args.loads.now s.args.n s.requires.0 s.requires.1.1.0
+    (gains_there (loads_of s.args.loads.now s.args.n) s.requires.1.1.0 (gained c))
 
-closest-gained-requires : tie.Need-closest-gained-requires
-closest-gained-requires c κs =
+closest_gained-late-requires : tie.Need-closest_gained-late-requires
+closest_gained-late-requires c κs =
     let s = start c.before.before in
-    (s.pre.0, (s.pre.1.0, ((s.pre.1.1.0, gained c), s.pre.1.1.1)))
+    (s.requires.0, (s.requires.1.0, ((s.requires.1.1.0, gained c), s.requires.1.1.1)))
 
 -- the closest from the gain on
-late-at : (c : tie.After-closest-gained) → let s = start c.before.before.before in let a = s.args in
-    LeastFrom (steps (gaining a.gain (asking s))) (slack_past (gaining a.gain (asking s)) a.slot a.gap) a.gain.from a.hi c.closest-gained.result
+late-at : (c : tie.After-closest_gained-late) → let s = start c.before.before.before in let a = s.args in
+    LeastFrom (steps (gaining a.gain (asking s))) (slack_past (gaining a.gain (asking s)) a.slot a.gap) a.gain.from a.hi c.closest_gained-late.result
 late-at c =
     let e = c.before in
     let t = e.before.before in
     let s = start t in
     let a = s.args in
-    late_least a.gain (asking s) a.slot a.gap a.hi (begins t) (some t) s.pre.1.1.0.due (gain-steps e) (gained e) s.pre.1.1.1 c.closest-gained.ensures
+    late_least a.gain (asking s) a.slot a.gap a.hi (begins t) (some t) s.requires.1.1.0.due (gain-steps e) (gained e) s.requires.1.1.1 c.closest_gained-late.ensures
 
-returns-4 : tie.Need-returns-4
-returns-4 c =
+returns-then-from-first : tie.Need-returns-then-from-first
+returns-then-from-first c =
     let e = c.before.before in
     let t = e.before.before in
     let s = start t in
     let a = s.args in
-    let alone : a.gain.from ≤ first t = omega (arith, c.if4.true) in
-    late_alone a.gain (asking s) a.slot a.gap a.hi (begins t) (some t) s.pre.1.1.0.due (gain-steps e) (gained e) s.pre.1.1.1 c.before.closest-gained.ensures alone
+    let alone : a.gain.from ≤ first t = omega (arith, c.if-from-first.true) in
+    late_alone a.gain (asking s) a.slot a.gap a.hi (begins t) (some t) s.requires.1.1.0.due (gain-steps e) (gained e) s.requires.1.1.1 c.closest_gained-late.ensures alone
 
 -- past the fourth something is asked before the gain
-before-gain : (c : tie.Else4) → let t = c.before.before.before.before in first t < (start t).args.gain.from
-before-gain c = omega (arith, c.if4.false)
+before-gain : (c : tie.Else-from-first) → let t = c.before.before.before.before in first t < (start t).args.gain.from
+before-gain c = omega (arith, c.if-from-first.false)
 
-sub-closest : tie.Need-overflow-sub-closest
-sub-closest c = omega (arith, before-gain c)
+overflow_sub-from : tie.Need-overflow_sub-from
+overflow_sub-from c = omega (arith, before-gain c)
 
 -- the gain's ends lie within hi
-inside : (c : tie.Else3) → (start c.before.before).args.gain.from ≤ (start c.before.before).args.hi
+inside : (c : tie.Else-not-gains) → (start c.before.before).args.gain.from ≤ (start c.before.before).args.hi
 inside c =
     let s = start c.before.before in
-    omega (arith, (gains_somewhere s.args.gain (gained c)).1, s.pre.1.1.0.due)
+    omega (arith, (gains_somewhere s.args.gain (gained c)).1, s.requires.1.1.0.due)
 
-closest-requires-2 : tie.Need-closest-requires-2
-closest-requires-2 c κs =
+closest-early-requires : tie.Need-closest-early-requires
+closest-early-requires c κs =
     let e = c.before.before in
     let t = e.before.before in
     let s = start t in
     let a = s.args in
-    (s.pre.0, (searched s _ (omega (arith, inside e)), ((begins_steps (begins t) (some t), omega (arith, before-gain c)), plain_covered a.gain (asking s) a.slot a.gap a.hi s.pre.1.1.1 _ _ (omega (arith, inside e)))))
+    (s.requires.0, (searched s _ (omega (arith, inside e)), ((begins_steps (begins t) (some t), omega (arith, before-gain c)), plain_covered a.gain (asking s) a.slot a.gap a.hi s.requires.1.1.1 _ _ (omega (arith, inside e)))))
 
 -- the closest before it
-early-at : (c : tie.After-closest2) → let t = c.before.before.before.before.before in let s = start t in let a = s.args in
-    LeastFrom (steps (asking s)) (slack_past (asking s) a.slot a.gap) (first t) (a.gain.from - 1) c.closest2.result
+early-at : (c : tie.After-closest-early) → let t = c.before.before.before.before.before in let s = start t in let a = s.args in
+    LeastFrom (steps (asking s)) (slack_past (asking s) a.slot a.gap) (first t) (a.gain.from - 1) c.closest-early.result
 early-at c =
     let l = c.before.before in
     let e = l.before in
     let t = e.before.before in
     let s = start t in
     let a = s.args in
-    early_plain a.gain (asking s) a.slot a.gap a.hi (begins t) (some t) s.pre.1.1.0.due (gain-steps e) (gained e) s.pre.1.1.1 l.closest-gained.ensures (before-gain c.before) c.closest2.ensures
+    early_plain a.gain (asking s) a.slot a.gap a.hi (begins t) (some t) s.requires.1.1.0.due (gain-steps e) (gained e) s.requires.1.1.1 l.closest_gained-late.ensures (before-gain c.before) c.closest-early.ensures
 
 -- what is asked without the gain is met
 met_at : (s : tie.Start) (x : ℕ) → 1 ≤ x → x ≤ s.args.hi → asking s x ≤ supply_past s.args.slot s.args.gap x
@@ -170,24 +169,24 @@ spare-requires c κs =
     let t = e.before.before in
     let s = start t in
     let early = early-at c in
-    let low : c.closest2.result ≤ s.args.hi = omega (arith, early.within, inside e) in
-    (s.pre.0, (searched s c.closest2.result low, met_at s c.closest2.result (omega (arith, early.begins, some t)) low))
+    let low : c.closest-early.result ≤ s.args.hi = omega (arith, early.within, inside e) in
+    (s.requires.0, (searched s c.closest-early.result low, met_at s c.closest-early.result (omega (arith, early.begins, some t)) low))
 
-add-room : tie.Need-overflow-add-room
+overflow_add-room : tie.Need-overflow_add-room
 unfolding slack_past
-add-room c =
+overflow_add-room c =
     let p = c.before.before in
     let e = p.before.before.before in
     let s = start e.before.before in
     let gained : c.at.result ≤ s.args.gain.extra = rw c.at.ensures (gain_most _ _) in
     omega (
       arith,
-      c.before.spare.ensures,
+      c.spare.ensures,
       (early-at p).within,
       inside e,
-      s.pre.1.0.small,
-      s.pre.1.1.0.small_extra,
-      supply_within s.args.slot s.args.gap p.closest2.result,
+      s.requires.1.0.small,
+      s.requires.1.1.0.small_extra,
+      supply_within s.args.slot s.args.gap p.closest-early.result,
     )
 
 spare-requires-2 : tie.Need-spare-requires-2
@@ -196,62 +195,62 @@ spare-requires-2 c κs =
     let t = l.before.before.before in
     let s = start t in
     let late = late-at l in
-    (s.pre.0, (searched s l.closest-gained.result late.within, met_at s l.closest-gained.result (omega (arith, late.begins, before-gain c.before.before.before)) late.within))
+    (s.requires.0, (searched s l.closest_gained-late.result late.within, met_at s l.closest_gained-late.result (omega (arith, late.begins, before-gain c.before.before.before)) late.within))
 
 -- what the two have to spare decides
-module _ (c : tie.After-spare2) where
-  abbrev earlier : tie.After-closest2
+module _ (c : tie.After-spare-2) where
+  abbrev earlier : tie.After-closest-early
   earlier = c.before.before.before
 
-  abbrev later : tie.After-closest-gained
+  abbrev later : tie.After-closest_gained-late
   later = earlier.before.before
 
-  abbrev past : tie.Else3
+  abbrev past : tie.Else-not-gains
   past = later.before
 
-  abbrev tested : tie.Else2
+  abbrev tested : tie.Else-hi-first
   tested = past.before.before
 
-  room : c.before.before.spare.result + c.before.at.result ≡ c.before.before.spare.result + gain_at (start tested).args.gain later.closest-gained.result
-  room = ap (λ (x : ℕ). c.before.before.spare.result + x) c.before.at.ensures
+  room : c.spare.result + c.at.result ≡ c.spare.result + gain_at (start tested).args.gain later.closest_gained-late.result
+  room = ap (λ (x : ℕ). c.spare.result + x) c.at.ensures
 
-returns-5 : tie.Need-returns-5
-returns-5 c =
+returns-then-spare-room : tie.Need-returns-then-spare-room
+returns-then-spare-room c =
     let p = c.before in
     let e = past p in
     let t = tested p in
     let s = start t in
     let a = s.args in
-    late_closest a.gain (asking s) a.slot a.gap a.hi (begins t) (some t) s.pre.1.1.0.due (gain-steps e) (gained e) s.pre.1.1.1 (later p).closest-gained.ensures
-    (before-gain (earlier p).before) (earlier p).closest2.ensures p.spare2.ensures p.before.before.spare.ensures (omega (arith, c.if5.true, room p))
+    late_closest a.gain (asking s) a.slot a.gap a.hi (begins t) (some t) s.requires.1.1.0.due (gain-steps e) (gained e) s.requires.1.1.1 (later p).closest_gained-late.ensures
+    (before-gain (earlier p).before) (earlier p).closest-early.ensures p.spare-2.ensures p.spare.ensures (omega (arith, c.if-spare-room.true, room p))
 
-returns-6 : tie.Need-returns-6
-returns-6 c =
+returns : tie.Need-returns
+returns c =
     let p = c.before in
     let e = past p in
     let t = tested p in
     let s = start t in
     let a = s.args in
-    early_closest a.gain (asking s) a.slot a.gap a.hi (begins t) (some t) s.pre.1.1.0.due (gain-steps e) (gained e) s.pre.1.1.1 (later p).closest-gained.ensures
-    (before-gain (earlier p).before) (earlier p).closest2.ensures p.spare2.ensures p.before.before.spare.ensures (omega (arith, c.if5.false, room p))
+    early_closest a.gain (asking s) a.slot a.gap a.hi (begins t) (some t) s.requires.1.1.0.due (gain-steps e) (gained e) s.requires.1.1.1 (later p).closest_gained-late.ensures
+    (before-gain (earlier p).before) (earlier p).closest-early.ensures p.spare-2.ensures p.spare.ensures (omega (arith, c.if-spare-room.false, room p))
 
-pub closest-of-spec : {M : Type 1} → statement M
-closest-of-spec =
+pub closest_of_spec : {M : Type 1} → statement M
+closest_of_spec =
     tie.close
     (tie.spec
-    first-asked-requires
-    returns
-    returns-2
+    first_asked-first-requires
+    returns-then-first-eq0
+    returns-then-hi-first
     (λ c κs. search rules)
     closest-requires
-    returns-3
-    closest-gained-requires
-    returns-4
-    sub-closest
-    closest-requires-2
+    returns-then-not-gains
+    closest_gained-late-requires
+    returns-then-from-first
+    overflow_sub-from
+    closest-early-requires
     spare-requires
     (λ c κs. search rules)
-    add-room
+    overflow_add-room
     spare-requires-2
-    returns-5
-    returns-6)
+    returns-then-spare-room
+    returns)

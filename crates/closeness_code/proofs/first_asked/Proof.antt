@@ -14,86 +14,85 @@ use Rattle.closeness.proofs.BeginsLaws.{begins_alone, begins_next}
 use Rattle.closeness_code.proofs.first_asked.Statement.{statement}
 use Rattle.closeness_code.proofs.first_asked.Tie as tie
 
-abbrev invariant-loop : tie.invariant-loop
-invariant-loop loads n own from count first₀ i₀ first i =
+abbrev invariant-loop-i : tie.invariant-loop-i
+invariant-loop-i loads n own from count first₀ i₀ first i =
     (i ≤ count) × Begins (λ t. demand (loads_of loads n) t + greatest_of_all (bounds_of loads (3 * n) i) t) first
 
-abbrev decreases-loop : tie.decreases-loop
-decreases-loop loads n own from count first₀ i₀ first i = count - i
+abbrev decreases-loop-i : tie.decreases-loop-i
+decreases-loop-i loads n own from count first₀ i₀ first i = count - i
 
-abbrev start : tie.In-loop invariant-loop decreases-loop → tie.Start invariant-loop decreases-loop
+abbrev start : tie.In-loop-i invariant-loop-i decreases-loop-i → tie.Start invariant-loop-i decreases-loop-i
 start c = c.before.before.before
 
 -- this turn's interrupt is one of them, and its numbers stand in the slice, at places that fit
-within : (c : tie.In-loop invariant-loop decreases-loop) → c.before.loop.i < behind (start c).args.loads.now (start c).args.n
-within c = c.loop-test.true
+within : (c : tie.In-loop-i invariant-loop-i decreases-loop-i) → c.loop-i.i < behind (start c).args.loads.now (start c).args.n
+within c = c.loop-i-test.true
 
-reads : (c : tie.In-loop invariant-loop decreases-loop) → 3 * (start c).args.n + 4 * c.before.loop.i + 4 ≤ length (start c).args.loads.now
-reads c = let s = start c in its_there s.args.loads.now s.args.n s.pre.0 c.before.loop.i (within c)
+reads : (c : tie.In-loop-i invariant-loop-i decreases-loop-i) → 3 * (start c).args.n + 4 * c.loop-i.i + 4 ≤ length (start c).args.loads.now
+reads c = let s = start c in its_there s.args.loads.now s.args.n s.requires.0 c.loop-i.i (within c)
 
-fits : (c : tie.In-loop invariant-loop decreases-loop) → 3 * (start c).args.n + 4 * c.before.loop.i + 4 ≤ 2 ^ 11
-fits c = let s = start c in its_fits s.args.loads.now s.args.n s.pre.0 c.before.loop.i (within c)
+fits : (c : tie.In-loop-i invariant-loop-i decreases-loop-i) → 3 * (start c).args.n + 4 * c.loop-i.i + 4 ≤ 2 ^ 11
+fits c = let s = start c in its_fits s.args.loads.now s.args.n s.requires.0 c.loop-i.i (within c)
 
-mul-from : tie.Need-overflow-mul-from invariant-loop decreases-loop
-mul-from c = omega (arith, c.before.requires.0.few)
+overflow_mul-from : tie.Need-overflow_mul-from invariant-loop-i decreases-loop-i
+overflow_mul-from c = omega (arith, c.requires.0.few)
 
-sub-count : tie.Need-overflow-sub-count invariant-loop decreases-loop
-sub-count c = omega (arith, c.before.requires.0.loads.there)
+overflow_sub-count : tie.Need-overflow_sub-count invariant-loop-i decreases-loop-i
+overflow_sub-count c = omega (arith, c.requires.0.loads.there)
 
-loop-holds : tie.Need-loop-init invariant-loop decreases-loop
+loop-i-init : tie.Need-loop-i-init invariant-loop-i decreases-loop-i
 unfolding bounds_of
-loop-holds c =
-    let s = c.before in
-    (omega arith, begins_alone (loads_of s.args.loads.now s.args.n) s.requires.1)
+loop-i-init c =
+    (omega arith, begins_alone (loads_of c.args.loads.now c.args.n) c.requires.1)
 
-mul_at : tie.Need-overflow-mul-at invariant-loop decreases-loop
-mul_at c = omega (arith, fits c)
+overflow_mul-at : tie.Need-overflow_mul-at invariant-loop-i decreases-loop-i
+overflow_mul-at c = omega (arith, fits c)
 
-add_at : tie.Need-overflow-add-at invariant-loop decreases-loop
-add_at c = omega (arith, fits c)
+overflow_add-at : tie.Need-overflow_add-at invariant-loop-i decreases-loop-i
+overflow_add-at c = omega (arith, fits c)
 
-add-sooner : tie.Need-overflow-add-sooner invariant-loop decreases-loop
-add-sooner c = omega (arith, fits c)
+overflow_add-at-in-loop-i : tie.Need-overflow_add-at-in-loop-i invariant-loop-i decreases-loop-i
+overflow_add-at-in-loop-i c = omega (arith, fits c)
 
-read-sooner : tie.Need-shared-slice-read-sooner invariant-loop decreases-loop
-read-sooner c = omega (arith, reads c.before)
+bounds-loads-at : tie.Need-bounds-loads-at invariant-loop-i decreases-loop-i
+bounds-loads-at c = omega (arith, reads c.before)
 
-loop-again : tie.Need-loop-preserved invariant-loop decreases-loop
-loop-again c =
+loop-i-preserved : tie.Need-loop-i-preserved invariant-loop-i decreases-loop-i
+loop-i-preserved c =
     let turn = c.before.before in
     let s = start turn in
     let a = s.args in
-    let i = turn.before.loop.i in
-    let its = its_numbered a.loads.now a.n s.pre.0 i (within turn) in
+    let i = turn.loop-i.i in
+    let its = its_numbered a.loads.now a.n s.requires.0 i (within turn) in
     let next =
     begins_next (bounds_of a.loads.now (3 * a.n) i) (bound_at a.loads.now (3 * a.n) i) its.sound its.there
-    (its_highest a.loads.now a.n s.pre.0 i (within turn)) (loads_of a.loads.now a.n) turn.before.loop.first turn.before.loop.invariant.1 in
-    (omega (arith, within turn), rw (bounds_next a.loads.now (3 * a.n) i, c.sooner.ensures) next)
+    (its_highest a.loads.now a.n s.requires.0 i (within turn)) (loads_of a.loads.now a.n) turn.loop-i.first turn.loop-i.invariant.1 in
+    (omega (arith, within turn), rw (bounds_next a.loads.now (3 * a.n) i, c.sooner-first.ensures) next)
 
-returns : tie.Need-returns invariant-loop decreases-loop
+returns : tie.Need-returns invariant-loop-i decreases-loop-i
 unfolding asked interrupts_of
 returns c =
-    let a = c.before.before.before.args in
-    let e : c.before.loop.i ≡ behind a.loads.now a.n = omega (arith, c.loop-test.false, c.before.loop.invariant.0) in
-    subst (λ (k : ℕ). Begins (λ t. demand (loads_of a.loads.now a.n) t + greatest_of_all (bounds_of a.loads.now (3 * a.n) k) t) c.before.loop.first) e
-    c.before.loop.invariant.1
+    let a = c.args in
+    let e : c.loop-i.i ≡ behind a.loads.now a.n = omega (arith, c.loop-i-test.false, c.loop-i.invariant.0) in
+    subst (λ (k : ℕ). Begins (λ t. demand (loads_of a.loads.now a.n) t + greatest_of_all (bounds_of a.loads.now (3 * a.n) k) t) c.loop-i.first) e
+    c.loop-i.invariant.1
 
-pub first-asked-spec : {M : Type 1} → statement M
-first-asked-spec =
+pub first_asked_spec : {M : Type 1} → statement M
+first_asked_spec =
     tie.close
     (tie.spec
-    invariant-loop
-    decreases-loop
-    mul-from
-    sub-count
-    loop-holds
-    mul_at
-    add_at
-    add-sooner
+    invariant-loop-i
+    decreases-loop-i
+    overflow_mul-from
+    overflow_sub-count
+    loop-i-init
+    overflow_mul-at
+    overflow_add-at
+    overflow_add-at-in-loop-i
     (λ c. search rules)
-    read-sooner
+    bounds-loads-at
     (λ c κs. search rules)
     (λ c. search rules)
     (λ c. search rules)
-    loop-again
+    loop-i-preserved
     returns)

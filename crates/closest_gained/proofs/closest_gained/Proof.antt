@@ -54,38 +54,38 @@ searched : (s : tie.Start) (b : ℕ) → b ≤ s.args.hi → Searched s.args.slo
 searched s b h =
     record { usable = s.requires.1.0.usable; small_extra = s.requires.1.0.small_extra; small = omega (arith, s.requires.1.0.small) }
 
-sub-gained : tie.Need-overflow-sub-gained
-sub-gained c = omega (arith, apart-at c.before)
+overflow_sub-gained : tie.Need-overflow_sub-gained
+overflow_sub-gained c = omega (arith, apart-at c.before)
 
-closest-requires : tie.Need-closest-requires
-closest-requires c κs =
+closest-near-requires : tie.Need-closest-near-requires
+closest-near-requires c κs =
     let s = c.before in
     let a = s.args in
     (s.requires.0, (searched s _ (omega (arith, due s)), ((begins s, omega (arith, apart-at s)), plain_covered a.gain (asking s) a.slot a.gap a.hi s.requires.1.1.1 _ _ (omega (arith, due s)))))
 
-closest-requires-2 : tie.Need-closest-requires-2
-closest-requires-2 c κs =
+closest-far-requires : tie.Need-closest-far-requires
+closest-far-requires c κs =
     let s = c.before.before in
     let a = s.args in
     (s.requires.0, (searched s _ (omega (arith, due s)), ((ends s, due s), plain_covered a.gain (asking s) a.slot a.gap a.hi s.requires.1.1.1 _ _ (omega (arith, due s)))))
 
-abbrev start : tie.After-closest2 → tie.Start
+abbrev start : tie.After-closest-far → tie.Start
 start c = c.before.before.before
 
 -- the closest of each range
-near-at : (c : tie.After-closest2) → let a = (start c).args in
-    LeastFrom (steps (asking (start c))) (slack_past (asking (start c)) a.slot a.gap) a.gain.from (a.gain.until - 1) c.before.closest.result
+near-at : (c : tie.After-closest-far) → let a = (start c).args in
+    LeastFrom (steps (asking (start c))) (slack_past (asking (start c)) a.slot a.gap) a.gain.from (a.gain.until - 1) c.closest-near.result
 near-at c =
     let s = start c in
     let a = s.args in
-    near_plain a.gain (asking s) a.slot a.gap a.hi (due s) (rising s) (begins s) (ends s) s.pre.1.1.0.1 s.pre.1.0.usable s.pre.1.1.1 c.before.closest.ensures c.closest2.ensures
+    near_plain a.gain (asking s) a.slot a.gap a.hi (due s) (rising s) (begins s) (ends s) s.requires.1.1.0.1 s.requires.1.0.usable s.requires.1.1.1 c.closest-near.ensures c.closest-far.ensures
 
-far_at : (c : tie.After-closest2) → let a = (start c).args in
-    LeastFrom (steps (asking (start c))) (slack_past (asking (start c)) a.slot a.gap) a.gain.until a.hi c.closest2.result
+far_at : (c : tie.After-closest-far) → let a = (start c).args in
+    LeastFrom (steps (asking (start c))) (slack_past (asking (start c)) a.slot a.gap) a.gain.until a.hi c.closest-far.result
 far_at c =
     let s = start c in
     let a = s.args in
-    far_plain a.gain (asking s) a.slot a.gap a.hi (due s) (rising s) (begins s) (ends s) s.pre.1.1.0.1 s.pre.1.0.usable s.pre.1.1.1 c.before.closest.ensures c.closest2.ensures
+    far_plain a.gain (asking s) a.slot a.gap a.hi (due s) (rising s) (begins s) (ends s) s.requires.1.1.0.1 s.requires.1.0.usable s.requires.1.1.1 c.closest-near.ensures c.closest-far.ensures
 
 -- what is asked without the gain is met there
 met_at : (s : tie.Start) (x : ℕ) → 1 ≤ x → x ≤ s.args.hi → asking s x ≤ supply_past s.args.slot s.args.gap x
@@ -97,45 +97,54 @@ spare-requires : tie.Need-spare-requires
 spare-requires c κs =
     let s = start c in
     let f = far_at c in
-    (s.pre.0, (searched s c.closest2.result f.within, met_at s c.closest2.result (omega (arith, f.begins, apart-at s)) f.within))
+    (s.requires.0, (searched s c.closest-far.result f.within, met_at s c.closest-far.result (omega (arith, f.begins, apart-at s)) f.within))
 
-add-if1 : tie.Need-overflow-add-if1
+overflow_add-spare : tie.Need-overflow_add-spare
 unfolding slack_past
-add-if1 c =
+overflow_add-spare c =
     let s = start c.before in
     omega (
       arith,
       c.spare.ensures,
       (far_at c.before).within,
-      s.pre.1.0.small,
-      s.pre.1.1.0.0.small_extra,
-      supply_within s.args.slot s.args.gap c.before.closest2.result,
+      s.requires.1.0.small,
+      s.requires.1.1.0.0.small_extra,
+      supply_within s.args.slot s.args.gap c.closest-far.result,
     )
 
 spare-requires-2 : tie.Need-spare-requires-2
 spare-requires-2 c κs =
     let n = near-at c.before in
     let s = start c.before in
-    let near = c.before.before.closest.result in
+    let near = c.closest-near.result in
     let inside : near ≤ s.args.hi = omega (arith, n.within, due s) in
-    (s.pre.0, (searched s near inside, met_at s near (omega (arith, n.begins, some s)) inside))
+    (s.requires.0, (searched s near inside, met_at s near (omega (arith, n.begins, some s)) inside))
+
+returns-then-spare-extra : tie.Need-returns-then-spare-extra
+returns-then-spare-extra c =
+    let p = c.before.before.before in
+    let s = start p in
+    let a = s.args in
+    far_closest a.gain (asking s) a.slot a.gap a.hi (due s) (rising s) (begins s) (ends s) s.requires.1.1.0.1 s.requires.1.0.usable s.requires.1.1.1
+    p.closest-near.ensures p.closest-far.ensures c.spare.ensures c.spare-2.ensures (omega (arith, c.if-spare-extra.true))
 
 returns : tie.Need-returns
 returns c =
     let p = c.before.before.before in
     let s = start p in
     let a = s.args in
-    far_closest a.gain (asking s) a.slot a.gap a.hi (due s) (rising s) (begins s) (ends s) s.pre.1.1.0.1 s.pre.1.0.usable s.pre.1.1.1
-    p.before.closest.ensures p.closest2.ensures c.before.before.spare.ensures c.before.spare2.ensures (omega (arith, c.if1.true))
+    near_closest a.gain (asking s) a.slot a.gap a.hi (due s) (rising s) (begins s) (ends s) s.requires.1.1.0.1 s.requires.1.0.usable s.requires.1.1.1
+    p.closest-near.ensures p.closest-far.ensures c.spare.ensures c.spare-2.ensures (omega (arith, c.if-spare-extra.false))
 
-returns-2 : tie.Need-returns-2
-returns-2 c =
-    let p = c.before.before.before in
-    let s = start p in
-    let a = s.args in
-    near_closest a.gain (asking s) a.slot a.gap a.hi (due s) (rising s) (begins s) (ends s) s.pre.1.1.0.1 s.pre.1.0.usable s.pre.1.1.1
-    p.before.closest.ensures p.closest2.ensures c.before.before.spare.ensures c.before.spare2.ensures (omega (arith, c.if1.false))
-
-pub closest-gained-spec : {M : Type 1} → statement M
-closest-gained-spec =
-    tie.close (tie.spec sub-gained closest-requires closest-requires-2 spare-requires add-if1 spare-requires-2 returns returns-2)
+pub closest_gained_spec : {M : Type 1} → statement M
+closest_gained_spec =
+    tie.close
+    (tie.spec
+    overflow_sub-gained
+    closest-near-requires
+    closest-far-requires
+    spare-requires
+    overflow_add-spare
+    spare-requires-2
+    returns-then-spare-extra
+    returns)

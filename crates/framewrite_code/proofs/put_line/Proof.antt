@@ -9,23 +9,28 @@ use borrow.Author.Rules.{rules}
 use Rattle.framewrite_code.proofs.put_line.Statement.{statement}
 use Rattle.framewrite_code.proofs.put_line.Tie as tie
 
-put-row-requires : tie.Need-put-row-requires
-put-row-requires c κs =
-    let s = c.before.before.before.before in
-    let frame = s.args.frame in
-    let row = c.before.row_of_lem.ensures in (
-      (omega (arith, row_fields frame row, fields_most frame), omega (arith, row_fields frame row, s.requires.0)),
-      omega (arith, row_digits frame row, s.requires.1),
+put_row-requires : tie.Need-put_row-requires
+put_row-requires c κs =
+    let frame = c.args.frame in
+    let row = c.row_of-row.ensures in (
+      (omega (arith, row_fields frame row, fields_most frame), omega (arith, row_fields frame row, c.requires.0)),
+      omega (arith, row_digits frame row, c.requires.1),
     )
 
-same_length : tie.Need-same-length
-same_length c = c.before.before.put-row.auto.0
+shape_of-out : tie.Need-shape_of-out
+shape_of-out c = c.put_row.auto.out
 
 returns : tie.Need-returns
 returns c =
-    let a = c.before.before.before.before.before.before.before.args in
-    c.before.before.put-row.ensures.1
-    ∙ ap (stored a.out.now a.at) (row_line a.frame c.before.before.before.before.row_of_lem.ensures a.values.now)
+    let a = c.args in
+    c.put_row.ensures.1
+    ∙ ap (stored a.out.now a.at) (row_line a.frame c.row_of-row.ensures a.values.now)
 
-pub put-line-spec : {M : Type 1} → statement M
-put-line-spec = tie.close (tie.spec (λ c κs. search rules) put-row-requires same_length returns)
+pub put_line_spec : {M : Type 1} → statement M
+put_line_spec =
+    tie.close
+    (tie.spec
+    (λ c κs. search rules)
+    put_row-requires
+    shape_of-out
+    returns)

@@ -10,54 +10,51 @@ use Rattle.framewrite_code.proofs.put_row.Tie as tie
 
 -- a row's kind is two bytes
 two : (s : tie.Start) → length s.args.row.kind ≡ 2
-two s = length_unmapped _ s.args.row.kind 2 s.well-formed.1.1.0.1.1.0.1.0.1
+two s = s.well_formed.1.1.0.1.1.0.1.0.1
 
-put-bytes-requires : tie.Need-put-bytes-requires
-put-bytes-requires c κs =
+put_bytes-requires : tie.Need-put_bytes-requires
+put_bytes-requires c κs =
     let s = c.before.before.before.before.before in
     omega (arith, two s, s.requires.1)
 
-put-fields-requires : tie.Need-put-fields-requires
-put-fields-requires c κs =
-    let s = c.before.before.before.before.before.before.before.before.before in
-    (s.requires.0, omega (arith, s.requires.1, c.before.before.before.put-bytes.auto.0))
+put_fields-end-requires : tie.Need-put_fields-end-requires
+put_fields-end-requires c κs =
+    (c.requires.0, omega (arith, c.requires.1, c.put_bytes.auto.out))
 
 -- what the calls leave is as long as what they were lent
-same : (c : tie.After-put-fields) → length c.put-fields.new.0 ≡ length c.before.before.before.before.before.before.before.before.before.before.args.out.now
-same c = c.put-fields.auto.0 ∙ c.before.before.before.before.put-bytes.auto.0
+same : (c : tie.After-put_fields-end) → length c.put_fields-end.new.out ≡ length c.args.out.now
+same c = c.put_fields-end.auto.out ∙ c.put_bytes.auto.out
 
-slice-write-out : tie.Need-slice-write-out
-slice-write-out c =
-    let s = c.before.before.before.before.before.before.before.before.before.before.before.before in
+bounds-out-end : tie.Need-bounds-out-end
+bounds-out-end c =
     let put = c.before.before in
-    omega (arith, put.put-fields.ensures.0, s.requires.1, same put)
+    omega (arith, put.put_fields-end.ensures.0, c.requires.1, same put)
 
-add-result : tie.Need-overflow-add-result
-add-result c =
-    let s = c.before.before.before.before.before.before.before.before.before.before.before.before in
-    omega (arith, c.before.before.put-fields.ensures.0, s.requires.1, s.well-formed)
+overflow_add-result : tie.Need-overflow_add-result
+overflow_add-result c =
+    omega (arith, c.put_fields-end.ensures.0, c.requires.1, c.well_formed)
 
-same_length : tie.Need-same-length
-same_length c = simp length-set (same c.before.before)
+shape_of-out : tie.Need-shape_of-out
+shape_of-out c = simp length-set (same c.before.before)
 
 returns : tie.Need-returns
 returns c =
     let s = c.before.before.before.before.before.before.before.before.before.before.before.before in
     let a = s.args in
-    let put = c.before.before.put-fields in (
+    let put = c.put_fields-end in (
       omega (arith, put.ensures.0),
-      row_put a.out.now a.at a.row a.values.now put.result (two s) put.ensures.0 s.requires.1 c.before.before.before.before.before.before.put-bytes.ensures put.ensures.1,
+      row_put a.out.now a.at a.row a.values.now put.result (two s) put.ensures.0 s.requires.1 c.put_bytes.ensures put.ensures.1,
     )
 
-pub put-row-spec : {M : Type 1} → statement M
-put-row-spec =
+pub put_row_spec : {M : Type 1} → statement M
+put_row_spec =
     tie.close
     (tie.spec
     (λ c. search rules)
-    put-bytes-requires
+    put_bytes-requires
     (λ c. search rules)
-    put-fields-requires
-    slice-write-out
-    add-result
-    same_length
+    put_fields-end-requires
+    bounds-out-end
+    overflow_add-result
+    shape_of-out
     returns)

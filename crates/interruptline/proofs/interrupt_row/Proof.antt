@@ -20,46 +20,43 @@ use Rattle.interruptline.proofs.interrupt_row.Tie as tie
 abbrev rest : tie.Start → List ℕ
 rest s = drop s.args.at s.args.text.now
 
-returns : tie.Need-returns
-returns c =
-    let s = c.before.before.before.before in
-    let nothing : kind_at (rest s) ≡ Found.Nothing = sym c.before.before.kind_at.ensures ∙ c.enum_told.given.1 in
+returns-in_default : tie.Need-returns-in_default
+returns-in_default c =
+    let s = c.before.before.before in
+    let nothing : kind_at (rest s) ≡ Found.Nothing = sym c.kind_at-found.ensures ∙ c.in_default.is in
     sym (said_line s.requires.0.taken s.requires.1.0 (admits_none (rest s) (kind_none (rest s) nothing)))
 
 -- the frame that was found is formed
-is-formed : (c : tie.After-known-told) → formed c.before.found.given.0.0 (rest c.before.before.before.before.before) ≡ true
+is-formed : (c : tie.In-Frame) → formed c.in-Frame.frame (rest c.before.before.before) ≡ true
 is-formed c =
-    kind_formed c.before.found.given.0.0 (rest c.before.before.before.before.before) (sym c.before.before.before.kind_at.ensures ∙ c.before.found.given.1)
+    kind_formed c.in-Frame.frame (rest c.before.before.before) (sym c.kind_at-found.ensures ∙ c.in-Frame.is)
 
 -- it is an 07 line
-interrupt : (c : tie.After-enum-told2) → formed Frame.Interrupt (rest c.before.before.before.before.before.before.before) ≡ true
+interrupt : (c : tie.In-Interrupt) → formed Frame.Interrupt (rest c.before.before.before.before) ≡ true
 interrupt c =
-    ap (λ (f : Frame). formed f (rest c.before.before.before.before.before.before.before)) (sym c.enum-told2.given.1) ∙ is-formed c.before.before
+    ap (λ (f : Frame). formed f (rest c.before.before.before.before)) (sym c.in-Interrupt.is) ∙ is-formed c.before
 
-returns-2 : tie.Need-returns-2
-returns-2 c =
-    let s = c.before.before.before.before.before.before.before.before in
-    let full : s.args.count ≡ most_interrupts = omega (arith, c.if1.true, s.requires.1.1, s.requires.0.taken.fewer) in
-    sym (said_full s.requires.0.taken (interrupt c.before) s.args.count s.requires.1.1 full)
+returns-then-count-eq-MOST_INTERRUPTS : tie.Need-returns-then-count-eq-MOST_INTERRUPTS
+returns-then-count-eq-MOST_INTERRUPTS c =
+    let full : c.args.count ≡ most_interrupts = omega (arith, c.if-count-eq-MOST_INTERRUPTS.true, c.requires.1.1, c.requires.0.taken.fewer) in
+    sym (said_full c.requires.0.taken (interrupt c.before) c.args.count c.requires.1.1 full)
 
-returns-5 : tie.Need-returns-5
-returns-5 c =
-    let s = c.before.before.before.before.before.before in
-    let other = other_frame c.before.before.found.given.0.0 (rest s) c.match2.keys3 (is-formed c.before) in
+returns-in_default-frame : tie.Need-returns-in_default-frame
+returns-in_default-frame c =
+    let s = c.before.before.before.before in
+    let other = other_frame c.in-Frame.frame (rest s) c.in_default-frame.in_default-frame-own.keys3 (is-formed c.before) in
     sym (said_line s.requires.0.taken s.requires.1.0 other)
 
-returns-3 : tie.Need-returns-3
-returns-3 c =
-    let s = c.before.before.before.before.before.before in
-    sym (said_behind s.requires.0 c.before.before.found.given.0.0 (is-formed c.before) c.match2.keys1)
+returns-in-Header : tie.Need-returns-in-Header
+returns-in-Header c =
+    sym (said_behind c.requires.0 c.in-Frame.frame (is-formed c.before) c.in-Header.in-Header-own.keys1)
 
-returns-4 : tie.Need-returns-4
-returns-4 c =
-    let s = c.before.before.before.before.before.before.before.before in
-    sym (said_done s.requires.0.taken (interrupt c.before) s.args.count s.requires.1.1 (λ (full : s.args.count ≡ most_interrupts). omega (arith, c.if1.false)))
+returns-else-count-eq-MOST_INTERRUPTS : tie.Need-returns-else-count-eq-MOST_INTERRUPTS
+returns-else-count-eq-MOST_INTERRUPTS c =
+    sym (said_done c.requires.0.taken (interrupt c.before) c.args.count c.requires.1.1 (λ (full : c.args.count ≡ most_interrupts). omega (arith, c.if-count-eq-MOST_INTERRUPTS.false)))
 
-pub interrupt-row-spec : {M : Type 1} → statement M
-interrupt-row-spec =
+pub interrupt_row_spec : {M : Type 1} → statement M
+interrupt_row_spec =
     tie.close
     (tie.spec
     (λ c. search rules)
@@ -67,9 +64,9 @@ interrupt-row-spec =
     (λ c κs. search rules)
     (λ c. search rules)
     (λ c. search rules)
-    returns
+    returns-in_default
     (λ c. search rules)
-    returns-2
-    returns-3
-    returns-4
-    returns-5)
+    returns-then-count-eq-MOST_INTERRUPTS
+    returns-in-Header
+    returns-else-count-eq-MOST_INTERRUPTS
+    returns-in_default-frame)

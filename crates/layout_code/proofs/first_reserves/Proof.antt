@@ -10,52 +10,52 @@ use Rattle.plan.specs.Plan.{zero_stand}
 use Rattle.layout_code.proofs.first_reserves.Statement.{statement}
 use Rattle.layout_code.proofs.first_reserves.Tie as tie
 
-abbrev invariant-loop : tie.invariant-loop
-invariant-loop reserves n slot processors first₀ i₀ first i =
+abbrev invariant-loop-i : tie.invariant-loop-i
+invariant-loop-i reserves n slot processors first₀ i₀ first i =
     (i ≤ processors) × FilledWith zero_stand (first_reserve slot (take n reserves)) i first
 
-abbrev decreases-loop : tie.decreases-loop
-decreases-loop reserves n slot processors first₀ i₀ first i = processors - i
+abbrev decreases-loop-i : tie.decreases-loop-i
+decreases-loop-i reserves n slot processors first₀ i₀ first i = processors - i
 
-loop-holds : tie.Need-loop-init invariant-loop decreases-loop
-loop-holds c = (omega arith, filled_none _)
+loop-i-init : tie.Need-loop-i-init invariant-loop-i decreases-loop-i
+loop-i-init c = (omega arith, filled_none _)
 
-add-first : tie.Need-overflow-add-first invariant-loop decreases-loop
-add-first c = omega arith
+overflow_add-i : tie.Need-overflow_add-i invariant-loop-i decreases-loop-i
+overflow_add-i c = omega arith
 
-first-requires : tie.Need-first-requires invariant-loop decreases-loop
-first-requires c κs = let s = c.before.before.before in (s.requires.0, omega arith, omega (arith, s.requires.1))
+first-requires : tie.Need-first-requires invariant-loop-i decreases-loop-i
+first-requires c κs = (c.requires.0, omega arith, omega (arith, c.requires.1))
 
-mul-first : tie.Need-overflow-mul-first invariant-loop decreases-loop
-mul-first c = omega arith
+offset_bounds-first-i : tie.Need-offset_bounds-first-i invariant-loop-i decreases-loop-i
+offset_bounds-first-i c = omega arith
 
-array-set-from-first : tie.Need-array-set-from-first invariant-loop decreases-loop
-array-set-from-first c = omega arith
+bounds-first-i : tie.Need-bounds-first-i invariant-loop-i decreases-loop-i
+bounds-first-i c = omega arith
 
-add-i : tie.Need-overflow-add-i invariant-loop decreases-loop
-add-i c = omega arith
+overflow_add-i-in-loop-i : tie.Need-overflow_add-i-in-loop-i invariant-loop-i decreases-loop-i
+overflow_add-i-in-loop-i c = omega arith
 
-loop-less : tie.Need-loop-smaller invariant-loop decreases-loop
-loop-less c = omega arith
+loop-i-smaller : tie.Need-loop-i-smaller invariant-loop-i decreases-loop-i
+loop-i-smaller c = omega arith
 
-loop-again : tie.Need-loop-preserved invariant-loop decreases-loop
-loop-again c = (omega arith, filled_next c.before.before.loop.invariant.1 refl (omega arith) c.first.ensures)
+loop-i-preserved : tie.Need-loop-i-preserved invariant-loop-i decreases-loop-i
+loop-i-preserved c = (omega arith, filled_next c.loop-i.invariant.1 refl (omega arith) c.first.ensures)
 
-returns : tie.Need-returns invariant-loop decreases-loop
-returns c = filled_all c.before.loop.invariant.1 (omega arith)
+returns : tie.Need-returns invariant-loop-i decreases-loop-i
+returns c = filled_all c.loop-i.invariant.1 (omega arith)
 
-pub first-reserves-spec : {M : Type 1} → statement M
-first-reserves-spec =
+pub first_reserves_spec : {M : Type 1} → statement M
+first_reserves_spec =
     tie.close
     (tie.spec
-    invariant-loop
-    decreases-loop
-    loop-holds
-    add-first
+    invariant-loop-i
+    decreases-loop-i
+    loop-i-init
+    overflow_add-i
     first-requires
-    mul-first
-    array-set-from-first
-    add-i
-    loop-less
-    loop-again
+    offset_bounds-first-i
+    bounds-first-i
+    overflow_add-i-in-loop-i
+    loop-i-smaller
+    loop-i-preserved
     returns)

@@ -4,8 +4,8 @@
 use borrow.Author.Rules.{rules}
 use native.Mathlib.Omega.{arith}
 use Prim.Native.Nat.{◌-◌, ◌+◌, ◌≤◌}
-use mathlib.Core.Path.{◌≡◌, refl, sym, ap, ◌∙◌}
-use lib.ListN.{length, length-map, take, set}
+use mathlib.Core.Path.{◌≡◌, refl, ap, ◌∙◌}
+use lib.ListN.{length, take, set}
 use Rattle.tasks.specs.Set.{most_tasks}
 use Rattle.places.proofs.PaddedLaws.{FilledWith, filled_none, filled_next, filled_all}
 use Rattle.plan.specs.declared.plan.Plan.{Plan}
@@ -15,118 +15,118 @@ use Rattle.layout.proofs.Layouts.{ring_fits, ring_covers, sum_few, with_servers,
 use Rattle.layout_code.proofs.lay_out.Statement.{statement}
 use Rattle.layout_code.proofs.lay_out.Tie as tie
 
-abbrev invariant-loop : tie.invariant-loop
-invariant-loop tasks slot n reserve placement cache whole ring idle plan₀ i₀ plan i =
+abbrev invariant-loop-i : tie.invariant-loop-i
+invariant-loop-i tasks slot n reserve placement cache whole ring idle plan₀ i₀ plan i =
     (i ≤ n) × FilledWith zero_server (server_of slot (take n cache) (take tasks placement) (take n reserve)) i plan.server
     × (plan ≡ with_servers plan₀ plan.server)
 
-abbrev decreases-loop : tie.decreases-loop
-decreases-loop tasks slot n reserve placement cache whole ring idle plan₀ i₀ plan i = n - i
+abbrev decreases-loop-i : tie.decreases-loop-i
+decreases-loop-i tasks slot n reserve placement cache whole ring idle plan₀ i₀ plan i = n - i
 
 -- the placement has a place for each task
-full : (c : tie.Start invariant-loop decreases-loop) → length c.args.served.placement ≡ most_tasks
-full c = sym (length-map c.args.served.placement _) ∙ c.well-formed.0.1.1.1.0.1.0.1
+full : (c : tie.Start invariant-loop-i decreases-loop-i) → length c.args.served.placement ≡ most_tasks
+full c = c.well_formed.0.1.1.1.0.1.0.1
 
 -- and the cache costs one for each server
-costed : (c : tie.Start invariant-loop decreases-loop) → length c.args.served.cache ≡ most_tasks
-costed c = sym (length-map c.args.served.cache _) ∙ c.well-formed.0.1.1.1.1.0.1.0.1
+costed : (c : tie.Start invariant-loop-i decreases-loop-i) → length c.args.served.cache ≡ most_tasks
+costed c = c.well_formed.0.1.1.1.1.0.1.0.1
 
 -- where the sums are known
-module _ (c : tie.After-ring-ticks invariant-loop decreases-loop) where
-  abbrev ring : tie.After-ring-processors invariant-loop decreases-loop
+module _ (c : tie.After-ring_ticks invariant-loop-i decreases-loop-i) where
+  abbrev ring : tie.After-ring_processors-ring invariant-loop-i decreases-loop-i
   ring = c.before.before
 
-  abbrev whole : tie.After-whole-count invariant-loop decreases-loop
+  abbrev whole : tie.After-whole_count-whole invariant-loop-i decreases-loop-i
   whole = ring.before.before
 
-  abbrev start : tie.Start invariant-loop decreases-loop
+  abbrev start : tie.Start invariant-loop-i decreases-loop-i
   start = whole.before.before.before.before.before
 
   -- there are no more processors than servers
-  few : ring.ring-processors.result + whole.whole-count.result ≤ start.args.served.count
-  few = sum_few start.pre.laid ring.ring-processors.ensures whole.whole-count.ensures
+  few : ring.ring_processors-ring.result + whole.whole_count-whole.result ≤ start.args.served.count
+  few = sum_few start.requires.laid ring.ring_processors-ring.ensures whole.whole_count-whole.ensures
 
-mul-idle : tie.Need-overflow-mul-idle invariant-loop decreases-loop
-mul-idle c = omega (arith, ring_fits c.before.before.before.before.before.before.before.requires.laid c.ring-processors.ensures)
+overflow_mul-idle : tie.Need-overflow_mul-idle invariant-loop-i decreases-loop-i
+overflow_mul-idle c = omega (arith, ring_fits c.requires.laid c.ring_processors-ring.ensures)
 
-sub-idle : tie.Need-overflow-sub-idle invariant-loop decreases-loop
-sub-idle c = ring_covers (start c).requires.laid (ring c).ring-processors.ensures c.ring-ticks.ensures
+overflow_sub-idle : tie.Need-overflow_sub-idle invariant-loop-i decreases-loop-i
+overflow_sub-idle c = ring_covers (start c).requires.laid (ring c).ring_processors-ring.ensures c.ring_ticks.ensures
 
-add-first-reserves : tie.Need-overflow-add-first-reserves invariant-loop decreases-loop
-add-first-reserves c = omega (arith, few c.before, (start c.before).pre.servers_few)
+overflow_add-ring : tie.Need-overflow_add-ring invariant-loop-i decreases-loop-i
+overflow_add-ring c = omega (arith, few c.before, (start c.before).requires.servers_few)
 
-first-reserves-requires : tie.Need-first-reserves-requires invariant-loop decreases-loop
-first-reserves-requires c κs =
+first_reserves-first-requires : tie.Need-first_reserves-first-requires invariant-loop-i decreases-loop-i
+first_reserves-first-requires c κs =
     let t = c.before in
     let s = start t in
-    (s.pre.laid, omega (arith, (ring t).ring-processors.ensures, (whole t).whole-count.ensures), omega (arith, few t, s.pre.servers_few))
+    (s.requires.laid, omega (arith, (ring t).ring_processors-ring.ensures, (whole t).whole_count-whole.ensures), omega (arith, few t, s.requires.servers_few))
 
-loop-holds : tie.Need-loop-init invariant-loop decreases-loop
-loop-holds c = (omega arith, filled_none _, refl)
+loop-i-init : tie.Need-loop-i-init invariant-loop-i decreases-loop-i
+loop-i-init c = (omega arith, filled_none _, refl)
 
 -- where the loop began
-abbrev began : tie.At-loop invariant-loop decreases-loop → tie.Start invariant-loop decreases-loop
+abbrev began : tie.At-loop-i invariant-loop-i decreases-loop-i → tie.Start invariant-loop-i decreases-loop-i
 began l = start l.before.before.before
 
-server-of-requires : tie.Need-server-of-requires invariant-loop decreases-loop
-server-of-requires c κs =
+server_of-requires : tie.Need-server_of-requires invariant-loop-i decreases-loop-i
+server_of-requires c κs =
     let s = began c.before.before.before.before in
-    ((omega (arith, full s, s.pre.tasks_few), s.pre.tasks_few), ((s.pre.laid, omega arith, omega arith), omega (arith, costed s, s.pre.servers_few)))
+    ((omega (arith, full s, s.requires.tasks_few), s.requires.tasks_few), ((s.requires.laid, omega arith, omega arith), omega (arith, costed s, s.requires.servers_few)))
 
-mul-t39 : tie.Need-overflow-mul-t39 invariant-loop decreases-loop
-mul-t39 c = omega (arith, (began c.before.before.before.before.before).pre.servers_few)
+offset_bounds-plan-i : tie.Need-offset_bounds-plan-i invariant-loop-i decreases-loop-i
+offset_bounds-plan-i c = omega (arith, (began c.before.before.before.before.before).requires.servers_few)
 
-element-set-from-plan : tie.Need-element-set-from-plan invariant-loop decreases-loop
-element-set-from-plan c = omega (arith, (began c.before.before.before.before.before).pre.servers_few)
+bounds-plan-i : tie.Need-bounds-plan-i invariant-loop-i decreases-loop-i
+bounds-plan-i c = omega (arith, (began c.before.before.before.before.before).requires.servers_few)
 
-add-i : tie.Need-overflow-add-i invariant-loop decreases-loop
-add-i c = omega (arith, (began c.before.before.before.before.before).pre.servers_few)
+overflow_add-i-in-loop-i : tie.Need-overflow_add-i-in-loop-i invariant-loop-i decreases-loop-i
+overflow_add-i-in-loop-i c = omega (arith, (began c.before.before.before.before.before).requires.servers_few)
 
-loop-again : tie.Need-loop-preserved invariant-loop decreases-loop
-loop-again c =
+loop-i-preserved : tie.Need-loop-i-preserved invariant-loop-i decreases-loop-i
+loop-i-preserved c =
     let l = c.before.before.before.before.before in
-    let inv = l.loop.invariant in (
+    let inv = l.loop-i.invariant in (
       omega arith,
-      filled_next inv.1 refl (omega (arith, (began l).requires.servers_few)) c.server_of_lem.ensures,
-      ap (λ (p : Plan). with_servers p (set l.loop.plan.server l.loop.i c.server_of_lem.result)) inv.2,
+      filled_next inv.1 refl (omega (arith, (began l).requires.servers_few)) c.server_of.ensures,
+      ap (λ (p : Plan). with_servers p (set l.loop-i.plan.server l.loop-i.i c.server_of.result)) inv.2,
     )
 
-returns : tie.Need-returns invariant-loop decreases-loop
+returns : tie.Need-returns invariant-loop-i decreases-loop-i
 returns c =
     let l = c.before in
     let first = l.before in
     let t = first.before.before in
     let s = start t in
-    l.loop.invariant.2
-    ∙ laid_made s.pre (take s.args.served.count s.args.served.cache) (whole t).whole-count.ensures (ring t).ring-processors.ensures t.ring-ticks.ensures
-    (filled_all l.loop.invariant.1 (omega arith)) first.first-reserves.ensures
+    l.loop-i.invariant.2
+    ∙ laid_made s.requires (take s.args.served.count s.args.served.cache) (whole t).whole_count-whole.ensures (ring t).ring_processors-ring.ensures t.ring_ticks.ensures
+    (filled_all l.loop-i.invariant.1 (omega arith)) first.first_reserves-first.ensures
 
-pub lay-out-spec : {M : Type 1} → statement M
-lay-out-spec =
+pub lay_out_spec : {M : Type 1} → statement M
+lay_out_spec =
     tie.close
     (tie.spec
-    invariant-loop
-    decreases-loop
+    invariant-loop-i
+    decreases-loop-i
     (λ c. search rules)
     (λ c κs. search rules)
     (λ c. search rules)
     (λ c κs. search rules)
-    mul-idle
+    overflow_mul-idle
     (λ c. search rules)
     (λ c κs. search rules)
-    sub-idle
+    overflow_sub-idle
     (λ c. search rules)
-    add-first-reserves
-    first-reserves-requires
-    loop-holds
-    (λ c. search rules)
-    (λ c. search rules)
+    overflow_add-ring
+    first_reserves-first-requires
+    loop-i-init
     (λ c. search rules)
     (λ c. search rules)
-    server-of-requires
-    mul-t39
-    element-set-from-plan
-    add-i
     (λ c. search rules)
-    loop-again
+    (λ c. search rules)
+    server_of-requires
+    offset_bounds-plan-i
+    bounds-plan-i
+    overflow_add-i-in-loop-i
+    (λ c. search rules)
+    loop-i-preserved
     returns)

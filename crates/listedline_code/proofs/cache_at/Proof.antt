@@ -21,29 +21,36 @@ abbrev rest : tie.Start → List ℕ
 rest s = drop s.args.at s.args.text.now
 
 -- it is an 03 line
-cached : (c : tie.After-enum-told) → formed Frame.Cached (rest c.before.before.before) ≡ true
+cached : (c : tie.In-Cached) → formed Frame.Cached (rest c.before.before) ≡ true
 cached c =
-    let s = c.before.before.before in
-    ap (λ (f : Frame). formed f (rest s)) (sym c.enum_told.given.1) ∙ s.requires.1
+    let s = c.before.before in
+    ap (λ (f : Frame). formed f (rest s)) (sym c.in-Cached.is) ∙ s.requires.1
 
-field-requires : tie.Need-field-requires
-field-requires c κs = (c.before.before.before.requires.0, (cached c, omega arith))
+field-cost-requires : tie.Need-field-cost-requires
+field-cost-requires c κs = (c.requires.0, (cached c, omega arith))
 
-cast-cost : tie.Need-overflow-cast-cost
+overflow_cast-cost : tie.Need-overflow_cast-cost
 unfolding widths_of
-cast-cost c = omega (arith, field_within Frame.Cached _ c.field.result _ (cached c.before) c.field.ensures)
+overflow_cast-cost c = omega (arith, field_within Frame.Cached _ c.field-cost.result _ (cached c.before) c.field-cost.ensures)
 
-returns : tie.Need-returns
-returns c = ap Given c.field.ensures ∙ sym (cache_given (rest c.before.before.before.before) (cached c.before))
+returns-in-Cached : tie.Need-returns-in-Cached
+returns-in-Cached c = ap Given c.field-cost.ensures ∙ sym (cache_given (rest c.before.before.before) (cached c.before))
 
 -- the tags of the other kinds
 abbrev others : List ℕ
 others = take 2 (map index_of all_frames) ++ drop 3 (map index_of all_frames)
 
-returns-2 : tie.Need-returns-2
-returns-2 c =
+returns-in_default : tie.Need-returns-in_default
+returns-in_default c =
     let s = c.before.before in
-    sym (cache_absent (rest s) (other_kind others s.args.frame Frame.Cached (rest s) c.match.keys2 (miss others 2 tt) s.requires.1))
+    sym (cache_absent (rest s) (other_kind others s.args.frame Frame.Cached (rest s) c.in_default.in_default-own.keys2 (miss others 2 tt) s.requires.1))
 
-pub cache-at-spec : {M : Type 1} → statement M
-cache-at-spec = tie.close (tie.spec (λ c. search rules) field-requires cast-cost returns returns-2)
+pub cache_at_spec : {M : Type 1} → statement M
+cache_at_spec =
+    tie.close
+    (tie.spec
+    (λ c. search rules)
+    field-cost-requires
+    overflow_cast-cost
+    returns-in-Cached
+    returns-in_default)

@@ -21,27 +21,33 @@ use Rattle.listedline_code.proofs.listed_line.Tie as tie
 abbrev given : tie.Start → Outcome → TaskLine
 given s o = task_or o (task_at (drop s.args.at s.args.text.now))
 
-returns : tie.Need-returns
-returns c =
+returns-then-ids-eq-MOST_TASKS : tie.Need-returns-then-ids-eq-MOST_TASKS
+returns-then-ids-eq-MOST_TASKS c =
     let s = c.before.before.before in
-    sym (ap (given s) (said_count s.requires.0 s.requires.1.1.0 s.args.ids.now s.requires.1.0 c.if1.true))
+    sym (ap (given s) (said_count s.requires.0 s.requires.1.1.0 s.args.ids.now s.requires.1.0 c.if-ids-eq-MOST_TASKS.true))
 
 -- what the search for the id says of the line
-by-id : (c : tie.After-holds-id) (b : Bool) → c.holds-id.result ≡ b → line_outcome c.before.before.before.before.before.args.text.now (c.before.before.before.before.before.args.lines + 1) ≡ when b (Twice (c.before.before.before.before.before.args.lines + 1))
+by-id : (c : tie.After-holds_id) (b : Bool) → c.holds_id.result ≡ b → line_outcome c.args.text.now (c.args.lines + 1) ≡ when b (Twice (c.args.lines + 1))
 by-id c b e =
-    let s = c.before.before.before.before.before in
-    said_twice s.requires.0 s.requires.1.1.0 s.args.ids.now s.requires.1.0 c.before.before.if1.false b
-    (ap (λ (t : Task). some (λ i. eqb i t.id) s.args.ids.now) (sym c.before.task-at.ensures) ∙ (sym c.holds-id.ensures ∙ e))
+    said_twice c.requires.0 c.requires.1.1.0 c.args.ids.now c.requires.1.0 c.if-ids-eq-MOST_TASKS.false b
+    (ap (λ (t : Task). some (λ i. eqb i t.id) c.args.ids.now) (sym c.task_at-task.ensures) ∙ (sym c.holds_id.ensures ∙ e))
 
-returns-2 : tie.Need-returns-2
-returns-2 c = sym (ap (given c.before.before.before.before.before.before) (by-id c.before true c.if2.true))
+returns-then-holds_id : tie.Need-returns-then-holds_id
+returns-then-holds_id c = sym (ap (given c.before.before.before.before.before.before) (by-id c.before true c.if-holds_id.true))
 
-returns-3 : tie.Need-returns-3
-returns-3 c =
-    ap TaskLine.Task c.before.before.task-at.ensures
-    ∙ sym (ap (given c.before.before.before.before.before.before) (by-id c.before false c.if2.false))
+returns : tie.Need-returns
+returns c =
+    ap TaskLine.Task c.task_at-task.ensures
+    ∙ sym (ap (given c.before.before.before.before.before.before) (by-id c.before false c.if-holds_id.false))
 
-pub listed-line-spec : {M : Type 1} → statement M
-listed-line-spec =
+pub listed_line_spec : {M : Type 1} → statement M
+listed_line_spec =
     tie.close
-    (tie.spec (λ c. search rules) (λ c. search rules) returns (λ c κs. search rules) (λ c κs. search rules) returns-2 returns-3)
+    (tie.spec
+    (λ c. search rules)
+    (λ c. search rules)
+    returns-then-ids-eq-MOST_TASKS
+    (λ c κs. search rules)
+    (λ c κs. search rules)
+    returns-then-holds_id
+    returns)

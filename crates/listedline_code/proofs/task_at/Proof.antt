@@ -25,36 +25,36 @@ is-formed s = of_kind_lem (rest s) s.requires.1.0 s.requires.1.1
 within : (s : tie.Start) (k x : ℕ) → k < 4 → x ≡ field_of s.args.frame k (rest s) → x < 16 ^ width_of Frame.Task k
 within s k x lt e = task_within s.args.frame k x (rest s) s.requires.1.0 s.requires.1.1 lt e
 
-cache-at-requires : tie.Need-cache-at-requires
-cache-at-requires c κs = let s = c.before in (s.requires.0, is-formed s)
+cache_at-cache-requires : tie.Need-cache_at-cache-requires
+cache_at-cache-requires c κs = let s = c.before in (s.requires.0, is-formed s)
 
 field-requires : tie.Need-field-requires
 field-requires c κs = let s = c.before.before in (s.requires.0, (is-formed s, omega arith))
 
-cast-t6 : tie.Need-overflow-cast-t6
+overflow_cast-result : tie.Need-overflow_cast-result
 unfolding widths_of
-cast-t6 c = omega (arith, within c.before.before.before _ c.field.result (omega arith) c.field.ensures)
+overflow_cast-result c = omega (arith, within c.before.before.before _ c.field.result (omega arith) c.field.ensures)
 
 field-requires-2 : tie.Need-field-requires-2
 field-requires-2 c κs = let s = c.before.before.before in (s.requires.0, (is-formed s, omega arith))
 
-cast-t8 : tie.Need-overflow-cast-t8
+overflow_cast-result-2 : tie.Need-overflow_cast-result-2
 unfolding widths_of
-cast-t8 c = omega (arith, within c.before.before.before.before _ c.field2.result (omega arith) c.field2.ensures)
+overflow_cast-result-2 c = omega (arith, within c.before.before.before.before _ c.field-2.result (omega arith) c.field-2.ensures)
 
 field-requires-3 : tie.Need-field-requires-3
 field-requires-3 c κs = let s = c.before.before.before.before in (s.requires.0, (is-formed s, omega arith))
 
-cast-t10 : tie.Need-overflow-cast-t10
+overflow_cast-result-3 : tie.Need-overflow_cast-result-3
 unfolding widths_of
-cast-t10 c = omega (arith, within c.before.before.before.before.before _ c.field3.result (omega arith) c.field3.ensures)
+overflow_cast-result-3 c = omega (arith, within c.before.before.before.before.before _ c.field-3.result (omega arith) c.field-3.ensures)
 
 field-requires-4 : tie.Need-field-requires-4
 field-requires-4 c κs = let s = c.before.before.before.before.before in (s.requires.0, (is-formed s, omega arith))
 
-cast-t12 : tie.Need-overflow-cast-t12
+overflow_cast-result-4 : tie.Need-overflow_cast-result-4
 unfolding widths_of
-cast-t12 c = omega (arith, within c.before.before.before.before.before.before _ c.field4.result (omega arith) c.field4.ensures)
+overflow_cast-result-4 c = omega (arith, within c.before.before.before.before.before.before _ c.field-4.result (omega arith) c.field-4.ensures)
 
 -- a field's value, read as the kind that the line is of
 read : (s : tie.Start) (k : ℕ) {x : ℕ} → x ≡ field_of s.args.frame k (rest s) → x ≡ field_of (task_kind (rest s)) k (rest s)
@@ -67,13 +67,23 @@ returns c =
     let s = one.before.before.before in
     λ i. record {
       id = read s _ one.field.ensures i;
-      cost = read s _ c.before.before.field2.ensures i;
-      deadline = read s _ c.before.field3.ensures i;
-      period = read s _ c.field4.ensures i;
-      cache = one.before.cache_at_lem.ensures i;
+      cost = read s _ c.field-2.ensures i;
+      deadline = read s _ c.field-3.ensures i;
+      period = read s _ c.field-4.ensures i;
+      cache = one.cache_at-cache.ensures i;
     }
 
-pub task-at-spec : {M : Type 1} → statement M
-task-at-spec =
+pub task_at_spec : {M : Type 1} → statement M
+task_at_spec =
     tie.close
-    (tie.spec cache-at-requires field-requires cast-t6 field-requires-2 cast-t8 field-requires-3 cast-t10 field-requires-4 cast-t12 returns)
+    (tie.spec
+    cache_at-cache-requires
+    field-requires
+    overflow_cast-result
+    field-requires-2
+    overflow_cast-result-2
+    field-requires-3
+    overflow_cast-result-3
+    field-requires-4
+    overflow_cast-result-4
+    returns)

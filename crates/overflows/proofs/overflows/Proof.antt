@@ -13,73 +13,73 @@ use Rattle.framesizes.proofs.TooLarge.{large_found, large_next, large_over}
 use Rattle.overflows.proofs.overflows.Statement.{statement}
 use Rattle.overflows.proofs.overflows.Tie as tie
 
-abbrev invariant-loop : tie.invariant-loop
-invariant-loop frame values n field₀ field = (field ≤ n) × (some_too_large (drop field (widths_of frame)) (drop field values) ≡ line_overflows frame values)
+abbrev invariant-loop-field : tie.invariant-loop-field
+invariant-loop-field frame values n field₀ field = (field ≤ n) × (some_too_large (drop field (widths_of frame)) (drop field values) ≡ line_overflows frame values)
 
-abbrev decreases-loop : tie.decreases-loop
-decreases-loop frame values n field₀ field = n - field
+abbrev decreases-loop-field : tie.decreases-loop-field
+decreases-loop-field frame values n field₀ field = n - field
 
-loop-holds : tie.Need-loop-init invariant-loop decreases-loop
+loop-field-init : tie.Need-loop-field-init invariant-loop-field decreases-loop-field
 unfolding line_overflows
-loop-holds c = (omega arith, refl)
+loop-field-init c = (omega arith, refl)
 
-width-requires : tie.Need-width-requires invariant-loop decreases-loop
-width-requires c κs = omega (arith, fields_most c.before.before.before.before.args.frame)
+width-requires : tie.Need-width-requires invariant-loop-field decreases-loop-field
+width-requires c κs = omega (arith, fields_most c.args.frame)
 
-mul-too-large : tie.Need-overflow-mul-too-large invariant-loop decreases-loop
-mul-too-large c = omega (arith, fields_most c.before.before.before.before.before.args.frame, c.before.before.before.fields_in.ensures)
+offset_bounds-values-field : tie.Need-offset_bounds-values-field invariant-loop-field decreases-loop-field
+offset_bounds-values-field c = omega (arith, fields_most c.args.frame, c.fields_in-n.ensures)
 
-shared-slice-read-too-large : tie.Need-shared-slice-read-too-large invariant-loop decreases-loop
-shared-slice-read-too-large c = omega arith
+bounds-values-field : tie.Need-bounds-values-field invariant-loop-field decreases-loop-field
+bounds-values-field c = omega arith
 
 -- the test made of a value is that of its field's width
-tested : (c : tie.After-too-large invariant-loop decreases-loop) →
-    let a = c.before.before.before.before.before.before.before.args in
-    let i = c.before.before.before.before.loop.field in
-    too_large (get_or (widths_of a.frame) i 0) (get_or a.values.now i 0) ≡ c.too_large_lem.result
+tested : (c : tie.After-too_large invariant-loop-field decreases-loop-field) →
+    let a = c.args in
+    let i = c.loop-field.field in
+    too_large (get_or (widths_of a.frame) i 0) (get_or a.values.now i 0) ≡ c.too_large.result
 tested c =
-    let a = c.before.before.before.before.before.before.before.args in
-    let i = c.before.before.before.before.loop.field in
-    sym (c.too_large_lem.ensures ∙ ap (λ (n : ℕ). too_large n (get_or a.values.now i 0)) c.before.before.width.ensures)
+    let a = c.args in
+    let i = c.loop-field.field in
+    sym (c.too_large.ensures ∙ ap (λ (n : ℕ). too_large n (get_or a.values.now i 0)) c.width.ensures)
 
-returns : tie.Need-returns invariant-loop decreases-loop
+returns-then-too_large : tie.Need-returns-then-too_large invariant-loop-field decreases-loop-field
+returns-then-too_large c =
+    let a = c.args in
+    let l = c.loop-field in
+    sym (large_found (widths_of a.frame) a.values.now l.field (omega arith) (omega arith) (tested c.before ∙ c.if-too_large.true)) ∙ l.invariant.1
+
+overflow_add-field : tie.Need-overflow_add-field invariant-loop-field decreases-loop-field
+overflow_add-field c = omega arith
+
+loop-field-smaller : tie.Need-loop-field-smaller invariant-loop-field decreases-loop-field
+loop-field-smaller c = omega arith
+
+loop-field-preserved : tie.Need-loop-field-preserved invariant-loop-field decreases-loop-field
+loop-field-preserved c =
+    let a = c.args in
+    let l = c.loop-field in
+    (omega arith, sym (large_next (widths_of a.frame) a.values.now l.field (omega arith) (omega arith) (tested c.before ∙ c.if-too_large.false)) ∙ l.invariant.1)
+
+returns : tie.Need-returns invariant-loop-field decreases-loop-field
 returns c =
-    let a = c.before.before.before.before.before.before.before.before.args in
-    let l = c.before.before.before.before.before.loop in
-    sym (large_found (widths_of a.frame) a.values.now l.field (omega arith) (omega arith) (tested c.before ∙ c.if1.true)) ∙ l.invariant.1
-
-add-field : tie.Need-overflow-add-field invariant-loop decreases-loop
-add-field c = omega arith
-
-loop-less : tie.Need-loop-smaller invariant-loop decreases-loop
-loop-less c = omega arith
-
-loop-again : tie.Need-loop-preserved invariant-loop decreases-loop
-loop-again c =
-    let a = c.before.before.before.before.before.before.before.before.args in
-    let l = c.before.before.before.before.before.loop in
-    (omega arith, sym (large_next (widths_of a.frame) a.values.now l.field (omega arith) (omega arith) (tested c.before ∙ c.if1.false)) ∙ l.invariant.1)
-
-returns-2 : tie.Need-returns-2 invariant-loop decreases-loop
-returns-2 c =
-    let a = c.before.before.before.before.args in
-    let l = c.before.loop in
+    let a = c.args in
+    let l = c.loop-field in
     sym (large_over (widths_of a.frame) a.values.now l.field (omega arith)) ∙ l.invariant.1
 
-pub overflows-spec : {M : Type 1} → statement M
-overflows-spec =
+pub overflows_spec : {M : Type 1} → statement M
+overflows_spec =
     tie.close
     (tie.spec
-    invariant-loop
-    decreases-loop
+    invariant-loop-field
+    decreases-loop-field
     (λ c κs. search rules)
-    loop-holds
+    loop-field-init
     width-requires
-    mul-too-large
-    shared-slice-read-too-large
+    offset_bounds-values-field
+    bounds-values-field
     (λ c κs. search rules)
-    returns
-    add-field
-    loop-less
-    loop-again
-    returns-2)
+    returns-then-too_large
+    overflow_add-field
+    loop-field-smaller
+    loop-field-preserved
+    returns)

@@ -35,7 +35,7 @@ module _ (c : tie.After-charge_server-own) where
   start = c.before.before.before.before.before
 
   abbrev loads : List ℕ
-  loads = c.charge_server-own.new.loads.0
+  loads = c.charge_server-own.new.loads
 
   -- how far their numbers and the interrupts' go
   abbrev end : ℕ
@@ -69,7 +69,7 @@ passes-requires c κs =
         },
         (
           inr refl,
-          front_maskable s.requires.0 s.requires.1 (front at) _ at.charge_server-own.ensures.0 (omega (arith, c.masked_ticks-masked.type-inv)),
+          front_maskable s.requires.0 s.requires.1 (front at) _ at.charge_server-own.ensures.0 (omega (arith, c.masked_ticks-masked.type_inv)),
         ),
       ),
     )

@@ -2,7 +2,6 @@
 -- Assumes nothing.
 use Prim.Native.Nat.{ℕ}
 use mathlib.Core.Path.{ap, ◌∙◌}
-use borrow.Author.Rules.{rules}
 use Rattle.wholes.specs.Ceiling.{ceiling_of}
 use Rattle.reserves_code.proofs.ring_processors.Goals as goal
 

@@ -1,12 +1,8 @@
 -- `sums::ring_ticks` meets its contract. The loop's invariant: the sum is that of the first i reserves.
 -- The measure is what is left of n. Assumes nothing.
-use Prim.Native.Nat.{◌-◌}
-use mathlib.Core.Logic.{⊎_elim}
-use borrow.Author.Rules.{rules}
 use native.Mathlib.Omega.{arith}
-use Rattle.reserves.specs.Reserves.{ring_ticks}
 use Rattle.reserves.proofs.Starts.{ring_nil}
-use Rattle.reserves.proofs.SummedLaws.{Summed, summed_none, summed_all, ticks_more, ticks_same, ticks_room}
+use Rattle.reserves.proofs.SummedLaws.{summed_none, summed_all, ticks_more, ticks_same, ticks_room}
 use Rattle.reserves_code.proofs.ring_ticks.Goals as goal
 use Rattle.reserves_code.proofs.ring_ticks.Goals.{else-reserve-slot, then-reserve-slot}
 
@@ -25,6 +21,6 @@ pub loop-i-preserved : goal.loop-i-preserved
 loop-i-preserved c =
     let h = c.loop-i-test.true in
     (elim c.if-reserve-slot.branch [
-      | then-reserve-slot w ↦ ticks_more c.requires c.loop-i.invariant h (omega (arith, w.if-reserve-slot.true)) w.1
-      | else-reserve-slot w ↦ ticks_same c.requires c.loop-i.invariant h (omega (arith, w.if-reserve-slot.false)) w.1
+      | then-reserve-slot w ↦ ticks_more c.requires c.loop-i.invariant h (omega (arith, w.if-reserve-slot.true)) w.sum-is
+      | else-reserve-slot w ↦ ticks_same c.requires c.loop-i.invariant h (omega (arith, w.if-reserve-slot.false)) w.sum-is
     ])

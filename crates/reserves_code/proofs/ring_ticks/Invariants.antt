@@ -1,10 +1,6 @@
 use Prim.Native.Nat.{◌-◌}
-use mathlib.Core.Logic.{⊎_elim}
-use borrow.Author.Rules.{rules}
-use native.Mathlib.Omega.{arith}
 use Rattle.reserves.specs.Reserves.{ring_ticks}
-use Rattle.reserves.proofs.Starts.{ring_nil}
-use Rattle.reserves.proofs.SummedLaws.{Summed, summed_none, summed_all, ticks_more, ticks_same, ticks_room}
+use Rattle.reserves.proofs.SummedLaws.{Summed}
 use Rattle.reserves_code.proofs.ring_ticks.Given as goal
 
 abbrev pub invariant-loop-i : goal.invariant-loop-i

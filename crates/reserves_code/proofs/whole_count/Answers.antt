@@ -1,12 +1,8 @@
 -- `sums::whole_count` meets its contract. The loop's invariant: the count is that of the first i reserves.
 -- The measure is what is left of n. Assumes nothing.
-use Prim.Native.Nat.{◌-◌}
-use mathlib.Core.Logic.{⊎_elim}
-use borrow.Author.Rules.{rules}
 use native.Mathlib.Omega.{arith}
-use Rattle.reserves.specs.Reserves.{wholes}
 use Rattle.reserves.proofs.Starts.{wholes_nil}
-use Rattle.reserves.proofs.SummedLaws.{Summed, summed_none, summed_all, count_more, count_same, count_room}
+use Rattle.reserves.proofs.SummedLaws.{summed_none, summed_all, count_more, count_same, count_room}
 use Rattle.reserves_code.proofs.whole_count.Goals as goal
 use Rattle.reserves_code.proofs.whole_count.Goals.{else-slot-reserve, then-slot-reserve}
 
@@ -24,6 +20,6 @@ pub loop-i-preserved : goal.loop-i-preserved
 loop-i-preserved c =
     let h = c.loop-i-test.true in
     (elim c.if-slot-reserve.branch [
-      | then-slot-reserve w ↦ count_more c.requires c.loop-i.invariant h (omega (arith, w.if-slot-reserve.true)) w.1
-      | else-slot-reserve w ↦ count_same c.requires c.loop-i.invariant h (omega (arith, w.if-slot-reserve.false)) w.1
+      | then-slot-reserve w ↦ count_more c.requires c.loop-i.invariant h (omega (arith, w.if-slot-reserve.true)) w.count-is
+      | else-slot-reserve w ↦ count_same c.requires c.loop-i.invariant h (omega (arith, w.if-slot-reserve.false)) w.count-is
     ])

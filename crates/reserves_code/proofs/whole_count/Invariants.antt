@@ -1,10 +1,6 @@
 use Prim.Native.Nat.{◌-◌}
-use mathlib.Core.Logic.{⊎_elim}
-use borrow.Author.Rules.{rules}
-use native.Mathlib.Omega.{arith}
 use Rattle.reserves.specs.Reserves.{wholes}
-use Rattle.reserves.proofs.Starts.{wholes_nil}
-use Rattle.reserves.proofs.SummedLaws.{Summed, summed_none, summed_all, count_more, count_same, count_room}
+use Rattle.reserves.proofs.SummedLaws.{Summed}
 use Rattle.reserves_code.proofs.whole_count.Given as goal
 
 abbrev pub invariant-loop-i : goal.invariant-loop-i

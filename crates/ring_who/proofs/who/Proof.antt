@@ -9,45 +9,41 @@ use borrow.Author.Rules.{rules}
 use Rattle.ring_who.proofs.who.Statement.{statement}
 use Rattle.ring_who.proofs.who.Tie as tie
 
-position-requires : tie.Need-position-requires
-position-requires c κs =
-    let s = c.before.before.before in
-    let l : s.args.processor ≤ c.before.ring-processors.result = omega (arith, c.if1.true) in
-    phase_asks s.requires.0 c.before.ring-processors.ensures s.requires.1 l
+position-at-requires : tie.Need-position-at-requires
+position-at-requires c κs =
+    let l : c.args.processor ≤ c.ring_processors-ring.result = omega (arith, c.if-processor-ring.true) in
+    phase_asks c.requires.0 c.ring_processors-ring.ensures c.requires.1 l
 
-stand-at-requires : tie.Need-stand-at-requires
-stand-at-requires c κs =
-    let s = c.before.before.before.before in
-    let l : s.args.processor ≤ c.before.before.ring-processors.result = omega (arith, c.before.if1.true) in
-    (s.requires.0, phase_lands s.requires.0 c.before.before.ring-processors.ensures c.position.result s.args.tick s.requires.1 l c.position.ensures)
+stand_at-requires : tie.Need-stand_at-requires
+stand_at-requires c κs =
+    let l : c.args.processor ≤ c.ring_processors-ring.result = omega (arith, c.if-processor-ring.true) in
+    (c.requires.0, phase_lands c.requires.0 c.ring_processors-ring.ensures c.position-at.result c.args.tick c.requires.1 l c.position-at.ensures)
+
+returns-then-processor-ring : tie.Need-returns-then-processor-ring
+returns-then-processor-ring c =
+    let l : c.args.processor ≤ c.ring_processors-ring.result = omega (arith, c.if-processor-ring.true) in
+    c.stand_at.ensures ∙
+    who_lands c.requires.0 c.ring_processors-ring.ensures c.position-at.result c.args.tick l c.position-at.ensures
+
+overflow_sub-result : tie.Need-overflow_sub-result
+overflow_sub-result c = le_of_lt (mod-lt c.args.tick.0 c.requires.0.slot_some)
 
 returns : tie.Need-returns
 returns c =
-    let s = c.before.before.before.before.before in
-    let l : s.args.processor ≤ c.before.before.before.ring-processors.result = omega (arith, c.before.before.if1.true) in
-    c.stand-at.ensures ∙
-    who_lands s.requires.0 c.before.before.before.ring-processors.ensures c.before.position.result s.args.tick l c.before.position.ensures
+    let l : c.ring_processors-ring.result < c.args.processor = omega (arith, c.if-processor-ring.false) in
+    who_own c.requires.0 c.ring_processors-ring.ensures c.whole_server-server.result c.args.tick l c.whole_server-server.ensures
 
-sub-t12 : tie.Need-overflow-sub-t12
-sub-t12 c = let s = c.before.before.before.before in le_of_lt (mod-lt s.args.tick.0 s.requires.0.slot_some)
-
-returns-2 : tie.Need-returns-2
-returns-2 c =
-    let s = c.before.before.before.before in
-    let l : c.before.before.ring-processors.result < s.args.processor = omega (arith, c.before.if1.false) in
-    who_own s.requires.0 c.before.before.ring-processors.ensures c.whole_server_lem.result s.args.tick l c.whole_server_lem.ensures
-
-pub who-spec : {M : Type 1} → statement M
-who-spec =
+pub who_spec : {M : Type 1} → statement M
+who_spec =
     tie.close
     (tie.spec
     (λ c κs. search rules)
-    position-requires
-    stand-at-requires
-    returns
+    position-at-requires
+    stand_at-requires
+    returns-then-processor-ring
     (λ c. search rules)
     (λ c. search rules)
     (λ c κs. search rules)
     (λ c. search rules)
-    sub-t12
-    returns-2)
+    overflow_sub-result
+    returns)

@@ -2,7 +2,6 @@
 -- Assumes nothing.
 use Prim.Native.Nat.{max}
 use mathlib.Core.Path.{sym, ap₂, ◌∙◌}
-use borrow.Author.Rules.{rules}
 use Rattle.demand.specs.Load.{loads_of}
 use Rattle.demand.specs.Demand.{demand}
 use Rattle.demand.proofs.Demand.{demand_mono}

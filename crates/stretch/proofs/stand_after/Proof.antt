@@ -13,70 +13,66 @@ use Rattle.stretch.proofs.AfterLaws.{behind_first, behind_found, behind_idle, be
 use Rattle.stretch.proofs.stand_after.Statement.{statement}
 use Rattle.stretch.proofs.stand_after.Tie as tie
 
-abbrev invariant-loop : tie.invariant-loop
-invariant-loop reserves n slot idle server i₀ i = Summed (ring_ticks slot) reserves n (ring_ticks slot (take server reserves)) i
+abbrev invariant-loop-i : tie.invariant-loop-i
+invariant-loop-i reserves n slot idle server i₀ i = Summed (ring_ticks slot) reserves n (ring_ticks slot (take server reserves)) i
 
-abbrev decreases-loop : tie.decreases-loop
-decreases-loop reserves n slot idle server i₀ i = n - i
+abbrev decreases-loop-i : tie.decreases-loop-i
+decreases-loop-i reserves n slot idle server i₀ i = n - i
 
-loop-holds : tie.Need-loop-init invariant-loop decreases-loop
-loop-holds c = let s = c.before in behind_first s.requires.0.0 s.requires.1
+loop-i-init : tie.Need-loop-i-init invariant-loop-i decreases-loop-i
+loop-i-init c = behind_first c.requires.0.0 c.requires.1
 
-add-next : tie.Need-overflow-add-next invariant-loop decreases-loop
-add-next c = omega (arith, c.before.before.before.before.before.requires.0.0.few)
+overflow_add-next : tie.Need-overflow_add-next invariant-loop-i decreases-loop-i
+overflow_add-next c = omega (arith, c.requires.0.0.few)
 
-returns : tie.Need-returns invariant-loop decreases-loop
-returns c =
+returns-then-reserve-slot : tie.Need-returns-then-reserve-slot invariant-loop-i decreases-loop-i
+returns-then-reserve-slot c =
     let at = c.before.before.before in
-    let s = at.before.before in
-    let ring : get_or s.args.reserves.now at.loop.i 0 < s.args.slot = omega (arith, c.if1.true) in
-    behind_found s.requires.0.0 s.requires.1 at.loop.invariant c.before.before.loop-test.true ring
+    let ring : get_or at.args.reserves.now at.loop-i.i 0 < at.args.slot = omega (arith, c.if-reserve-slot.true) in
+    behind_found at.requires.0.0 at.requires.1 at.loop-i.invariant c.loop-i-test.true ring
 
-loop-again : tie.Need-loop-preserved invariant-loop decreases-loop
-loop-again c =
+loop-i-preserved : tie.Need-loop-i-preserved invariant-loop-i decreases-loop-i
+loop-i-preserved c =
     let at = c.before.before.before in
-    let s = at.before.before in
-    let whole : s.args.slot ≤ get_or s.args.reserves.now at.loop.i 0 = omega (arith, c.if1.false) in
-    ticks_same s.requires.0.0 at.loop.invariant c.before.before.loop-test.true whole refl
+    let whole : at.args.slot ≤ get_or at.args.reserves.now at.loop-i.i 0 = omega (arith, c.if-reserve-slot.false) in
+    ticks_same at.requires.0.0 at.loop-i.invariant c.loop-i-test.true whole refl
 
-returns-2 : tie.Need-returns-2 invariant-loop decreases-loop
-returns-2 c =
+returns-then-idle-ne0 : tie.Need-returns-then-idle-ne0 invariant-loop-i decreases-loop-i
+returns-then-idle-ne0 c =
     let at = c.before.before in
-    let s = at.before.before in
-    let some : 1 ≤ s.args.idle = omega (arith, c.if2.true) in
-    behind_idle s.requires.0.0 s.requires.1 at.loop.invariant c.before.loop-test.false s.requires.0.1 some
+    let some : 1 ≤ at.args.idle = omega (arith, c.if-idle-ne0.true) in
+    behind_idle at.requires.0.0 at.requires.1 at.loop-i.invariant c.loop-i-test.false at.requires.0.1 some
 
 -- where there are no idle positions, the ring is there and begins again
-again : (c : tie.Else2 invariant-loop decreases-loop) →
-    let a = c.before.before.before.before.args in
+again : (c : tie.Else-idle-ne0 invariant-loop-i decreases-loop-i) →
+    let a = c.args in
     let rs = take a.n a.reserves.now in
     (0 < ring_length a.slot rs) × (stand_at a.slot rs (record { 0 = 0 }) ≡ stand_after a.slot rs a.server)
 again c =
     let at = c.before.before in
-    let s = at.before.before in
-    let none : idle_positions s.args.slot (take s.args.n s.args.reserves.now) ≡ 0 = omega (arith, c.if2.false, s.requires.0.1) in
-    behind_again s.requires.0.0 s.args.server s.requires.1 at.loop.invariant c.before.loop-test.false none
+    let none : idle_positions at.args.slot (take at.args.n at.args.reserves.now) ≡ 0 = omega (arith, c.if-idle-ne0.false, at.requires.0.1) in
+    behind_again at.requires.0.0 at.args.server at.requires.1 at.loop-i.invariant c.loop-i-test.false none
 
-stand-at-requires : tie.Need-stand-at-requires invariant-loop decreases-loop
-stand-at-requires c κs = (c.before.before.before.before.requires.0.0, (again c).0)
+stand_at-requires : tie.Need-stand_at-requires invariant-loop-i decreases-loop-i
+stand_at-requires c κs = (c.requires.0.0, (again c).0)
 
-returns-3 : tie.Need-returns-3 invariant-loop decreases-loop
-returns-3 c = c.stand-at.ensures ∙ (again c.before).1
+returns : tie.Need-returns invariant-loop-i decreases-loop-i
+returns c = c.stand_at.ensures ∙ (again c.before).1
 
-pub stand-after-spec : {M : Type 1} → statement M
-stand-after-spec =
+pub stand_after_spec : {M : Type 1} → statement M
+stand_after_spec =
     tie.close
     (tie.spec
-    invariant-loop
-    decreases-loop
-    loop-holds
+    invariant-loop-i
+    decreases-loop-i
+    loop-i-init
     (λ c. search rules)
     (λ c. search rules)
-    add-next
-    returns
+    overflow_add-next
+    returns-then-reserve-slot
     (λ c. search rules)
     (λ c. search rules)
-    loop-again
-    returns-2
-    stand-at-requires
-    returns-3)
+    loop-i-preserved
+    returns-then-idle-ne0
+    stand_at-requires
+    returns)

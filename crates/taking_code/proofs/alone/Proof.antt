@@ -9,29 +9,36 @@ use Rattle.taking.proofs.ChargedLaws.{standing_alone, standing_served}
 use Rattle.taking_code.proofs.alone.Statement.{statement}
 use Rattle.taking_code.proofs.alone.Tie as tie
 
-mul-cache : tie.Need-overflow-mul-cache
-mul-cache c = omega (arith, c.before.before.requires.0.few)
+overflow_mul-cache : tie.Need-overflow_mul-cache
+overflow_mul-cache c = omega (arith, c.requires.0.few)
 
-add-cache : tie.Need-overflow-add-cache
-add-cache c = omega (arith, c.before.before.requires.0.few)
+overflow_add-cache : tie.Need-overflow_add-cache
+overflow_add-cache c = omega (arith, c.requires.0.few)
 
-mul-cache-2 : tie.Need-overflow-mul-cache-2
-mul-cache-2 c = omega (arith, c.before.before.requires.0.few)
+offset_bounds-figures-i : tie.Need-offset_bounds-figures-i
+offset_bounds-figures-i c = omega (arith, c.requires.0.few)
 
-shared-slice-read-cache : tie.Need-shared-slice-read-cache
-shared-slice-read-cache c = let s = c.before.before.before in omega (arith, (filed_last s.args.i s.requires.0).0)
+bounds-figures-i : tie.Need-bounds-figures-i
+bounds-figures-i c = omega (arith, (filed_last c.args.i c.requires.0).0)
 
-passes-whole-requires : tie.Need-passes-whole-requires
-passes-whole-requires c κs =
-    let s = c.before.before.before.before in (
-      standing_served _ s.requires.0 (standing_alone s.args.figures.now s.args.i) (sym (cache_alone (figures_at s.args.figures.now s.args.i))),
-      s.requires.1,
-    )
+passes_whole-requires : tie.Need-passes_whole-requires
+passes_whole-requires c κs = (
+  standing_served _ c.requires.0 (standing_alone c.args.figures.now c.args.i) (sym (cache_alone (figures_at c.args.figures.now c.args.i))),
+  c.requires.1,
+)
 
 returns : tie.Need-returns
-returns c = c.passes-whole.ensures
+returns c = c.passes_whole.ensures
 
-pub alone-spec : {M : Type 1} → statement M
-alone-spec =
+pub alone_spec : {M : Type 1} → statement M
+alone_spec =
     tie.close
-    (tie.spec (λ c. search rules) mul-cache add-cache mul-cache-2 shared-slice-read-cache (λ c. search rules) passes-whole-requires returns)
+    (tie.spec
+    (λ c. search rules)
+    overflow_mul-cache
+    overflow_add-cache
+    offset_bounds-figures-i
+    bounds-figures-i
+    (λ c. search rules)
+    passes_whole-requires
+    returns)

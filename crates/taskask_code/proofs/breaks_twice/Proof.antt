@@ -6,7 +6,7 @@ use mathlib.Core.Path.{◌≡◌, refl, sym, ◌∙◌}
 use mathlib.Core.Bool.{Bool, true, false, ◌||◌}
 use native.Mathlib.Omega.{arith}
 use borrow.Author.Tests.{eq-eqb, ne_eqb}
-use lib.ListN.{length, length-map, drop, get_or}
+use lib.ListN.{length, drop, get_or}
 use Rattle.tasks.specs.Set.{most_tasks, members, zero_task, has_id}
 use Rattle.tasks.specs.Search.{some}
 use Rattle.tasks.proofs.Some.{some_left, some_end}
@@ -15,117 +15,113 @@ use Rattle.taskask.proofs.TwiceLaws.{twice_left, twice_end}
 use Rattle.taskask_code.proofs.breaks_twice.Statement.{statement}
 use Rattle.taskask_code.proofs.breaks_twice.Tie as tie
 
-abbrev invariant-loop : tie.invariant-loop
-invariant-loop set count i₀ i = twice_row (members set) ≡ twice_row (drop i (members set))
+abbrev invariant-loop-i : tie.invariant-loop-i
+invariant-loop-i set count i₀ i = twice_row (members set) ≡ twice_row (drop i (members set))
 
-abbrev decreases-loop : tie.decreases-loop
-decreases-loop set count i₀ i = count - i
+abbrev decreases-loop-i : tie.decreases-loop-i
+decreases-loop-i set count i₀ i = count - i
 
-abbrev invariant-loop2 : tie.invariant-loop2
-invariant-loop2 set count i id j₀ j = some (has_id id) (drop j₀ (members set)) ≡ some (has_id id) (drop j (members set))
+abbrev invariant-loop-j : tie.invariant-loop-j
+invariant-loop-j set count i id j₀ j = some (has_id id) (drop j₀ (members set)) ≡ some (has_id id) (drop j (members set))
 
-abbrev decreases-loop2 : tie.decreases-loop2
-decreases-loop2 set count i id j₀ j = count - j
+abbrev decreases-loop-j : tie.decreases-loop-j
+decreases-loop-j set count i id j₀ j = count - j
 
-full : (c : tie.Start invariant-loop2 decreases-loop2 invariant-loop decreases-loop) → length c.args.t1.tasks ≡ most_tasks
-full c = sym (length-map c.args.t1.tasks _) ∙ c.well-formed.0.1.1.1.1.0.1.0.1
+full : (c : tie.Start invariant-loop-j decreases-loop-j invariant-loop-i decreases-loop-i) → length c.args.set.tasks ≡ most_tasks
+full c = c.well_formed.0.1.1.1.1.0.1.0.1
 
-fits : (c : tie.Start invariant-loop2 decreases-loop2 invariant-loop decreases-loop) → c.args.t1.count ≤ length c.args.t1.tasks
+fits : (c : tie.Start invariant-loop-j decreases-loop-j invariant-loop-i decreases-loop-i) → c.args.set.count ≤ length c.args.set.tasks
 fits c = omega (arith, full c, c.requires)
 
-loop-holds : tie.Need-loop-init invariant-loop2 decreases-loop2 invariant-loop decreases-loop
-loop-holds c = refl
+loop-i-init : tie.Need-loop-i-init invariant-loop-j decreases-loop-j invariant-loop-i decreases-loop-i
+loop-i-init c = refl
 
-mul-id : tie.Need-overflow-mul-id invariant-loop2 decreases-loop2 invariant-loop decreases-loop
-mul-id c = omega arith
+offset_bounds-set-i : tie.Need-offset_bounds-set-i invariant-loop-j decreases-loop-j invariant-loop-i decreases-loop-i
+offset_bounds-set-i c = omega arith
 
-element-copy-out-id : tie.Need-element-copy-out-id invariant-loop2 decreases-loop2 invariant-loop decreases-loop
-element-copy-out-id c = omega arith
+bounds-set-i : tie.Need-bounds-set-i invariant-loop-j decreases-loop-j invariant-loop-i decreases-loop-i
+bounds-set-i c = omega arith
 
-add-j : tie.Need-overflow-add-j invariant-loop2 decreases-loop2 invariant-loop decreases-loop
-add-j c = omega arith
+overflow_add-j : tie.Need-overflow_add-j invariant-loop-j decreases-loop-j invariant-loop-i decreases-loop-i
+overflow_add-j c = omega arith
 
-loop2-holds : tie.Need-loop2-init invariant-loop2 decreases-loop2 invariant-loop decreases-loop
-loop2-holds c = refl
+loop-j-init : tie.Need-loop-j-init invariant-loop-j decreases-loop-j invariant-loop-i decreases-loop-i
+loop-j-init c = refl
 
-mul-if1 : tie.Need-overflow-mul-if1 invariant-loop2 decreases-loop2 invariant-loop decreases-loop
-mul-if1 c = omega arith
+offset_bounds-set-j : tie.Need-offset_bounds-set-j invariant-loop-j decreases-loop-j invariant-loop-i decreases-loop-i
+offset_bounds-set-j c = omega arith
 
-element-copy-out-if1 : tie.Need-element-copy-out-if1 invariant-loop2 decreases-loop2 invariant-loop decreases-loop
-element-copy-out-if1 c = omega arith
+bounds-set-j : tie.Need-bounds-set-j invariant-loop-j decreases-loop-j invariant-loop-i decreases-loop-i
+bounds-set-j c = omega arith
 
 -- what the tasks behind `i` answer, told by those from `j` on
-by_rest : (c : tie.At-loop2 invariant-loop2 decreases-loop2 invariant-loop decreases-loop) (b : Bool) →
+by_rest : (c : tie.At-loop-j invariant-loop-j decreases-loop-j invariant-loop-i decreases-loop-i) (b : Bool) →
     let at = c.before.before in
-    let set = at.before.args.t1 in
-    some (has_id (get_or set.tasks at.loop.i zero_task).id) (drop c.loop2.j (members set)) ≡ b
-    → twice_row (drop at.loop.i (members set)) ≡ (b || twice_row (drop (at.loop.i + 1) (members set)))
+    let set = at.args.set in
+    some (has_id (get_or set.tasks at.loop-i.i zero_task).id) (drop c.loop-j.j (members set)) ≡ b
+    → twice_row (drop at.loop-i.i (members set)) ≡ (b || twice_row (drop (at.loop-i.i + 1) (members set)))
 by_rest c b e =
-    let at = c.before.before in
-    let set = at.before.args.t1 in
-    twice_left set.tasks set.count at.loop.i zero_task b (fits at.before) c.before.loop-test.true (c.loop2.invariant ∙ e)
+    let set = c.args.set in
+    twice_left set.tasks set.count c.loop-i.i zero_task b (fits c.before.before.before) c.loop-i-test.true (c.loop-j.invariant ∙ e)
 
-returns : tie.Need-returns invariant-loop2 decreases-loop2 invariant-loop decreases-loop
-returns c =
+returns-then-set-j : tie.Need-returns-then-set-j invariant-loop-j decreases-loop-j invariant-loop-i decreases-loop-i
+returns-then-set-j c =
     let l = c.before.before in
-    let at = l.before.before in
-    let set = at.before.args.t1 in
-    let id = (get_or set.tasks at.loop.i zero_task).id in
-    sym (at.loop.invariant ∙ by_rest l true (some_left (has_id id) set.tasks set.count l.loop2.j zero_task true (fits at.before) c.before.loop2-test.true (eq-eqb _ _ c.if1.true)))
+    let set = l.args.set in
+    let id = (get_or set.tasks l.loop-i.i zero_task).id in
+    sym (l.loop-i.invariant ∙ by_rest l true (some_left (has_id id) set.tasks set.count l.loop-j.j zero_task true (fits l.before.before.before) c.loop-j-test.true (eq-eqb _ _ c.if-set-j.true)))
 
-add-j-2 : tie.Need-overflow-add-j-2 invariant-loop2 decreases-loop2 invariant-loop decreases-loop
-add-j-2 c = omega arith
+overflow_add-j-in-loop-j : tie.Need-overflow_add-j-in-loop-j invariant-loop-j decreases-loop-j invariant-loop-i decreases-loop-i
+overflow_add-j-in-loop-j c = omega arith
 
-loop2-less : tie.Need-loop2-smaller invariant-loop2 decreases-loop2 invariant-loop decreases-loop
-loop2-less c = omega arith
+loop-j-smaller : tie.Need-loop-j-smaller invariant-loop-j decreases-loop-j invariant-loop-i decreases-loop-i
+loop-j-smaller c = omega arith
 
-loop2-again : tie.Need-loop2-preserved invariant-loop2 decreases-loop2 invariant-loop decreases-loop
-loop2-again c =
+loop-j-preserved : tie.Need-loop-j-preserved invariant-loop-j decreases-loop-j invariant-loop-i decreases-loop-i
+loop-j-preserved c =
     let l = c.before.before in
-    let at = l.before.before in
-    let set = at.before.args.t1 in
-    let id = (get_or set.tasks at.loop.i zero_task).id in
-    l.loop2.invariant ∙ some_left (has_id id) set.tasks set.count l.loop2.j zero_task false (fits at.before) c.before.loop2-test.true (ne_eqb _ _ c.if1.false)
+    let set = l.args.set in
+    let id = (get_or set.tasks l.loop-i.i zero_task).id in
+    l.loop-j.invariant ∙ some_left (has_id id) set.tasks set.count l.loop-j.j zero_task false (fits l.before.before.before) c.loop-j-test.true (ne_eqb _ _ c.if-set-j.false)
 
-add-i : tie.Need-overflow-add-i invariant-loop2 decreases-loop2 invariant-loop decreases-loop
-add-i c = omega arith
+overflow_add-i : tie.Need-overflow_add-i invariant-loop-j decreases-loop-j invariant-loop-i decreases-loop-i
+overflow_add-i c = omega arith
 
-loop-less : tie.Need-loop-smaller invariant-loop2 decreases-loop2 invariant-loop decreases-loop
-loop-less c = omega arith
+loop-i-smaller : tie.Need-loop-i-smaller invariant-loop-j decreases-loop-j invariant-loop-i decreases-loop-i
+loop-i-smaller c = omega arith
 
-loop-again : tie.Need-loop-preserved invariant-loop2 decreases-loop2 invariant-loop decreases-loop
-loop-again c =
+loop-i-preserved : tie.Need-loop-i-preserved invariant-loop-j decreases-loop-j invariant-loop-i decreases-loop-i
+loop-i-preserved c =
     let l = c.before in
-    let at = l.before.before in
-    let set = at.before.args.t1 in
-    let id = (get_or set.tasks at.loop.i zero_task).id in
-    at.loop.invariant ∙ by_rest l false (some_end (has_id id) set.tasks set.count l.loop2.j (fits at.before) c.loop2-test.false)
+    let set = l.args.set in
+    let id = (get_or set.tasks l.loop-i.i zero_task).id in
+    l.loop-i.invariant ∙ by_rest l false (some_end (has_id id) set.tasks set.count l.loop-j.j (fits l.before.before.before) c.loop-j-test.false)
 
-returns-2 : tie.Need-returns-2 invariant-loop2 decreases-loop2 invariant-loop decreases-loop
-returns-2 c =
-    let set = c.before.before.args.t1 in
-    sym (c.before.loop.invariant ∙ twice_end set.tasks set.count c.before.loop.i (fits c.before.before) c.loop-test.false)
+returns : tie.Need-returns invariant-loop-j decreases-loop-j invariant-loop-i decreases-loop-i
+returns c =
+    let set = c.args.set in
+    sym (c.loop-i.invariant ∙ twice_end set.tasks set.count c.loop-i.i (fits c.before.before) c.loop-i-test.false)
 
-pub breaks-twice-spec : {M : Type 1} → statement M
-breaks-twice-spec =
+pub breaks_twice_spec : {M : Type 1} → statement M
+breaks_twice_spec =
     tie.close
     (tie.spec
-    invariant-loop2
-    decreases-loop2
-    invariant-loop
-    decreases-loop
-    loop-holds
-    mul-id
-    element-copy-out-id
-    add-j
-    loop2-holds
-    mul-if1
-    element-copy-out-if1
-    returns
-    add-j-2
-    loop2-less
-    loop2-again
-    add-i
-    loop-less
-    loop-again
-    returns-2)
+    invariant-loop-j
+    decreases-loop-j
+    invariant-loop-i
+    decreases-loop-i
+    loop-i-init
+    offset_bounds-set-i
+    bounds-set-i
+    overflow_add-j
+    loop-j-init
+    offset_bounds-set-j
+    bounds-set-j
+    returns-then-set-j
+    overflow_add-j-in-loop-j
+    loop-j-smaller
+    loop-j-preserved
+    overflow_add-i
+    loop-i-smaller
+    loop-i-preserved
+    returns)
