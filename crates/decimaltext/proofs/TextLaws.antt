@@ -2,9 +2,9 @@
 -- Assumes nothing.
 use Prim.Native.Nat.{ℕ, zero, suc, ◌+◌, ◌-◌, ◌*◌, ◌/◌, ◌%◌, ◌^◌, ◌≤◌, ◌<◌}
 use mathlib.Core.Path.{◌≡◌, refl, sym, ◌∙◌, ap, ap₂, subst}
-use mathlib.Core.Bool.{Bool, true, ◌&&◌}
+use mathlib.Core.Bool.{true, ◌&&◌}
 use mathlib.Core.List.{List, [], ◌∷◌, ◌++◌}
-use native.Mathlib.Nat.{pow-suc, mod-lt, div-add-mod', div-lt_iff_lt-mul}
+use native.Mathlib.Nat.{pow-suc, div-lt_iff_lt-mul}
 use native.Mathlib.Omega.{arith}
 use lib.Dec.{leb, lit<}
 use lib.ListN.{length, get_or, set, length-append}
@@ -14,7 +14,6 @@ use Rattle.laws.proofs.Tests.{and_both, and_left, and_right}
 use Rattle.laws.proofs.Orders.{le_or_lt}
 use Rattle.digits.specs.Stored.{stored}
 use Rattle.digits.proofs.Stored.{stored_nil, stored_set}
-use Rattle.decimals.specs.declared.Number.{Number}
 use Rattle.decimals.specs.declared.Number.TheVariants.{Of}
 use Rattle.decimals.specs.Decimal.{all_digits, value_from, number_from, decimal_of}
 use Rattle.decimals.proofs.DecimalLaws.{decimal_of_lem}

@@ -1,7 +1,7 @@
 -- What rows 11 and 5 to 9 say of a set: which rows are clear, and what planning it answers.
 -- Assumes nothing.
 use Prim.Native.Nat.{ℕ}
-use mathlib.Core.Path.{◌≡◌, refl, sym, ◌∙◌}
+use mathlib.Core.Path.{◌≡◌, refl}
 use mathlib.Core.Bool.{true, false}
 use Rattle.laws.proofs.Tests.{clash}
 use Rattle.refusals.specs.declared.Refusal.{Refusal}

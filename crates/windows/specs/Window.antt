@@ -1,6 +1,6 @@
 -- The usable ticks of a reserve that stands once a slot, from any start, in any window; and when windows cover a demand.
 -- Document 01, "From tasks to servers to ring" (RULES 3): usable ticks, a cut reserve, a smaller reserve for a whole-processor server.
-use Rattle.std.specs.Prelude.{ℕ, zero, suc, ◌+◌, ◌-◌, ◌%◌, ◌≤◌, Bool, true, false, cond, ◌&&◌, leb, ltb}
+use Rattle.std.specs.Prelude.{ℕ, zero, suc, ◌+◌, ◌-◌, ◌%◌, ◌≤◌, Bool, cond, ◌&&◌, leb, ltb}
 
 -- how many ticks ago the reserve's latest start was, at tick x: (x − start) mod S
 unfoldable pub since : (S start x : ℕ) → ℕ

@@ -12,68 +12,66 @@ use Rattle.alonerow.proofs.AloneLaws.{Tried, tried_none, tried_next, tried_found
 use Rattle.alonerow_code.proofs.first_alone.Statement.{statement}
 use Rattle.alonerow_code.proofs.first_alone.Tie as tie
 
-abbrev invariant-loop : tie.invariant-loop
-invariant-loop header figures n interrupts horizon i₀ i = Tried (board_of header interrupts) figures n i
+abbrev invariant-loop-i : tie.invariant-loop-i
+invariant-loop-i header figures n interrupts horizon i₀ i = Tried (board_of header interrupts) figures n i
 
-abbrev decreases-loop : tie.decreases-loop
-decreases-loop header figures n interrupts horizon i₀ i = n - i
+abbrev decreases-loop-i : tie.decreases-loop-i
+decreases-loop-i header figures n interrupts horizon i₀ i = n - i
 
-returns : tie.Need-returns invariant-loop decreases-loop
-returns c =
-    let s = c.before.before.before in
-    let bare : length s.args.interrupts.now ≡ 0 = omega (arith, c.if1.true) in
-    none_first_alone s.args.interrupts.now s.requires.0 s.requires.1.1 bare
+returns-then-interrupts-eq0 : tie.Need-returns-then-interrupts-eq0 invariant-loop-i decreases-loop-i
+returns-then-interrupts-eq0 c =
+    let bare : length c.args.interrupts.now ≡ 0 = omega (arith, c.if-interrupts-eq0.true) in
+    none_first_alone c.args.interrupts.now c.requires.0 c.requires.1.1 bare
 
-loop-holds : tie.Need-loop-init invariant-loop decreases-loop
-loop-holds c = tried_none _ c.before.before.before.args.figures.now _
+loop-i-init : tie.Need-loop-i-init invariant-loop-i decreases-loop-i
+loop-i-init c = tried_none _ c.args.figures.now _
 
-alone-requires : tie.Need-alone-requires invariant-loop decreases-loop
+alone-requires : tie.Need-alone-requires invariant-loop-i decreases-loop-i
 alone-requires c κs =
-    let s = c.before.before.before.before.before in
-    (filed_first (c.before.loop.i + 1) (omega (arith, c.loop-test.true)) s.requires.0, s.requires.1.0)
+    (filed_first (c.loop-i.i + 1) (omega (arith, c.loop-i-test.true)) c.requires.0, c.requires.1.0)
 
 -- what a turn knows: a task that is tried, of few
-module _ (c : tie.After-alone invariant-loop decreases-loop) where
-  abbrev at : tie.At-loop invariant-loop decreases-loop
+module _ (c : tie.After-alone invariant-loop-i decreases-loop-i) where
+  abbrev at : tie.At-loop-i invariant-loop-i decreases-loop-i
   at = c.before.before
 
-  small : at.loop.i < most_tasks
-  small = omega (arith, c.before.loop-test.true, at.before.before.before.before.pre.0.few)
+  small : at.loop-i.i < most_tasks
+  small = omega (arith, c.loop-i-test.true, at.requires.0.few)
 
-add-result : tie.Need-overflow-add-result invariant-loop decreases-loop
-add-result c = omega (arith, small c.before)
+overflow_add-result : tie.Need-overflow_add-result invariant-loop-i decreases-loop-i
+overflow_add-result c = omega (arith, small c.before)
 
-returns-2 : tie.Need-returns-2 invariant-loop decreases-loop
-returns-2 c =
+returns-then-not-alone : tie.Need-returns-then-not-alone invariant-loop-i decreases-loop-i
+returns-then-not-alone c =
     let d = c.before in
-    tried_found _ (at d).before.before.before.before.args.figures.now _ (at d).loop.invariant d.before.loop-test.true (sym d.alone.ensures ∙ not-true _ c.if2.true)
+    tried_found _ (at d).before.before.before.before.args.figures.now _ (at d).loop-i.invariant d.loop-i-test.true (sym d.alone.ensures ∙ not-true _ c.if-not-alone.true-raw)
 
-add-i : tie.Need-overflow-add-i invariant-loop decreases-loop
-add-i c = omega (arith, small c.before)
+overflow_add-i : tie.Need-overflow_add-i invariant-loop-i decreases-loop-i
+overflow_add-i c = omega (arith, small c.before)
 
-loop-less : tie.Need-loop-smaller invariant-loop decreases-loop
-loop-less c = omega (arith, c.before.before.loop-test.true)
+loop-i-smaller : tie.Need-loop-i-smaller invariant-loop-i decreases-loop-i
+loop-i-smaller c = omega (arith, c.loop-i-test.true)
 
-loop-again : tie.Need-loop-preserved invariant-loop decreases-loop
-loop-again c =
+loop-i-preserved : tie.Need-loop-i-preserved invariant-loop-i decreases-loop-i
+loop-i-preserved c =
     let d = c.before in
-    tried_next _ (at d).before.before.before.before.args.figures.now _ (at d).loop.invariant d.before.loop-test.true (sym d.alone.ensures ∙ not-false _ c.if2.false)
+    tried_next _ (at d).before.before.before.before.args.figures.now _ (at d).loop-i.invariant d.loop-i-test.true (sym d.alone.ensures ∙ not-false _ c.if-not-alone.false-raw)
 
-returns-3 : tie.Need-returns-3 invariant-loop decreases-loop
-returns-3 c = tried_all _ c.before.before.before.before.before.args.figures.now _ c.before.loop.invariant c.loop-test.false
+returns : tie.Need-returns invariant-loop-i decreases-loop-i
+returns c = tried_all _ c.args.figures.now _ c.loop-i.invariant c.loop-i-test.false
 
-pub first-alone-spec : {M : Type 1} → statement M
-first-alone-spec =
+pub first_alone_spec : {M : Type 1} → statement M
+first_alone_spec =
     tie.close
     (tie.spec
-    invariant-loop
-    decreases-loop
-    returns
-    loop-holds
+    invariant-loop-i
+    decreases-loop-i
+    returns-then-interrupts-eq0
+    loop-i-init
     alone-requires
-    add-result
-    returns-2
-    add-i
-    loop-less
-    loop-again
-    returns-3)
+    overflow_add-result
+    returns-then-not-alone
+    overflow_add-i
+    loop-i-smaller
+    loop-i-preserved
+    returns)

@@ -13,105 +13,105 @@ use Rattle.taskask.proofs.Carried.{ask_rows, count_within, interrupts_within}
 use Rattle.askrow.proofs.asks.Statement.{statement}
 use Rattle.askrow.proofs.asks.Tie as tie
 
-returns : tie.Need-returns
-returns c = sym (ask_rows c.before.before.args.set (sym c.before.breaks-count.ensures ∙ c.if1.true) refl refl refl refl refl refl)
+returns-then-breaks_count : tie.Need-returns-then-breaks_count
+returns-then-breaks_count c = sym (ask_rows c.args.set (sym c.breaks_count.ensures ∙ c.if-breaks_count.true) refl refl refl refl refl refl)
 
 -- each part does not hold at the places behind it
-counted : (c : tie.Else1) → count_row c.before.before.args.set ≡ false
-counted c = sym c.before.breaks-count.ensures ∙ c.if1.false
+counted : (c : tie.Else-breaks_count) → count_row c.args.set ≡ false
+counted c = sym c.breaks_count.ensures ∙ c.if-breaks_count.false
 
-breaks-twice-requires : tie.Need-breaks-twice-requires
-breaks-twice-requires c κs = (count_within c.before.before.args.set (counted c)).1
+breaks_twice-requires : tie.Need-breaks_twice-requires
+breaks_twice-requires c κs = (count_within c.args.set (counted c)).1
 
-returns-2 : tie.Need-returns-2
-returns-2 c =
+returns-then-breaks_twice : tie.Need-returns-then-breaks_twice
+returns-then-breaks_twice c =
     let one = c.before.before in
-    sym (ask_rows one.before.before.args.set (counted one) (sym c.before.breaks-twice.ensures ∙ c.if2.true) refl refl refl refl refl)
+    sym (ask_rows one.args.set (counted one) (sym c.breaks_twice.ensures ∙ c.if-breaks_twice.true) refl refl refl refl refl)
 
-once : (c : tie.Else2) → twice_row (members c.before.before.before.before.args.set) ≡ false
-once c = sym c.before.breaks-twice.ensures ∙ c.if2.false
+once : (c : tie.Else-breaks_twice) → twice_row (members c.args.set) ≡ false
+once c = sym c.breaks_twice.ensures ∙ c.if-breaks_twice.false
 
-returns-3 : tie.Need-returns-3
-returns-3 c =
+returns-then-header_overflows : tie.Need-returns-then-header_overflows
+returns-then-header_overflows c =
     let two = c.before.before.before in
     let one = two.before.before in
-    sym (ask_rows one.before.before.args.set (counted one) (once two) (sym c.before.header-overflows.ensures ∙ c.if3.true) refl refl refl refl)
+    sym (ask_rows one.args.set (counted one) (once two) (sym c.header_overflows.ensures ∙ c.if-header_overflows.true) refl refl refl refl)
 
-opened : (c : tie.Else3) → header_overflows c.before.before.before.before.before.before.before.args.set.header ≡ false
-opened c = sym c.before.header-overflows.ensures ∙ c.if3.false
+opened : (c : tie.Else-header_overflows) → header_overflows c.args.set.header ≡ false
+opened c = sym c.header_overflows.ensures ∙ c.if-header_overflows.false
 
-tasks-overflow-requires : tie.Need-tasks-overflow-requires
-tasks-overflow-requires c κs = let one = c.before.before.before.before.before in (count_within one.before.before.args.set (counted one)).1
+tasks_overflow-requires : tie.Need-tasks_overflow-requires
+tasks_overflow-requires c κs = let one = c.before.before.before.before.before in (count_within one.args.set (counted one)).1
 
-returns-4 : tie.Need-returns-4
-returns-4 c =
+returns-then-tasks_overflow : tie.Need-returns-then-tasks_overflow
+returns-then-tasks_overflow c =
     let three = c.before.before in
     let two = three.before.before.before in
     let one = two.before.before in
-    sym (ask_rows one.before.before.args.set (counted one) (once two) (opened three) (sym c.before.tasks-overflow.ensures ∙ c.if4.true) refl refl refl)
+    sym (ask_rows one.args.set (counted one) (once two) (opened three) (sym c.tasks_overflow.ensures ∙ c.if-tasks_overflow.true) refl refl refl)
 
-tasked : (c : tie.Else4) → some task_overflows (members c.before.before.before.before.before.before.before.before.before.args.set) ≡ false
-tasked c = sym c.before.tasks-overflow.ensures ∙ c.if4.false
+tasked : (c : tie.Else-tasks_overflow) → some task_overflows (members c.args.set) ≡ false
+tasked c = sym c.tasks_overflow.ensures ∙ c.if-tasks_overflow.false
 
-optional-overflows-requires : tie.Need-optional-overflows-requires
+optional_overflows-requires : tie.Need-optional_overflows-requires
 unfolding widths_of
-optional-overflows-requires c κs = omega arith
+optional_overflows-requires c κs = omega arith
 
-returns-5 : tie.Need-returns-5
-returns-5 c =
+returns-then-optional_overflows : tie.Need-returns-then-optional_overflows
+returns-then-optional_overflows c =
     let four = c.before.before in
     let three = four.before.before in
     let two = three.before.before.before in
     let one = two.before.before in
-    sym (ask_rows one.before.before.args.set (counted one) (once two) (opened three) (tasked four) (sym c.before.optional-overflows.ensures ∙ c.if5.true) refl refl)
+    sym (ask_rows one.args.set (counted one) (once two) (opened three) (tasked four) (sym c.optional_overflows.ensures ∙ c.if-optional_overflows.true) refl refl)
 
-masked : (c : tie.Else5) → optional_overflows Frame.Masked c.before.before.before.before.before.before.before.before.before.before.before.args.set.header.masked ≡ false
-masked c = sym c.before.optional-overflows.ensures ∙ c.if5.false
+masked : (c : tie.Else-optional_overflows) → optional_overflows Frame.Masked c.args.set.header.masked ≡ false
+masked c = sym c.optional_overflows.ensures ∙ c.if-optional_overflows.false
 
-optional-overflows-requires-2 : tie.Need-optional-overflows-requires-2
+optional_overflows-requires-2 : tie.Need-optional_overflows-requires-2
 unfolding widths_of
-optional-overflows-requires-2 c κs = omega arith
+optional_overflows-requires-2 c κs = omega arith
 
-returns-6 : tie.Need-returns-6
-returns-6 c =
+returns-then-optional_overflows-2 : tie.Need-returns-then-optional_overflows-2
+returns-then-optional_overflows-2 c =
     let five = c.before.before in
     let four = five.before.before in
     let three = four.before.before in
     let two = three.before.before.before in
     let one = two.before.before in
-    sym (ask_rows one.before.before.args.set (counted one) (once two) (opened three) (tasked four) (masked five) (sym c.before.optional-overflows2.ensures ∙ c.if6.true) refl)
+    sym (ask_rows one.args.set (counted one) (once two) (opened three) (tasked four) (masked five) (sym c.optional_overflows-2.ensures ∙ c.if-optional_overflows-2.true) refl)
 
-interrupts-overflow-requires : tie.Need-interrupts-overflow-requires
-interrupts-overflow-requires c κs =
-    let one = c.before.before.before.before.before.before.before.before.before.before.before in
-    interrupts_within one.before.before.args.set (counted one)
+interrupts_overflow-requires : tie.Need-interrupts_overflow-requires
+interrupts_overflow-requires c κs =
+    let one = c.before.before.before.before.before.before.before.before.before.before.before.before in
+    interrupts_within one.args.set (counted one)
 
-returns-7 : tie.Need-returns-7
-returns-7 c =
+returns : tie.Need-returns
+returns c =
     let six = c.before in
-    let five = six.before.before in
+    let five = six.before.before.before in
     let four = five.before.before in
     let three = four.before.before in
     let two = three.before.before.before in
     let one = two.before.before in
-    c.interrupts-overflow.ensures
-    ∙ sym (ask_rows one.before.before.args.set (counted one) (once two) (opened three) (tasked four) (masked five) (sym six.before.optional-overflows2.ensures ∙ six.if6.false) refl)
+    c.interrupts_overflow.ensures
+    ∙ sym (ask_rows one.args.set (counted one) (once two) (opened three) (tasked four) (masked five) (sym six.optional_overflows-2.ensures ∙ six.if-optional_overflows-2.false) refl)
 
-pub asks-spec : {M : Type 1} → statement M
-asks-spec =
+pub asks_spec : {M : Type 1} → statement M
+asks_spec =
     tie.close
     (tie.spec
     (λ c κs. search rules)
-    returns
-    breaks-twice-requires
-    returns-2
+    returns-then-breaks_count
+    breaks_twice-requires
+    returns-then-breaks_twice
     (λ c κs. search rules)
-    returns-3
-    tasks-overflow-requires
-    returns-4
-    optional-overflows-requires
-    returns-5
-    optional-overflows-requires-2
-    returns-6
-    interrupts-overflow-requires
-    returns-7)
+    returns-then-header_overflows
+    tasks_overflow-requires
+    returns-then-tasks_overflow
+    optional_overflows-requires
+    returns-then-optional_overflows
+    optional_overflows-requires-2
+    returns-then-optional_overflows-2
+    interrupts_overflow-requires
+    returns)

@@ -4,58 +4,58 @@ use Prim.Native.Nat.{◌-◌}
 use mathlib.Core.Path.{◌≡◌, sym, ◌∙◌}
 use native.Mathlib.Omega.{arith}
 use borrow.Author.Rules.{rules}
-use lib.ListN.{length, length-map}
+use lib.ListN.{length}
 use Rattle.tasks.specs.Set.{most_tasks, zero_task}
 use Rattle.taskask.specs.Ask.{task_overflows}
 use Rattle.tasks.proofs.SearchLaws.{Passed, passed_none, passed_next, found_some, all_some}
 use Rattle.askrow.proofs.tasks_overflow.Statement.{statement}
 use Rattle.askrow.proofs.tasks_overflow.Tie as tie
 
-abbrev invariant-loop : tie.invariant-loop
-invariant-loop set count i₀ i = Passed task_overflows zero_task set.tasks count i
+abbrev invariant-loop-i : tie.invariant-loop-i
+invariant-loop-i set count i₀ i = Passed task_overflows zero_task set.tasks count i
 
-abbrev decreases-loop : tie.decreases-loop
-decreases-loop set count i₀ i = count - i
+abbrev decreases-loop-i : tie.decreases-loop-i
+decreases-loop-i set count i₀ i = count - i
 
-full : (c : tie.Start invariant-loop decreases-loop) → length c.args.t1.tasks ≡ most_tasks
-full c = sym (length-map c.args.t1.tasks _) ∙ c.well-formed.0.1.1.1.1.0.1.0.1
+full : (c : tie.Start invariant-loop-i decreases-loop-i) → length c.args.set.tasks ≡ most_tasks
+full c = c.well_formed.0.1.1.1.1.0.1.0.1
 
-loop-holds : tie.Need-loop-init invariant-loop decreases-loop
-loop-holds c = passed_none (omega (arith, full c, c.requires))
+loop-i-init : tie.Need-loop-i-init invariant-loop-i decreases-loop-i
+loop-i-init c = passed_none (omega (arith, full c, c.requires))
 
-mul-task : tie.Need-overflow-mul-task invariant-loop decreases-loop
-mul-task c = omega arith
+offset_bounds-set-i : tie.Need-offset_bounds-set-i invariant-loop-i decreases-loop-i
+offset_bounds-set-i c = omega arith
 
-element-copy-out-task : tie.Need-element-copy-out-task invariant-loop decreases-loop
-element-copy-out-task c = omega arith
+bounds-set-i : tie.Need-bounds-set-i invariant-loop-i decreases-loop-i
+bounds-set-i c = omega arith
 
-returns : tie.Need-returns invariant-loop decreases-loop
-returns c = sym (found_some c.before.before.before.before.loop.invariant (omega arith) (sym c.before.task-overflows.ensures ∙ c.if1.true))
+returns-then-task_overflows : tie.Need-returns-then-task_overflows invariant-loop-i decreases-loop-i
+returns-then-task_overflows c = sym (found_some c.loop-i.invariant (omega arith) (sym c.task_overflows.ensures ∙ c.if-task_overflows.true))
 
-add-i : tie.Need-overflow-add-i invariant-loop decreases-loop
-add-i c = omega arith
+overflow_add-i : tie.Need-overflow_add-i invariant-loop-i decreases-loop-i
+overflow_add-i c = omega arith
 
-loop-less : tie.Need-loop-smaller invariant-loop decreases-loop
-loop-less c = omega arith
+loop-i-smaller : tie.Need-loop-i-smaller invariant-loop-i decreases-loop-i
+loop-i-smaller c = omega arith
 
-loop-again : tie.Need-loop-preserved invariant-loop decreases-loop
-loop-again c = passed_next c.before.before.before.before.loop.invariant (omega arith) (sym c.before.task-overflows.ensures ∙ c.if1.false)
+loop-i-preserved : tie.Need-loop-i-preserved invariant-loop-i decreases-loop-i
+loop-i-preserved c = passed_next c.loop-i.invariant (omega arith) (sym c.task_overflows.ensures ∙ c.if-task_overflows.false)
 
-returns-2 : tie.Need-returns-2 invariant-loop decreases-loop
-returns-2 c = sym (all_some c.before.loop.invariant (omega arith))
+returns : tie.Need-returns invariant-loop-i decreases-loop-i
+returns c = sym (all_some c.loop-i.invariant (omega arith))
 
-pub tasks-overflow-spec : {M : Type 1} → statement M
-tasks-overflow-spec =
+pub tasks_overflow_spec : {M : Type 1} → statement M
+tasks_overflow_spec =
     tie.close
     (tie.spec
-    invariant-loop
-    decreases-loop
-    loop-holds
-    mul-task
-    element-copy-out-task
+    invariant-loop-i
+    decreases-loop-i
+    loop-i-init
+    offset_bounds-set-i
+    bounds-set-i
     (λ c κs. search rules)
-    returns
-    add-i
-    loop-less
-    loop-again
-    returns-2)
+    returns-then-task_overflows
+    overflow_add-i
+    loop-i-smaller
+    loop-i-preserved
+    returns)

@@ -4,7 +4,7 @@ use mathlib.Core.Path.{◌≡◌, ◌∙◌}
 use native.Mathlib.Omega.{arith}
 use lib.ListN.{length, length-set}
 use Rattle.framewrite.proofs.LineLaws.{row_put}
-use borrow.Author.Rules.{rules, length_unmapped}
+use borrow.Author.Rules.{rules}
 use Rattle.framewrite_code.proofs.put_row.Statement.{statement}
 use Rattle.framewrite_code.proofs.put_row.Tie as tie
 

@@ -23,57 +23,57 @@ use Rattle.headerline_code.proofs.header_line.Tie as tie
 abbrev given : List ℕ → Outcome → HeaderLine
 given text o = header_or o (header_at text)
 
-returns : tie.Need-returns
-returns c =
-    let text : List ℕ = c.before.before.args.text.now in
-    sym (ap (given text) (ap (λ (l : List ℕ). line_outcome l 1) (nothing_left text (omega (arith, c.if1.true))) ∙ first_missing))
+returns-then-text-eq0 : tie.Need-returns-then-text-eq0
+returns-then-text-eq0 c =
+    let text : List ℕ = c.args.text.now in
+    sym (ap (given text) (ap (λ (l : List ℕ). line_outcome l 1) (nothing_left text (omega (arith, c.if-text-eq0.true))) ∙ first_missing))
 
 -- the first byte is there
-there : (c : tie.Else1) → empty c.before.before.args.text.now ≡ false
-there c = byte_there 0 c.before.before.args.text.now (omega (arith, c.if1.false))
+there : (c : tie.Else-text-eq0) → empty c.args.text.now ≡ false
+there c = byte_there 0 c.args.text.now (omega (arith, c.if-text-eq0.false))
 
-returns-2 : tie.Need-returns-2
-returns-2 c =
-    let text : List ℕ = c.before.before.before.before.before.args.text.now in
-    let nothing : kind_at text ≡ Found.Nothing = sym c.before.before.kind_at.ensures ∙ c.enum_told.given.1 in
-    sym (ap (given text) (first_other text (there c.before.before.before) (admits_none text (kind_none text nothing))))
+returns-in_default : tie.Need-returns-in_default
+returns-in_default c =
+    let text : List ℕ = c.args.text.now in
+    let nothing : kind_at text ≡ Found.Nothing = sym c.kind_at-found.ensures ∙ c.in_default.is in
+    sym (ap (given text) (first_other text (there c.before.before) (admits_none text (kind_none text nothing))))
 
 -- the frame that was found is formed
-is-formed : (c : tie.After-known-told) → formed c.before.found.given.0.0 c.before.before.before.before.before.before.args.text.now ≡ true
+is-formed : (c : tie.In-Frame) → formed c.in-Frame.frame c.args.text.now ≡ true
 is-formed c =
-    kind_formed c.before.found.given.0.0 c.before.before.before.before.before.before.args.text.now (sym c.before.before.before.kind_at.ensures ∙ c.before.found.given.1)
+    kind_formed c.in-Frame.frame c.args.text.now (sym c.kind_at-found.ensures ∙ c.in-Frame.is)
 
-header-at-requires : tie.Need-header-at-requires
-header-at-requires c κs = ap (λ (f : Frame). formed f c.before.before.before.before.before.before.before.before.args.text.now) (sym c.enum-told2.given.1) ∙ is-formed c.before.before
+header_at-requires : tie.Need-header_at-requires
+header_at-requires c κs = ap (λ (f : Frame). formed f c.args.text.now) (sym c.in-Header.is) ∙ is-formed c.before
 
-returns-3 : tie.Need-returns-3
-returns-3 c =
-    let text : List ℕ = c.before.before.before.before.before.before.before.before.before.args.text.now in
-    let header : formed Frame.Header text ≡ true = ap (λ (f : Frame). formed f text) (sym c.before.enum-told2.given.1) ∙ is-formed c.before.before.before in
+returns-in-Header : tie.Need-returns-in-Header
+returns-in-Header c =
+    let text : List ℕ = c.args.text.now in
+    let header : formed Frame.Header text ≡ true = ap (λ (f : Frame). formed f text) (sym c.in-Header.is) ∙ is-formed c.before.before in
     ap HeaderLine.Header c.header_at.ensures ∙ sym (ap (given text) (first_header text header))
 
-returns-5 : tie.Need-returns-5
-returns-5 c =
-    let text : List ℕ = c.before.before.before.before.before.before.before.args.text.now in
-    let other = other_frame c.before.before.found.given.0.0 text c.match2.keys3 (is-formed c.before) in
-    sym (ap (given text) (first_other text (there c.before.before.before.before.before) other))
+returns-in_default-frame : tie.Need-returns-in_default-frame
+returns-in_default-frame c =
+    let text : List ℕ = c.args.text.now in
+    let other = other_frame c.in-Frame.frame text c.in_default-frame.in_default-frame-own.keys3 (is-formed c.before) in
+    sym (ap (given text) (first_other text (there c.before.before.before) other))
 
-returns-4 : tie.Need-returns-4
-returns-4 c =
-    let text : List ℕ = c.before.before.before.before.before.before.before.args.text.now in
-    sym (ap (given text) (first_said c.before.before.found.given.0.0 text (is-formed c.before) c.match2.keys2))
+returns-in-Task : tie.Need-returns-in-Task
+returns-in-Task c =
+    let text : List ℕ = c.args.text.now in
+    sym (ap (given text) (first_said c.in-Frame.frame text (is-formed c.before) c.in-Task.in-Task-own.keys2))
 
-pub header-line-spec : {M : Type 1} → statement M
-header-line-spec =
+pub header_line_spec : {M : Type 1} → statement M
+header_line_spec =
     tie.close
     (tie.spec
-    returns
+    returns-then-text-eq0
     (λ c κs. search rules)
     (λ c. search rules)
     (λ c. search rules)
-    returns-2
+    returns-in_default
     (λ c. search rules)
-    header-at-requires
-    returns-3
-    returns-4
-    returns-5)
+    header_at-requires
+    returns-in-Header
+    returns-in-Task
+    returns-in_default-frame)

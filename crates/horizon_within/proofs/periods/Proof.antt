@@ -9,64 +9,64 @@ use Rattle.rows.proofs.FileOrder.{PeriodsTo, periods_none, periods_next}
 use Rattle.horizon_within.proofs.periods.Statement.{statement}
 use Rattle.horizon_within.proofs.periods.Tie as tie
 
-abbrev invariant-loop : tie.invariant-loop
-invariant-loop interrupts count numbers₀ i₀ numbers i = (i ≤ count) × PeriodsTo interrupts.each i numbers
+abbrev invariant-loop-i : tie.invariant-loop-i
+invariant-loop-i interrupts count numbers₀ i₀ numbers i = (i ≤ count) × PeriodsTo interrupts.each i numbers
 
-abbrev decreases-loop : tie.decreases-loop
-decreases-loop interrupts count numbers₀ i₀ numbers i = count - i
+abbrev decreases-loop-i : tie.decreases-loop-i
+decreases-loop-i interrupts count numbers₀ i₀ numbers i = count - i
 
 -- the interrupt that was read is one of few
-module _ (c : tie.In-loop invariant-loop decreases-loop) where
-  abbrev start : tie.Start invariant-loop decreases-loop
+module _ (c : tie.In-loop-i invariant-loop-i decreases-loop-i) where
+  abbrev start : tie.Start invariant-loop-i decreases-loop-i
   start = c.before.before
 
-  few : c.before.loop.i < most_interrupts
-  few = omega (arith, start.pre, c.loop-test.true)
+  few : c.loop-i.i < most_interrupts
+  few = omega (arith, start.requires, c.loop-i-test.true)
 
-loop-holds : tie.Need-loop-init invariant-loop decreases-loop
-loop-holds c = (omega arith, periods_none _)
+loop-i-init : tie.Need-loop-i-init invariant-loop-i decreases-loop-i
+loop-i-init c = (omega arith, periods_none _)
 
-mul-interrupt : tie.Need-overflow-mul-interrupt invariant-loop decreases-loop
-mul-interrupt c = omega (arith, few c)
+offset_bounds-interrupts-i : tie.Need-offset_bounds-interrupts-i invariant-loop-i decreases-loop-i
+offset_bounds-interrupts-i c = omega (arith, few c)
 
-element-copy-out-interrupt : tie.Need-element-copy-out-interrupt invariant-loop decreases-loop
-element-copy-out-interrupt c = omega (arith, few c)
+bounds-interrupts-i : tie.Need-bounds-interrupts-i invariant-loop-i decreases-loop-i
+bounds-interrupts-i c = omega (arith, few c)
 
-mul-numbers : tie.Need-overflow-mul-numbers invariant-loop decreases-loop
-mul-numbers c = omega (arith, few c.before.before)
+offset_bounds-numbers-i : tie.Need-offset_bounds-numbers-i invariant-loop-i decreases-loop-i
+offset_bounds-numbers-i c = omega (arith, few c.before.before)
 
-array-write-numbers : tie.Need-array-write-numbers invariant-loop decreases-loop
-array-write-numbers c = omega (arith, few c.before.before)
+bounds-numbers-i : tie.Need-bounds-numbers-i invariant-loop-i decreases-loop-i
+bounds-numbers-i c = omega (arith, few c.before.before)
 
-add-i : tie.Need-overflow-add-i invariant-loop decreases-loop
-add-i c = omega (arith, few c.before.before)
+overflow_add-i : tie.Need-overflow_add-i invariant-loop-i decreases-loop-i
+overflow_add-i c = omega (arith, few c.before.before)
 
-loop-less : tie.Need-loop-smaller invariant-loop decreases-loop
-loop-less c = omega (arith, c.before.before.loop-test.true)
+loop-i-smaller : tie.Need-loop-i-smaller invariant-loop-i decreases-loop-i
+loop-i-smaller c = omega (arith, c.loop-i-test.true)
 
-loop-again : tie.Need-loop-preserved invariant-loop decreases-loop
-loop-again c =
+loop-i-preserved : tie.Need-loop-i-preserved invariant-loop-i decreases-loop-i
+loop-i-preserved c =
     let l = c.before.before in
-    (omega (arith, l.loop-test.true), periods_next l.before.loop.invariant.1 (few l) refl)
+    (omega (arith, l.loop-i-test.true), periods_next l.loop-i.invariant.1 (few l) refl)
 
-returns : tie.Need-returns invariant-loop decreases-loop
+returns : tie.Need-returns invariant-loop-i decreases-loop-i
 returns c =
-    let l = c.before.loop in
-    λ k h. l.invariant.1.each k (omega (arith, l.invariant.0, c.loop-test.false))
+    let l = c.loop-i in
+    λ k h. l.invariant.1.each k (omega (arith, l.invariant.0, c.loop-i-test.false))
 
-pub periods-spec : {M : Type 1} → statement M
-periods-spec =
+pub periods_spec : {M : Type 1} → statement M
+periods_spec =
     tie.close
     (tie.spec
-    invariant-loop
-    decreases-loop
-    loop-holds
-    mul-interrupt
-    element-copy-out-interrupt
+    invariant-loop-i
+    decreases-loop-i
+    loop-i-init
+    offset_bounds-interrupts-i
+    bounds-interrupts-i
     (λ c. search rules)
-    mul-numbers
-    array-write-numbers
-    add-i
-    loop-less
-    loop-again
+    offset_bounds-numbers-i
+    bounds-numbers-i
+    overflow_add-i
+    loop-i-smaller
+    loop-i-preserved
     returns)

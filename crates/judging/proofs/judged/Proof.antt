@@ -28,47 +28,46 @@ abbrev board : (s : tie.Start) → Board
 board s = board_of s.args.header s.args.interrupts.now
 
 -- once they are charged
-module _ (c : tie.After-charge-server) where
+module _ (c : tie.After-charge_server-own) where
   abbrev start : tie.Start
   start = c.before.before.before.before.before
 
   abbrev loads : List ℕ
-  loads = c.charge-server.new.1.1.1.1.1.1.1.0
+  loads = c.charge_server-own.new.loads
 
   -- how far their numbers and the interrupts' go
   abbrev end : ℕ
   end = 3 * start.args.k + length start.args.interrupts.now
 
   inside : end ≤ length loads
-  inside = front_within start.pre.0 start.pre.1.0 _ (own_room start.pre.0 start.pre.1.0 refl) c.charge-server.ensures.1 refl
+  inside = front_within start.requires.0 start.requires.1.0 _ (own_room start.requires.0 start.requires.1.0 refl) c.charge_server-own.ensures.1 refl
 
   front : take end loads ≡ numbers_of (server_loads start.args.header (members start)) ++ start.args.interrupts.now
-  front = front_is start.pre.0 start.pre.1.0 _ (own_room start.pre.0 start.pre.1.0 refl) c.charge-server.ensures.1 refl
+  front = front_is start.requires.0 start.requires.1.0 _ (own_room start.requires.0 start.requires.1.0 refl) c.charge_server-own.ensures.1 refl
 
-charge-server-requires : tie.Need-charge-server-requires
-charge-server-requires c κs =
-    let s = c.before.before.before.before in
-    (s.requires.0, (s.requires.1.0, own_room s.requires.0 s.requires.1.0 refl))
+charge_server-own-requires : tie.Need-charge_server-own-requires
+charge_server-own-requires c κs =
+    (c.requires.0, (c.requires.1.0, own_room c.requires.0 c.requires.1.0 refl))
 
-loss-requires : tie.Need-loss-requires
-loss-requires c κs =
+loss-lost-requires : tie.Need-loss-lost-requires
+loss-lost-requires c κs =
     let s = start c.before.before.before in
-    omega (arith, small_cache s.pre.0)
+    omega (arith, small_cache s.requires.0)
 
 -- the entry loss is the server's
-lost : (c : tie.After-loss) → c.loss.result ≡ server_loss (start c.before.before.before.before).args.header (members (start c.before.before.before.before))
-lost c = own_loss (start c.before.before.before.before).pre.0 c.loss.ensures
+lost : (c : tie.After-loss-lost) → c.loss-lost.result ≡ server_loss (start c.before.before.before.before).args.header (members (start c.before.before.before.before))
+lost c = own_loss (start c.before.before.before.before).requires.0 c.loss-lost.ensures
 
-slice-aggregate-verdict : tie.Need-slice-aggregate-verdict
-slice-aggregate-verdict c = sym (length-take-le _ _ (omega (arith, inside c.before.before.before.before.before)))
+slice_bounds-verdict-end : tie.Need-slice_bounds-verdict-end
+slice_bounds-verdict-end c = sym (length-take-le _ _ (omega (arith, inside c.before.before.before.before.before)))
 
 verdict-requires : tie.Need-verdict-requires
 verdict-requires c κs =
     let at = c.before.before.before.before.before in
     let s = start at in
     let l = lost c.before in
-    let t = may_test s.pre.0 s.pre.1.0 (overheads s) c.before.loss.result at.charge-server.ensures.0 (omega (arith, l)) in (
-      front_interrupted s.pre.0 s.pre.1.0 (front at) (overheads s),
+    let t = may_test s.requires.0 s.requires.1.0 (overheads s) c.loss-lost.result at.charge_server-own.ensures.0 (omega (arith, l)) in (
+      front_interrupted s.requires.0 s.requires.1.0 (front at) (overheads s),
       (
         record {
           slot_some = t.slot_some;
@@ -77,8 +76,8 @@ verdict-requires c κs =
           horizon_small = omega (arith, t.slot_small, t.horizon_small);
         },
         (
-          rw l s.pre.1.1,
-          front_maskable s.pre.0 s.pre.1.0 (front at) _ at.charge-server.ensures.0 (omega (arith, c.before.before.before.masked-ticks.type-inv)),
+          rw l s.requires.1.1,
+          front_maskable s.requires.0 s.requires.1.0 (front at) _ at.charge_server-own.ensures.0 (omega (arith, c.masked_ticks-masked.type_inv)),
         ),
       ),
     )
@@ -90,23 +89,23 @@ returns c =
     let s = start at in
     let h = s.args.header in
     c.verdict.ensures ∙
-    ap (λ (g : ℕ → ℕ). verdict_of g at.charge-server.result h.slot c.before.before.loss.result s.args.reserve)
-    (front_asked s.pre.0 s.pre.1.0 (front at) c.before.before.before.before.masked-ticks.ensures) ∙
-    ap₂ (λ (H L : ℕ). verdict_of (server_demand (board s) (members s)) H h.slot L s.args.reserve) at.charge-server.ensures.0 (lost c.before.before)
+    ap (λ (g : ℕ → ℕ). verdict_of g at.charge_server-own.result h.slot c.loss-lost.result s.args.reserve)
+    (front_asked s.requires.0 s.requires.1.0 (front at) c.masked_ticks-masked.ensures) ∙
+    ap₂ (λ (H L : ℕ). verdict_of (server_demand (board s) (members s)) H h.slot L s.args.reserve) at.charge_server-own.ensures.0 (lost c.before.before)
 
-pub judged-spec : {M : Type 1} → statement M
-judged-spec =
+pub judged_spec : {M : Type 1} → statement M
+judged_spec =
     tie.close
     (tie.spec
     (λ c. search rules)
-    charge-server-requires
+    charge_server-own-requires
     (λ c κs. search rules)
     (λ c. search rules)
     (λ c. search rules)
-    loss-requires
+    loss-lost-requires
     (λ c. search rules)
     (λ c. search rules)
     (λ c. search rules)
-    slice-aggregate-verdict
+    slice_bounds-verdict-end
     verdict-requires
     returns)

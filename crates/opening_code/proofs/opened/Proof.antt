@@ -25,43 +25,43 @@ text_of s = s.args.text.now
 header : (s : tie.Start) → formed Frame.Header (text_of s) ≡ true
 header s = clear_header (text_of s) s.requires.0
 
-add_at : tie.Need-overflow-add-at
-add_at c = omega (arith, c.length.ensures, length_most Frame.Header)
+overflow_add-at : tie.Need-overflow_add-at
+overflow_add-at c = omega (arith, c.length-at.ensures, length_most Frame.Header)
 
-optional-line-requires : tie.Need-optional-line-requires
+optional_line-masked-requires : tie.Need-optional_line-masked-requires
 unfolding widths_of
-optional-line-requires c κs =
+optional_line-masked-requires c κs =
     let s = c.before.before in
-    (rw c.length.ensures (within_header (text_of s) (header s)), (omega arith, omega arith))
+    (rw c.length-at.ensures (within_header (text_of s) (header s)), (omega arith, omega arith))
 
 -- what was looked for behind line 1
-masked : (c : tie.After-optional-line) → c.optional-line.result ≡ optional_of Frame.Masked (drop (length_of Frame.Header + 1) (text_of c.before.before.before)) (length_of Frame.Header + 1) 1
+masked : (c : tie.After-optional_line-masked) → c.optional_line-masked.result ≡ optional_of Frame.Masked (drop (length_of Frame.Header + 1) (text_of c.before.before.before)) (length_of Frame.Header + 1) 1
 masked c =
     let s = c.before.before.before in
-    c.optional-line.ensures ∙ ap (λ (n : ℕ). optional_of Frame.Masked (drop (n + 1) (text_of s)) (n + 1) 1) c.before.length.ensures
+    c.optional_line-masked.ensures ∙ ap (λ (n : ℕ). optional_of Frame.Masked (drop (n + 1) (text_of s)) (n + 1) 1) c.length-at.ensures
 
-optional-line-requires-2 : tie.Need-optional-line-requires-2
+optional_line-rule-requires : tie.Need-optional_line-rule-requires
 unfolding widths_of
-optional-line-requires-2 c κs =
+optional_line-rule-requires c κs =
     let s = c.before.before.before in
     let within = masked_within (text_of s) (header s) (masked c) in
-    (omega (arith, within, c.before.length.ensures, within_header (text_of s) (header s)), (within.1, omega arith))
+    (omega (arith, within, c.length-at.ensures, within_header (text_of s) (header s)), (within.1, omega arith))
 
 returns : tie.Need-returns
 returns c =
     let rule = c.before in
     let s = rule.before.before.before.before in
-    let figures = c.with-lines.ensures ∙ ap (λ h. with_lines h rule.before.optional-line.result.figure rule.optional-line2.result.figure) s.requires.1 in
-    (λ i. record { header = figures i; at = rule.optional-line2.result.at; lines = rule.optional-line2.result.lines })
-    ∙ opening_by (text_of s) (header s) (masked rule.before) rule.optional-line2.ensures
+    let figures = c.with_lines.ensures ∙ ap (λ h. with_lines h rule.optional_line-masked.result.figure rule.optional_line-rule.result.figure) s.requires.1 in
+    (λ i. record { header = figures i; at = rule.optional_line-rule.result.at; lines = rule.optional_line-rule.result.lines })
+    ∙ opening_by (text_of s) (header s) (masked rule.before) rule.optional_line-rule.ensures
 
-pub opened-spec : {M : Type 1} → statement M
-opened-spec =
+pub opened_spec : {M : Type 1} → statement M
+opened_spec =
     tie.close
     (tie.spec
     (λ c κs. search rules)
-    add_at
-    optional-line-requires
-    optional-line-requires-2
+    overflow_add-at
+    optional_line-masked-requires
+    optional_line-rule-requires
     (λ c κs. search rules)
     returns)

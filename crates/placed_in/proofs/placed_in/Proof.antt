@@ -3,7 +3,6 @@
 -- The measure is what is left of n. Assumes nothing.
 use Prim.Native.Nat.{ℕ, ◌+◌, ◌-◌, ◌≤◌, ◌<◌, max}
 use mathlib.Core.Path.{◌≡◌, refl, sym, ap, subst, ◌∙◌}
-use mathlib.Core.Logic.{⊎_elim}
 use mathlib.Core.List.{List}
 use borrow.Author.Rules.{rules}
 use native.Mathlib.Omega.{arith}
@@ -176,18 +175,18 @@ loop-i-preserved c =
     let picks = c.before.before.before.before.before in
     let s = start (turn picks) in
     let at = (turn picks).loop-i in
-    let share = (shared picks).share-of in
+    let share = (shared picks).share_of-share in
     let cost = c.larger in
     let least = c.soonest_with in
     let here = q picks - 1 in (
-      omega (arith, (turn picks).loop-test.true),
+      omega (arith, (turn picks).loop-i-test.true),
       subst
           (λ (fs : List Figures).
           SoFar s.args.fit (board s) s.args.horizon fs (at.i + 1) (set at.placement at.i (q picks)) (set at.work here (get_or at.work here 0 + share.result.work))
           (set at.jobs here (get_or at.jobs here 0 + share.result.jobs)) (set at.cache here cost.result) (set at.soonest here least.result) c.if-count-q.count)
           (sym (each_next (figures_at s.args.figures.now) at.i))
           (so_far_next at.invariant.1 (next picks) (q picks) here c.if-count-q.count (below (turn picks))
-          (filed_first at.i (omega (arith, (turn picks).loop-test.true)) s.requires.0).members (picked picks) refl (recounted c) share.ensures refl refl cost.ensures least.ensures),
+          (filed_first at.i (omega (arith, (turn picks).loop-i-test.true)) s.requires.0).members (picked picks) refl (recounted c) share.ensures refl refl cost.ensures least.ensures),
     )
 
 returns : tie.Need-returns invariant-loop-i decreases-loop-i

@@ -18,26 +18,25 @@ use borrow.Author.Rules.{rules}
 use Rattle.planlines_code.proofs.put_processors.Statement.{statement}
 use Rattle.planlines_code.proofs.put_processors.Tie as tie
 
-put-lines-requires : tie.Need-put-lines-requires
+put_lines-requires : tie.Need-put_lines-requires
 unfolding widths_of
-put-lines-requires c κs =
-    let s = c.before.before.before.before.before in
-    let a = s.args in
-    (omega (arith, s.requires.0, ap length c.before.before.processor-values.ensures, filled_length (processor_figures a.plan.first) 3 (processor_each a.plan.first) (3 * most_processors) a.n (omega (arith, s.requires.0))), s.requires.1)
+put_lines-requires c κs =
+    let a = c.args in
+    (omega (arith, c.requires.0, ap length c.processor_values-values.ensures, filled_length (processor_figures a.plan.first) 3 (processor_each a.plan.first) (3 * most_processors) a.n (omega (arith, c.requires.0))), c.requires.1)
 
 returns : tie.Need-returns
 unfolding widths_of processor_line
 returns c =
-    let a = c.before.before.before.before.before.before.before.before.args in
-    c.before.before.put-lines.ensures ∙ ap (stored a.out.now a.at)
-    (ap (λ (v : List ℕ). lines_of Frame.Processor v a.n) c.before.before.before.before.before.processor-values.ensures ∙ lines_filled Frame.Processor (processor_figures a.plan.first) (processor_each a.plan.first) (3 * most_processors) a.n)
+    let a = c.args in
+    c.put_lines.ensures ∙ ap (stored a.out.now a.at)
+    (ap (λ (v : List ℕ). lines_of Frame.Processor v a.n) c.processor_values-values.ensures ∙ lines_filled Frame.Processor (processor_figures a.plan.first) (processor_each a.plan.first) (3 * most_processors) a.n)
 
-pub put-processors-spec : {M : Type 1} → statement M
-put-processors-spec =
+pub put_processors_spec : {M : Type 1} → statement M
+put_processors_spec =
     tie.close
     (tie.spec
     (λ c κs. search rules)
     (λ c. search rules)
-    put-lines-requires
+    put_lines-requires
     (λ c. search rules)
     returns)

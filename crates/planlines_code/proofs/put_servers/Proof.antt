@@ -18,26 +18,25 @@ use borrow.Author.Rules.{rules}
 use Rattle.planlines_code.proofs.put_servers.Statement.{statement}
 use Rattle.planlines_code.proofs.put_servers.Tie as tie
 
-put-lines-requires : tie.Need-put-lines-requires
+put_lines-requires : tie.Need-put_lines-requires
 unfolding widths_of
-put-lines-requires c κs =
-    let s = c.before.before.before.before in
-    let a = s.args in
-    (omega (arith, s.requires.0, ap length c.before.before.server-values.ensures, filled_length (server_figures a.plan.server a.plan.slot) 4 (server_each a.plan.server a.plan.slot) (4 * most_tasks) a.plan.servers (omega (arith, s.requires.0))), s.requires.1)
+put_lines-requires c κs =
+    let a = c.args in
+    (omega (arith, c.requires.0, ap length c.server_values-values.ensures, filled_length (server_figures a.plan.server a.plan.slot) 4 (server_each a.plan.server a.plan.slot) (4 * most_tasks) a.plan.servers (omega (arith, c.requires.0))), c.requires.1)
 
 returns : tie.Need-returns
 unfolding widths_of server_line
 returns c =
-    let a = c.before.before.before.before.before.before.before.args in
-    c.before.before.put-lines.ensures ∙ ap (stored a.out.now a.at)
-    (ap (λ (v : List ℕ). lines_of Frame.Server v a.plan.servers) c.before.before.before.before.before.server-values.ensures ∙ lines_filled Frame.Server (server_figures a.plan.server a.plan.slot) (server_each a.plan.server a.plan.slot) (4 * most_tasks) a.plan.servers)
+    let a = c.args in
+    c.put_lines.ensures ∙ ap (stored a.out.now a.at)
+    (ap (λ (v : List ℕ). lines_of Frame.Server v a.plan.servers) c.server_values-values.ensures ∙ lines_filled Frame.Server (server_figures a.plan.server a.plan.slot) (server_each a.plan.server a.plan.slot) (4 * most_tasks) a.plan.servers)
 
-pub put-servers-spec : {M : Type 1} → statement M
-put-servers-spec =
+pub put_servers_spec : {M : Type 1} → statement M
+put_servers_spec =
     tie.close
     (tie.spec
     (λ c κs. search rules)
     (λ c. search rules)
-    put-lines-requires
+    put_lines-requires
     (λ c. search rules)
     returns)

@@ -8,13 +8,19 @@ use Rattle.planlines.proofs.LineLaws.{plan_size, plan_bytes_lem}
 use Rattle.put_plan.proofs.put_plan.Statement.{statement}
 use Rattle.put_plan.proofs.put_plan.Tie as tie
 
-put-line-requires : tie.Need-put-line-requires
+put_line-requires : tie.Need-put_line-requires
 unfolding widths_of
-put-line-requires c κs = (omega arith, omega (arith, plan_size, plan_bytes_lem c.before.before.before.args.plan, c.before.before.before.requires))
+put_line-requires c κs = (omega arith, omega (arith, plan_size, plan_bytes_lem c.args.plan, c.requires))
 
 returns : tie.Need-returns
 unfolding plan_line
-returns c = c.before.before.put-line.ensures
+returns c = c.put_line.ensures
 
-pub put-plan-spec : {M : Type 1} → statement M
-put-plan-spec = tie.close (tie.spec (λ c. search rules) put-line-requires (λ c. search rules) returns)
+pub put_plan_spec : {M : Type 1} → statement M
+put_plan_spec =
+    tie.close
+    (tie.spec
+    (λ c. search rules)
+    put_line-requires
+    (λ c. search rules)
+    returns)

@@ -9,16 +9,23 @@ use borrow.Author.Rules.{rules}
 use Rattle.put_plan.proofs.put_refusal.Statement.{statement}
 use Rattle.put_plan.proofs.put_refusal.Tie as tie
 
-put-line-requires : tie.Need-put-line-requires
+put_line-requires : tie.Need-put_line-requires
 unfolding widths_of
-put-line-requires c κs = (omega arith, omega (arith, refused_size, refusal_bytes c.before.before.before.before.before.args.refusal, c.before.before.before.before.before.requires))
+put_line-requires c κs = (omega arith, omega (arith, refused_size, refusal_bytes c.args.refusal, c.requires))
 
 returns : tie.Need-returns
 returns c =
-    let a = c.before.before.before.before.before.before.before.before.args in
-    c.before.before.put-line.ensures ∙ ap (stored a.out.now 0) (refusal_told a.refusal _ _ c.before.before.before.before.before.before.number.ensures c.before.before.before.before.before.place.ensures)
+    let a = c.args in
+    c.put_line.ensures ∙ ap (stored a.out.now 0) (refusal_told a.refusal _ _ c.number-number.ensures c.place-place.ensures)
 
-pub put-refusal-spec : {M : Type 1} → statement M
-put-refusal-spec =
+pub put_refusal_spec : {M : Type 1} → statement M
+put_refusal_spec =
     tie.close
-    (tie.spec (λ c κs. search rules) (λ c κs. search rules) (λ c. search rules) (λ c. search rules) put-line-requires (λ c. search rules) returns)
+    (tie.spec
+    (λ c κs. search rules)
+    (λ c κs. search rules)
+    (λ c. search rules)
+    (λ c. search rules)
+    put_line-requires
+    (λ c. search rules)
+    returns)

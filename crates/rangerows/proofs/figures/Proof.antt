@@ -5,7 +5,6 @@ use mathlib.Core.Bool.{false}
 use mathlib.Core.Path.{◌≡◌, sym, ◌∙◌, ap}
 use lib.ListN.{length-take}
 use borrow.Author.Rules.{rules}
-use Rattle.refusals.specs.declared.Refusal.TheVariants.{Range}
 use Rattle.tasks.specs.declared.set.TaskSet.{TaskSet}
 use Rattle.tasks.specs.Set.{most_tasks, most_interrupts, members, interrupts_in}
 use Rattle.tasks.specs.Search.{first_task, at_task}
@@ -15,73 +14,73 @@ use Rattle.taskrows.proofs.FiguresLaws.{figures_board, figures_task, figures_int
 use Rattle.rangerows.proofs.figures.Statement.{statement}
 use Rattle.rangerows.proofs.figures.Tie as tie
 
-returns : tie.Need-returns
-returns c =
-    let set : TaskSet = c.before.before.before.args.set in
-    let said : c.before.breaks-board.result ≡ board_row set.header = c.before.breaks-board.ensures in
-    sym (figures_board set (sym said ∙ c.if1.true))
+returns-then-breaks_board : tie.Need-returns-then-breaks_board
+returns-then-breaks_board c =
+    let set : TaskSet = c.args.set in
+    let said : c.breaks_board.result ≡ board_row set.header = c.breaks_board.ensures in
+    sym (figures_board set (sym said ∙ c.if-breaks_board.true))
 
 -- row 5 does not hold, and the first task out of range
-module _ (c : tie.After-first-out-of-range) where
+module _ (c : tie.After-first_out_of_range-task) where
   abbrev start : tie.Start
   start = c.before.before.before.before
 
   board : board_row start.args.set.header ≡ false
-  board = sym c.before.before.breaks-board.ensures ∙ c.before.if1.false
+  board = sym c.breaks_board.ensures ∙ c.if-breaks_board.false
 
-  task : first_task range_row (members start.args.set) ≡ c.first-out-of-range.result
-  task = sym c.first-out-of-range.ensures
+  task : first_task range_row (members start.args.set) ≡ c.first_out_of_range-task.result
+  task = sym c.first_out_of_range-task.ensures
 
-  few : c.first-out-of-range.result ≤ 1 + most_tasks
+  few : c.first_out_of_range-task.result ≤ 1 + most_tasks
   few =
       let set : TaskSet = start.args.set in
-      omega (arith, first_within range_row 1 (members set), task, length-take set.count set.tasks, start.pre.0)
+      omega (arith, first_within range_row 1 (members set), task, length-take set.count set.tasks, start.requires.0)
 
-cast-t8 : tie.Need-overflow-cast-t8
-cast-t8 c = omega (arith, few c.before)
+overflow_cast-result : tie.Need-overflow_cast-result
+overflow_cast-result c = omega (arith, few c.before)
 
-returns-2 : tie.Need-returns-2
-returns-2 c = let d = c.before in sym (figures_task (start d).args.set (board d) (task d) c.if2.true)
+returns-then-task-ne0 : tie.Need-returns-then-task-ne0
+returns-then-task-ne0 c = let d = c.before in sym (figures_task (start d).args.set (board d) (task d) c.if-task-ne0.true)
 
-first-interrupt-out-requires : tie.Need-first-interrupt-out-requires
-first-interrupt-out-requires c κs = (start c.before).pre.1
+first_interrupt_out-interrupt-requires : tie.Need-first_interrupt_out-interrupt-requires
+first_interrupt_out-interrupt-requires c κs = (start c.before.before).requires.1
 
 -- no task is out of range, and the first interrupt that is
-module _ (c : tie.After-first-interrupt-out) where
-  abbrev ranged : tie.After-first-out-of-range
-  ranged = c.before.before
+module _ (c : tie.After-first_interrupt_out-interrupt) where
+  abbrev ranged : tie.After-first_out_of_range-task
+  ranged = c.before.before.before
 
-  interrupts : figures_outcome (start ranged).args.set ≡ at_task range_at c.first-interrupt-out.result
-  interrupts = figures_interrupts (start ranged).args.set (board ranged) (task ranged) c.before.if2.false ∙ ap (at_task range_at) (sym c.first-interrupt-out.ensures)
+  interrupts : figures_outcome (start ranged).args.set ≡ at_task range_at c.first_interrupt_out-interrupt.result
+  interrupts = figures_interrupts (start ranged).args.set (board ranged) (task ranged) c.if-task-ne0.false ∙ ap (at_task range_at) (sym c.first_interrupt_out-interrupt.ensures)
 
-  few_interrupts : c.first-interrupt-out.result ≤ 1 + most_interrupts
+  few_interrupts : c.first_interrupt_out-interrupt.result ≤ 1 + most_interrupts
   few_interrupts =
       let set : TaskSet = (start ranged).args.set in
-      omega (arith, first_within (interrupt_row set.header.processors) 1 (interrupts_in set), c.first-interrupt-out.ensures, length-take set.interrupts.count set.interrupts.each, (start ranged).pre.1)
+      omega (arith, first_within (interrupt_row set.header.processors) 1 (interrupts_in set), c.first_interrupt_out-interrupt.ensures, length-take set.interrupts.count set.interrupts.each, (start ranged).requires.1)
 
-returns-3 : tie.Need-returns-3
-returns-3 c = sym (interrupts c.before ∙ at_none range_at c.before.first-interrupt-out.result c.if3.true)
+returns-then-interrupt-eq0 : tie.Need-returns-then-interrupt-eq0
+returns-then-interrupt-eq0 c = sym (interrupts c.before ∙ at_none range_at c.first_interrupt_out-interrupt.result c.if-interrupt-eq0.true)
 
-add-t10 : tie.Need-overflow-add-t10
-add-t10 c = omega (arith, few_interrupts c.before)
+overflow_add-result : tie.Need-overflow_add-result
+overflow_add-result c = omega (arith, few_interrupts c.before)
 
-cast-t11 : tie.Need-overflow-cast-t11
-cast-t11 c = omega (arith, few_interrupts c.before)
+overflow_cast-result-2 : tie.Need-overflow_cast-result-2
+overflow_cast-result-2 c = omega (arith, few_interrupts c.before)
 
-returns-4 : tie.Need-returns-4
-returns-4 c = sym (interrupts c.before ∙ at_some range_at c.before.first-interrupt-out.result c.if3.false)
+returns : tie.Need-returns
+returns c = sym (interrupts c.before ∙ at_some range_at c.first_interrupt_out-interrupt.result c.if-interrupt-eq0.false)
 
-pub figures-spec : {M : Type 1} → statement M
-figures-spec =
+pub figures_spec : {M : Type 1} → statement M
+figures_spec =
     tie.close
     (tie.spec
     (λ c κs. search rules)
-    returns
+    returns-then-breaks_board
     (λ c κs. search rules)
-    cast-t8
-    returns-2
-    first-interrupt-out-requires
-    returns-3
-    add-t10
-    cast-t11
-    returns-4)
+    overflow_cast-result
+    returns-then-task-ne0
+    first_interrupt_out-interrupt-requires
+    returns-then-interrupt-eq0
+    overflow_add-result
+    overflow_cast-result-2
+    returns)

@@ -11,32 +11,29 @@ use Rattle.taskread.proofs.Reading.{rest_refused, rest_few, ended_none, ended_al
 use Rattle.read_finished.proofs.finished.Statement.{statement}
 use Rattle.read_finished.proofs.finished.Tie as tie
 
-interrupt-lines-requires : tie.Need-interrupt-lines-requires
-interrupt-lines-requires c κs = let s = c.before in (s.requires.0, s.requires.1.0)
+interrupt_lines-rest-requires : tie.Need-interrupt_lines-rest-requires
+interrupt_lines-rest-requires c κs = (c.requires.0, c.requires.1.0)
 
-returns : tie.Need-returns
-returns c =
-    let lines = c.before.before.before in
-    let s = lines.before.before in
-    let told = c.before.enum-told2.given in
-    c.answered.ensures ∙ rest_refused s.requires.1.1 lines.interrupt-lines.ensures told.0.0 told.1
+returns-in_default : tie.Need-returns-in_default
+returns-in_default c =
+    let lines = c.before.before in
+    c.answered.ensures ∙ rest_refused lines.requires.1.1 lines.interrupt_lines-rest.ensures c.in_default.field-0 c.in_default.is
 
 -- the lines are few
-few-lines : (c : tie.After-interrupt-lines) → (c.interrupt-lines.result.lines ≤ most_tasks + most_interrupts + 3) × (c.before.before.args.lines ≤ most_tasks + most_interrupts + 3)
-few-lines c = let taken = c.before.before.requires.0.taken in (c.interrupt-lines.ensures.lines, omega (arith, taken.lines, taken.few, taken.fewer))
+few-lines : (c : tie.After-interrupt_lines-rest) → (c.interrupt_lines-rest.result.lines ≤ most_tasks + most_interrupts + 3) × (c.args.lines ≤ most_tasks + most_interrupts + 3)
+few-lines c = let taken = c.requires.0.taken in (c.interrupt_lines-rest.ensures.lines, omega (arith, taken.lines, taken.few, taken.fewer))
 
-add-place : tie.Need-overflow-add-place
-add-place c = omega (arith, few-lines c.before.before.before.before)
+overflow_add-place : tie.Need-overflow_add-place
+overflow_add-place c = omega (arith, few-lines c.before.before.before)
 
-cast-place : tie.Need-overflow-cast-place
-cast-place c = omega (arith, few-lines c.before.before.before.before)
+overflow_cast-place : tie.Need-overflow_cast-place
+overflow_cast-place c = omega (arith, few-lines c.before.before.before)
 
-returns-2 : tie.Need-returns-2
-returns-2 c =
+returns-then-set-eq0 : tie.Need-returns-then-set-eq0
+returns-then-set-eq0 c =
     let told = c.before.before.before in
-    let lines = told.before.before in
-    let s = lines.before.before in
-    c.answered2.ensures ∙ ended_none s.requires.1.1 lines.interrupt-lines.ensures told.enum_told.given.1 c.before.if1.true
+    let lines = told.before in
+    c.answered-then-set-eq0.ensures ∙ ended_none lines.requires.1.1 lines.interrupt_lines-rest.ensures told.in-Done.is c.if-set-eq0.true
 
 -- there is room for the tasks, and for the interrupts, of which there were none
 few : (s : tie.Start) → (s.args.tasks.count ≤ most_tasks) × (s.args.tasks.interrupts.count ≡ 0)
@@ -45,33 +42,32 @@ few s = (omega (arith, ap (λ (set : TaskSet). set.count) s.requires.1.1, s.requ
 
 figures-requires : tie.Need-figures-requires
 figures-requires c κs =
-    let lines = c.before.before.before.before.before in
+    let lines = c.before.before.before.before in
     let s = lines.before.before in
-    ((few s).0, omega (arith, few s, rest_few s.requires.1.1 lines.interrupt-lines.ensures))
+    ((few s).0, omega (arith, few s, rest_few s.requires.1.1 lines.interrupt_lines-rest.ensures))
 
-returns-3 : tie.Need-returns-3
-returns-3 c =
+returns : tie.Need-returns
+returns c =
     let told = c.before.before.before.before.before in
-    let lines = told.before.before in
-    let s = lines.before.before in
-    let set : TaskSet = set_with s.args.tasks lines.interrupt-lines.result.interrupts in
-    c.answered3.ensures
-    ∙ (ap (λ (o : Outcome). answer o set) c.before.figures.ensures
-    ∙ ended_all s.requires.1.1 lines.interrupt-lines.ensures told.enum_told.given.1 c.before.before.before.if1.false)
+    let lines = told.before in
+    let set : TaskSet = set_with lines.args.tasks lines.interrupt_lines-rest.result.interrupts in
+    c.answered-2.ensures
+    ∙ (ap (λ (o : Outcome). answer o set) c.figures.ensures
+    ∙ ended_all lines.requires.1.1 lines.interrupt_lines-rest.ensures told.in-Done.is c.if-set-eq0.false)
 
-pub finished-spec : {M : Type 1} → statement M
-finished-spec =
+pub finished_spec : {M : Type 1} → statement M
+finished_spec =
     tie.close
     (tie.spec
-    interrupt-lines-requires
+    interrupt_lines-rest-requires
     (λ c. search rules)
     (λ c. search rules)
     (λ c κs. search rules)
-    returns
-    add-place
-    cast-place
+    returns-in_default
+    overflow_add-place
+    overflow_cast-place
     (λ c κs. search rules)
-    returns-2
+    returns-then-set-eq0
     figures-requires
     (λ c κs. search rules)
-    returns-3)
+    returns)

@@ -1,6 +1,6 @@
 -- The loop's invariant: the figures of the first `i` lines are filled in, of any servers whose rows were read.
 -- Assumes nothing.
-use Prim.Native.Nat.{ℕ, ◌+◌, ◌*◌, ◌-◌, ◌≤◌}
+use Prim.Native.Nat.{◌*◌, ◌-◌}
 use mathlib.Core.Path.{◌∙◌, ap}
 use mathlib.Core.List.{List}
 use native.Mathlib.Omega.{arith}
@@ -14,99 +14,98 @@ use borrow.Author.Rules.{rules}
 use Rattle.server_values.proofs.server_values.Statement.{statement}
 use Rattle.server_values.proofs.server_values.Tie as tie
 
-abbrev invariant-loop : tie.invariant-loop
-invariant-loop values₀ n slot reserve start count i₀ values i =
+abbrev invariant-loop-i : tie.invariant-loop-i
+invariant-loop-i values₀ n slot reserve start count i₀ values i =
     (servers : List Server) → ReadOf servers reserve start count → Filled (server_figures servers slot) (4 * most_tasks) n values i
 
-abbrev decreases-loop : tie.decreases-loop
-decreases-loop values₀ n slot reserve start count i₀ values i = n - i
+abbrev decreases-loop-i : tie.decreases-loop-i
+decreases-loop-i values₀ n slot reserve start count i₀ values i = n - i
 
-loop-holds : tie.Need-loop-init invariant-loop decreases-loop
-loop-holds c = λ servers read. filled_none _ _ _
+loop-i-init : tie.Need-loop-i-init invariant-loop-i decreases-loop-i
+loop-i-init c = λ servers read. filled_none _ _ _
 
 -- at the loop's test
-module _ (l : tie.At-loop invariant-loop decreases-loop) where
+module _ (l : tie.At-loop-i invariant-loop-i decreases-loop-i) where
   abbrev servers : List Server
-  servers = l.before.before.before.before.args.plan.server
+  servers = l.args.plan.server
 
   -- the rows are those of the plan's servers
-  rows : ReadOf servers l.before.before.before.reserves.result l.before.before.starts.result l.before.counts.result
-  rows = record { reserves = l.before.before.before.reserves.ensures; starts = l.before.before.starts.ensures; counts = l.before.counts.ensures }
+  rows : ReadOf servers l.reserves-reserve.result l.starts-start.result l.counts-count.result
+  rows = record { reserves = l.reserves-reserve.ensures; starts = l.starts-start.ensures; counts = l.counts-count.ensures }
 
-  held : Filled (server_figures servers l.before.before.before.before.args.plan.slot) (4 * most_tasks) l.before.before.before.before.args.plan.servers l.loop.values l.loop.i
-  held = l.loop.inv servers rows
+  held : Filled (server_figures servers l.args.plan.slot) (4 * most_tasks) l.args.plan.servers l.loop-i.values l.loop-i.i
+  held = l.loop-i.invariant servers rows
 
-mul-start-or-mark : tie.Need-overflow-mul-start-or-mark invariant-loop decreases-loop
-mul-start-or-mark c = omega arith
+offset_bounds-reserve-i : tie.Need-offset_bounds-reserve-i invariant-loop-i decreases-loop-i
+offset_bounds-reserve-i c = omega arith
 
-array-read-start-or-mark : tie.Need-array-read-start-or-mark invariant-loop decreases-loop
-array-read-start-or-mark c = omega arith
+bounds-reserve-i : tie.Need-bounds-reserve-i invariant-loop-i decreases-loop-i
+bounds-reserve-i c = omega arith
 
-mul-start-or-mark-2 : tie.Need-overflow-mul-start-or-mark-2 invariant-loop decreases-loop
-mul-start-or-mark-2 c = omega arith
+offset_bounds-start-i : tie.Need-offset_bounds-start-i invariant-loop-i decreases-loop-i
+offset_bounds-start-i c = omega arith
 
-array-read-start-or-mark-2 : tie.Need-array-read-start-or-mark-2 invariant-loop decreases-loop
-array-read-start-or-mark-2 c = omega arith
+bounds-start-i : tie.Need-bounds-start-i invariant-loop-i decreases-loop-i
+bounds-start-i c = omega arith
 
-add-t20 : tie.Need-overflow-add-t20 invariant-loop decreases-loop
-add-t20 c = omega arith
+overflow_add-figures : tie.Need-overflow_add-figures invariant-loop-i decreases-loop-i
+overflow_add-figures c = omega arith
 
-array-read-t23 : tie.Need-array-read-t23 invariant-loop decreases-loop
-array-read-t23 c = omega arith
+bounds-reserve-i-in-loop-i : tie.Need-bounds-reserve-i-in-loop-i invariant-loop-i decreases-loop-i
+bounds-reserve-i-in-loop-i c = omega arith
 
-array-read-t26 : tie.Need-array-read-t26 invariant-loop decreases-loop
-array-read-t26 c = omega arith
+bounds-count-i : tie.Need-bounds-count-i invariant-loop-i decreases-loop-i
+bounds-count-i c = omega arith
 
-mul-put-figures : tie.Need-overflow-mul-put-figures invariant-loop decreases-loop
-mul-put-figures c = omega arith
+overflow_mul-i : tie.Need-overflow_mul-i invariant-loop-i decreases-loop-i
+overflow_mul-i c = omega arith
 
-put-figures-requires : tie.Need-put-figures-requires invariant-loop decreases-loop
-put-figures-requires c κs = omega (arith, (held c.before.before.before.before).same)
+put_figures-requires : tie.Need-put_figures-requires invariant-loop-i decreases-loop-i
+put_figures-requires c κs = omega (arith, (held c.before.before.before.before).same)
 
-add-i : tie.Need-overflow-add-i invariant-loop decreases-loop
-add-i c = omega arith
+overflow_add-i : tie.Need-overflow_add-i invariant-loop-i decreases-loop-i
+overflow_add-i c = omega arith
 
-loop-less : tie.Need-loop-smaller invariant-loop decreases-loop
-loop-less c = omega arith
+loop-i-smaller : tie.Need-loop-i-smaller invariant-loop-i decreases-loop-i
+loop-i-smaller c = omega arith
 
-loop-again : tie.Need-loop-preserved invariant-loop decreases-loop
-loop-again c =
-    let turn = c.before.before.before.before.before in
-    let slot = turn.before.before.before.before.before.args.plan.slot in
+loop-i-preserved : tie.Need-loop-i-preserved invariant-loop-i decreases-loop-i
+loop-i-preserved c =
+    let slot = c.args.plan.slot in
     λ servers read.
-    filled_next (server_figures servers slot) 4 (server_each servers slot) (omega arith) (turn.before.loop.invariant servers read) turn.loop-test.true
-    (c.before.put_figures_lem.ensures ∙ ap (stored turn.before.loop.values (4 * turn.before.loop.i)) (server_at_lem servers slot turn.before.loop.i read c.before.before.before.before.start-or-mark.ensures)) c.before.put_figures_lem.auto.0
+    filled_next (server_figures servers slot) 4 (server_each servers slot) (omega arith) (c.loop-i.invariant servers read) c.loop-i-test.true
+    (c.put_figures.ensures ∙ ap (stored c.loop-i.values (4 * c.loop-i.i)) (server_at_lem servers slot c.loop-i.i read c.start_or_mark-begin.ensures)) c.put_figures.auto.numbers
 
-returns : tie.Need-returns invariant-loop decreases-loop
+returns : tie.Need-returns invariant-loop-i decreases-loop-i
 returns c =
-    let a = c.before.before.before.before.before.args in
-    filled_all (server_figures a.plan.server a.plan.slot) 4 (server_each a.plan.server a.plan.slot) (omega arith) (held c.before) c.loop-test.false
+    let a = c.args in
+    filled_all (server_figures a.plan.server a.plan.slot) 4 (server_each a.plan.server a.plan.slot) (omega arith) (held c.before) c.loop-i-test.false
 
-pub server-values-spec : {M : Type 1} → statement M
-server-values-spec =
+pub server_values_spec : {M : Type 1} → statement M
+server_values_spec =
     tie.close
     (tie.spec
-    invariant-loop
-    decreases-loop
+    invariant-loop-i
+    decreases-loop-i
     (λ c κs. search rules)
     (λ c κs. search rules)
     (λ c κs. search rules)
-    loop-holds
-    mul-start-or-mark
-    array-read-start-or-mark
-    mul-start-or-mark-2
-    array-read-start-or-mark-2
+    loop-i-init
+    offset_bounds-reserve-i
+    bounds-reserve-i
+    offset_bounds-start-i
+    bounds-start-i
     (λ c κs. search rules)
-    add-t20
+    overflow_add-figures
     (λ c. search rules)
-    array-read-t23
+    bounds-reserve-i-in-loop-i
     (λ c. search rules)
-    array-read-t26
+    bounds-count-i
     (λ c. search (rules, (held c.before.before.before).same))
-    mul-put-figures
+    overflow_mul-i
     (λ c. search rules)
-    put-figures-requires
-    add-i
-    loop-less
-    loop-again
+    put_figures-requires
+    overflow_add-i
+    loop-i-smaller
+    loop-i-preserved
     returns)

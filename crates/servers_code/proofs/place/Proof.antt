@@ -10,45 +10,45 @@ use Rattle.servers_code.proofs.place.Statement.{statement}
 use Rattle.servers_code.proofs.place.Tie as tie
 
 -- the order and the fit are those of the header's rule
-module _ (c : tie.After-order-of) where
+module _ (c : tie.After-order_of-order) where
   abbrev start : tie.Start
   start = c.before.before.before.before.before
 
-  by_order : c.order-of.result ≡ order_of (rule_number start.args.header)
-  by_order = c.order-of.ensures ∙ ap order_of c.before.before.rule-number.ensures
+  by_order : c.order_of-order.result ≡ order_of (rule_number start.args.header)
+  by_order = c.order_of-order.ensures ∙ ap order_of c.rule_number-rule.ensures
 
-  by_fit : c.before.fit_of.result ≡ fit_of (rule_number start.args.header)
-  by_fit = c.before.fit_of.ensures ∙ ap fit_of c.before.before.rule-number.ensures
+  by_fit : c.fit_of-fit.result ≡ fit_of (rule_number start.args.header)
+  by_fit = c.fit_of-fit.ensures ∙ ap fit_of c.rule_number-rule.ensures
 
-placed-in-requires : tie.Need-placed-in-requires
-placed-in-requires c κs = (start c.before.before).pre
+placed_in-requires : tie.Need-placed_in-requires
+placed_in-requires c κs = (start c.before).requires
 
-placed-in-turn-requires : tie.Need-placed-in-turn-requires
-placed-in-turn-requires c κs = (start c.before).pre
+placed_in_turn-requires : tie.Need-placed_in_turn-requires
+placed_in_turn-requires c κs = (start c.before).requires
 
-returns : tie.Need-returns
-returns c =
-    let at = c.before.before.before in
+returns-in-File : tie.Need-returns-in-File
+returns-in-File c =
+    let at = c.before.before in
     let s = start at in
-    c.placed-in.ensures ∙
-    ap (placed (figures_to s.args.figures.now s.args.n)) (placed_in_file s.pre.0 s.pre.1 (sym (by_order at) ∙ c.before.enum_told.given.1) (by_fit at))
+    c.placed_in.ensures ∙
+    ap (placed (figures_to s.args.figures.now s.args.n)) (placed_in_file s.requires.0 s.requires.1 (sym (by_order at) ∙ c.in-File.is) (by_fit at))
 
-returns-2 : tie.Need-returns-2
-returns-2 c =
+returns-in-Falling : tie.Need-returns-in-Falling
+returns-in-Falling c =
     let at = c.before.before in
     let s = start at in
     c.placed_in_turn.ensures ∙
-    ap (placed (figures_to s.args.figures.now s.args.n)) (placed_in_turn s.pre.0 s.pre.1 (by_order at) (by_fit at))
+    ap (placed (figures_to s.args.figures.now s.args.n)) (placed_in_turn s.requires.0 s.requires.1 (by_order at) (by_fit at))
 
-pub place-spec : {M : Type 1} → statement M
-place-spec =
+pub place_spec : {M : Type 1} → statement M
+place_spec =
     tie.close
     (tie.spec
     (λ c κs. search rules)
     (λ c κs. search rules)
     (λ c κs. search rules)
     (λ c. search rules)
-    placed-in-requires
-    placed-in-turn-requires
-    returns
-    returns-2)
+    placed_in-requires
+    placed_in_turn-requires
+    returns-in-File
+    returns-in-Falling)

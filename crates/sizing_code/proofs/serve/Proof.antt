@@ -48,32 +48,37 @@ costed {b} {figures} {n} {placement} {cache} {count} w =
     few : servers_in (placement_of b figures) ≤ most_tasks
     few = omega (arith, w.count_is, w.few)
 
-place-requires : tie.Need-place-requires
-place-requires c κs = c.before.before.requires
+place-placed-requires : tie.Need-place-placed-requires
+place-placed-requires c κs = c.requires
 
 -- what is known once the tasks are placed
-placed : (c : tie.After-place) →
+placed : (c : tie.After-place-placed) →
     let s = c.before.before.before in
-    Held (board_of s.args.header s.args.interrupts.now) (figures_to s.args.figures.now s.args.n) s.args.n c.place.result.placement c.place.result.cache c.place.result.count
+    Held (board_of s.args.header s.args.interrupts.now) (figures_to s.args.figures.now s.args.n) s.args.n c.place-placed.result.placement c.place-placed.result.cache c.place-placed.result.count
 placed c =
-    let s = c.before.before.before in
-    held (board_of s.args.header s.args.interrupts.now) (figures_to s.args.figures.now s.args.n) s.args.n c.place.result (each_length (figures_at s.args.figures.now) s.args.n) s.requires.0.few c.place.ensures
+    held (board_of c.args.header c.args.interrupts.now) (figures_to c.args.figures.now c.args.n) c.args.n c.place-placed.result (each_length (figures_at c.args.figures.now) c.args.n) c.requires.0.few c.place-placed.ensures
 
-slice-aggregate-size : tie.Need-slice-aggregate-size
-slice-aggregate-size c = sym (placed c.before.before.before).room
+slice_bounds-size-end : tie.Need-slice_bounds-size-end
+slice_bounds-size-end c = sym (placed c.before.before.before).room
 
-slice-aggregate-size-2 : tie.Need-slice-aggregate-size-2
-slice-aggregate-size-2 c = sym (placed c.before.before.before.before).cache_room
+slice_bounds-size-end-2 : tie.Need-slice_bounds-size-end-2
+slice_bounds-size-end-2 c = sym (placed c.before.before.before.before).cache_room
 
-size-requires : tie.Need-size-requires
-size-requires c κs =
+size-reserve-requires : tie.Need-size-reserve-requires
+size-reserve-requires c κs =
     let at = c.before.before.before.before in
-    let s = at.before.before.before in
     let w = placed at in
-    (s.requires.0, (s.requires.1, ((omega (arith, w.room, s.requires.0.few), w.few), costed w)))
+    (at.requires.0, (at.requires.1, ((omega (arith, w.room, at.requires.0.few), w.few), costed w)))
 
 returns : tie.Need-returns
-returns c = served (placed c.before.before.before.before.before) c.size.result c.size.ensures
+returns c = served (placed c.before.before.before.before.before) c.size-reserve.result c.size-reserve.ensures
 
-pub serve-spec : {M : Type 1} → statement M
-serve-spec = tie.close (tie.spec place-requires slice-aggregate-size slice-aggregate-size-2 size-requires returns)
+pub serve_spec : {M : Type 1} → statement M
+serve_spec =
+    tie.close
+    (tie.spec
+    place-placed-requires
+    slice_bounds-size-end
+    slice_bounds-size-end-2
+    size-reserve-requires
+    returns)

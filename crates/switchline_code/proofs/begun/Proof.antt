@@ -16,27 +16,32 @@ use Rattle.switchline_code.proofs.begun.Tie as tie
 on_ring : (s : tie.Start) → s.args.processor ≤ ring_processors s.args.turn.slot (take s.args.turn.servers s.args.reserves.now)
 on_ring s = omega (arith, s.requires.0.2, s.requires.0.0.ring)
 
-returns : tie.Need-returns
-returns c =
-    let s = c.before.before.before in
-    let first : s.args.tick ≡ 0 = omega (arith, c.before.if1.true) in
+returns-then-tick-eq0 : tie.Need-returns-then-tick-eq0
+returns-then-tick-eq0 c =
+    let first : c.args.tick ≡ 0 = omega (arith, c.if-tick-eq0.true) in
     c.who.ensures ∙
-    ap (λ (x : ℕ). who_of s.args.turn.slot (take s.args.turn.servers s.args.reserves.now) s.args.processor (record { 0 = x })) (sym first)
+    ap (λ (x : ℕ). who_of c.args.turn.slot (take c.args.turn.servers c.args.reserves.now) c.args.processor (record { 0 = x })) (sym first)
 
-stand-after-requires : tie.Need-stand-after-requires
-stand-after-requires c κs =
+stand_after-requires : tie.Need-stand_after-requires
+stand_after-requires c κs =
     let s = c.before.before in
-    let later : 1 ≤ s.args.tick = omega (arith, c.if1.false) in (
+    let later : 1 ≤ s.args.tick = omega (arith, c.if-tick-eq0.false) in (
       (s.requires.0.0.slotted, s.requires.0.0.idle),
       before_stretched (laid_slotted s.requires.0.0) s.args.processor s.requires.0.1 (on_ring s) s.args.tick later s.requires.1.0,
     )
 
-returns-2 : tie.Need-returns-2
-returns-2 c =
+returns : tie.Need-returns
+returns c =
     let s = c.before.before.before in
-    let later : 1 ≤ s.args.tick = omega (arith, c.before.if1.false) in
-    c.stand-after.ensures ∙
+    let later : 1 ≤ s.args.tick = omega (arith, c.if-tick-eq0.false) in
+    c.stand_after.ensures ∙
     after_begins (laid_slotted s.requires.0.0) s.args.processor s.requires.0.1 (on_ring s) s.args.tick later s.requires.1.0 s.requires.1.1
 
-pub begun-spec : {M : Type 1} → statement M
-begun-spec = tie.close (tie.spec (λ c κs. search rules) returns stand-after-requires returns-2)
+pub begun_spec : {M : Type 1} → statement M
+begun_spec =
+    tie.close
+    (tie.spec
+    (λ c κs. search rules)
+    returns-then-tick-eq0
+    stand_after-requires
+    returns)

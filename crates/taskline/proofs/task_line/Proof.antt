@@ -24,35 +24,35 @@ rest s = drop s.args.at s.args.text.now
 abbrev given : tie.Start → Outcome → TaskLine
 given s o = task_or o (task_at (rest s))
 
-returns : tie.Need-returns
-returns c =
-    let s = c.before.before.before.before.before in
-    let nothing : kind_at (rest s) ≡ Found.Nothing = sym c.before.before.kind_at.ensures ∙ c.enum_told.given.1 in
+returns-in_default : tie.Need-returns-in_default
+returns-in_default c =
+    let s = c.before.before.before.before in
+    let nothing : kind_at (rest s) ≡ Found.Nothing = sym c.kind_at-found.ensures ∙ c.in_default.is in
     sym (ap (given s) (said_line s.requires.0.taken s.requires.1.0 (admits_none (rest s) (kind_none (rest s) nothing))))
 
 -- the frame that was found is formed
-is-formed : (c : tie.After-known-told) → formed c.before.found.given.0.0 (rest c.before.before.before.before.before.before) ≡ true
+is-formed : (c : tie.In-Frame) → formed c.in-Frame.frame (rest c.before.before.before.before) ≡ true
 is-formed c =
-    kind_formed c.before.found.given.0.0 (rest c.before.before.before.before.before.before) (sym c.before.before.before.kind_at.ensures ∙ c.before.found.given.1)
+    kind_formed c.in-Frame.frame (rest c.before.before.before.before) (sym c.kind_at-found.ensures ∙ c.in-Frame.is)
 
-listed-line-requires : tie.Need-listed-line-requires
-listed-line-requires c κs =
-    let s = c.before.before.before.before.before.before.before in
-    (s.requires.0, (s.requires.1.1.0, tag_task c.before.before.found.given.0.0 (rest s) c.match2.keys2 (is-formed c.before)))
+listed_line-requires : tie.Need-listed_line-requires
+listed_line-requires c κs =
+    let s = c.before.before.before.before.before in
+    (s.requires.0, (s.requires.1.1.0, tag_task c.in-Frame.frame (rest s) c.in-Task.in-Task-own.keys2 (is-formed c.before)))
 
-returns-4 : tie.Need-returns-4
-returns-4 c =
-    let s = c.before.before.before.before.before.before.before in
-    let other = other_task c.before.before.found.given.0.0 (rest s) c.match2.keys3 (is-formed c.before) s.requires.1.1.1 in
+returns-in_default-frame : tie.Need-returns-in_default-frame
+returns-in_default-frame c =
+    let s = c.before.before.before.before.before in
+    let other = other_task c.in-Frame.frame (rest s) c.in_default-frame.in_default-frame-own.keys3 (is-formed c.before) s.requires.1.1.1 in
     sym (ap (given s) (said_line s.requires.0.taken s.requires.1.0 other))
 
-returns-2 : tie.Need-returns-2
-returns-2 c =
-    let s = c.before.before.before.before.before.before.before in
-    sym (ap (given s) (said_order s.requires.0.taken c.before.before.found.given.0.0 (is-formed c.before) c.match2.keys1))
+returns-in-Header : tie.Need-returns-in-Header
+returns-in-Header c =
+    let s = c.before.before.before.before.before in
+    sym (ap (given s) (said_order s.requires.0.taken c.in-Frame.frame (is-formed c.before) c.in-Header.in-Header-own.keys1))
 
-pub task-line-spec : {M : Type 1} → statement M
-task-line-spec =
+pub task_line_spec : {M : Type 1} → statement M
+task_line_spec =
     tie.close
     (tie.spec
     (λ c. search rules)
@@ -60,8 +60,8 @@ task-line-spec =
     (λ c κs. search rules)
     (λ c. search rules)
     (λ c. search rules)
-    returns
-    listed-line-requires
-    returns-2
+    returns-in_default
+    listed_line-requires
+    returns-in-Header
     (λ c. search rules)
-    returns-4)
+    returns-in_default-frame)

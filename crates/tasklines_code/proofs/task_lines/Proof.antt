@@ -23,132 +23,127 @@ use Rattle.tasklines.proofs.Tasking.{Held, held_few, held_opening, held_task, he
 use Rattle.tasklines_code.proofs.task_lines.Statement.{statement}
 use Rattle.tasklines_code.proofs.task_lines.Tie as tie
 
-abbrev invariant-loop : tie.invariant-loop
-invariant-loop text set₀ ids₀ at₀ lines₀ set ids at lines = Held text lines at set ids
+abbrev invariant-loop-at : tie.invariant-loop-at
+invariant-loop-at text set₀ ids₀ at₀ lines₀ set ids at lines = Held text lines at set ids
 
-abbrev decreases-loop : tie.decreases-loop
-decreases-loop text set₀ ids₀ at₀ lines₀ set ids at lines = length text - at
+abbrev decreases-loop-at : tie.decreases-loop-at
+decreases-loop-at text set₀ ids₀ at₀ lines₀ set ids at lines = length text - at
 
-loop-holds : tie.Need-loop-init invariant-loop decreases-loop
-loop-holds c =
-    let s = c.before.before.before in
-    held_opening s.args.text.now c.before.zero.ensures refl s.requires.0 s.requires.1
+loop-at-init : tie.Need-loop-at-init invariant-loop-at decreases-loop-at
+loop-at-init c =
+    held_opening c.args.text.now c.zero-set.ensures refl c.requires.0 c.requires.1
 
-is-line-requires : tie.Need-is-line-requires invariant-loop decreases-loop
-is-line-requires c κs = omega (arith, c.loop-test.true)
+is_line-requires : tie.Need-is_line-requires invariant-loop-at decreases-loop-at
+is_line-requires c κs = omega (arith, c.loop-at-test.true)
 
-array-share-prefix-ids : tie.Need-array-share-prefix-ids invariant-loop decreases-loop
-array-share-prefix-ids c = let held = c.before.before.before.loop.invariant in omega (arith, held_few held, held.room)
+slice_bounds-ids-end : tie.Need-slice_bounds-ids-end invariant-loop-at decreases-loop-at
+slice_bounds-ids-end c = let held = c.loop-at.invariant in omega (arith, held_few held, held.room)
 
-slice-aggregate-task-line : tie.Need-slice-aggregate-task-line invariant-loop decreases-loop
-slice-aggregate-task-line c = let held = c.before.before.before.before.loop.invariant in sym (length-take-le _ _ (omega (arith, held_few held, held.room)))
+slice_bounds-task_line-end : tie.Need-slice_bounds-task_line-end invariant-loop-at decreases-loop-at
+slice_bounds-task_line-end c = let held = c.loop-at.invariant in sym (length-take-le _ _ (omega (arith, held_few held, held.room)))
 
 -- the line at the cursor is no 07 line
-other : (c : tie.Then1 invariant-loop decreases-loop) → formed Frame.Interrupt (drop c.before.before.before.loop.at c.before.before.before.before.before.before.before.args.text.now) ≡ false
-other c = sym c.before.is-line.ensures ∙ not-true _ c.if1.true
+other : (c : tie.Then-not-is_line invariant-loop-at decreases-loop-at) → formed Frame.Interrupt (drop c.loop-at.at c.args.text.now) ≡ false
+other c = sym c.is_line.ensures ∙ not-true _ c.if-not-is_line.true-raw
 
-task-line-requires : tie.Need-task-line-requires invariant-loop decreases-loop
-task-line-requires c κs =
-    let turn = c.before.before.before in
-    let held = turn.before.loop.invariant in
-    (held.tasked, (turn.loop-test.true, (held.listed, other c.before)))
+task_line-line-requires : tie.Need-task_line-line-requires invariant-loop-at decreases-loop-at
+task_line-line-requires c κs =
+    let held = c.loop-at.invariant in
+    (held.tasked, (c.loop-at-test.true, (held.listed, other c.before)))
 
-returns : tie.Need-returns invariant-loop decreases-loop
-returns c =
-    let line = c.before.before.before in
-    let told = c.before.enum_told.given in
-    ended_refused line.before.before.before.before.before.loop.invariant told.0.0 line.task-line.ensures told.1 c.task-outcome.ensures
+returns-in_default : tie.Need-returns-in_default invariant-loop-at decreases-loop-at
+returns-in_default c =
+    ended_refused c.loop-at.invariant c.in_default.field-0 c.task_line-line.ensures c.in_default.is c.task_outcome.ensures
 
 -- the turn in which a task was told
-abbrev turn : tie.After-known-told invariant-loop decreases-loop → tie.In-loop invariant-loop decreases-loop
-turn c = c.before.before.before.before.before.before.before
+abbrev turn : tie.In-Task invariant-loop-at decreases-loop-at → tie.In-loop-at invariant-loop-at decreases-loop-at
+turn c = c.before.before.before.before.before
 
-abbrev text_of : tie.After-known-told invariant-loop decreases-loop → List ℕ
+abbrev text_of : tie.In-Task invariant-loop-at decreases-loop-at → List ℕ
 text_of c = (turn c).before.before.before.before.before.args.text.now
 
 -- what the line gives where it is a task
-gives : (c : tie.After-known-told invariant-loop decreases-loop) → task_or (line_outcome (text_of c) ((turn c).before.loop.lines + 1)) (task_at (drop (turn c).before.loop.at (text_of c))) ≡ TaskLine.Task c.before.line.given.0.0
-gives c = sym c.before.before.before.task-line.ensures ∙ c.before.line.given.1
+gives : (c : tie.In-Task invariant-loop-at decreases-loop-at) → task_or (line_outcome (text_of c) ((turn c).loop-at.lines + 1)) (task_at (drop (turn c).loop-at.at (text_of c))) ≡ TaskLine.Task c.in-Task.task
+gives c = sym c.task_line-line.ensures ∙ c.in-Task.is
 
 -- there is room for the task
-room : (c : tie.After-known-told invariant-loop decreases-loop) → (turn c).before.loop.set.count < most_tasks
-room c = task_room c.before.line.given.0.0 (turn c).before.loop.invariant (turn c).loop-test.true (other c.before.before.before.before.before) (gives c)
+room : (c : tie.In-Task invariant-loop-at decreases-loop-at) → (turn c).loop-at.set.count < most_tasks
+room c = task_room c.in-Task.task (turn c).loop-at.invariant (turn c).loop-at-test.true (other c.before.before.before) (gives c)
 
-mul-task : tie.Need-overflow-mul-task invariant-loop decreases-loop
-mul-task c = omega (arith, room c)
+offset_bounds-set-count : tie.Need-offset_bounds-set-count invariant-loop-at decreases-loop-at
+offset_bounds-set-count c = omega (arith, room c)
 
-element-set-from-task : tie.Need-element-set-from-task invariant-loop decreases-loop
-element-set-from-task c = omega (arith, room c)
+bounds-set-count : tie.Need-bounds-set-count invariant-loop-at decreases-loop-at
+bounds-set-count c = omega (arith, room c)
 
-add-set : tie.Need-overflow-add-set invariant-loop decreases-loop
-add-set c = omega (arith, room c)
+overflow_add-set : tie.Need-overflow_add-set invariant-loop-at decreases-loop-at
+overflow_add-set c = omega (arith, room c)
 
-array-write-ids : tie.Need-array-write-ids invariant-loop decreases-loop
-array-write-ids c = omega (arith, room c)
+bounds-ids-count : tie.Need-bounds-ids-count invariant-loop-at decreases-loop-at
+bounds-ids-count c = omega (arith, room c)
 
 -- a line's length is small
-small : (c : tie.After-length invariant-loop decreases-loop) → c.length.result ≤ most_digits
+small : (c : tie.After-length invariant-loop-at decreases-loop-at) → c.length.result ≤ most_digits
 small c = rw c.length.ensures (length_most _)
 
-add_at : tie.Need-overflow-add-at invariant-loop decreases-loop
-add_at c = omega (arith, small c)
+overflow_add-at : tie.Need-overflow_add-at invariant-loop-at decreases-loop-at
+overflow_add-at c = omega (arith, small c)
 
-add-at-2 : tie.Need-overflow-add-at-2 invariant-loop decreases-loop
-add-at-2 c =
+overflow_add-at-in-loop-at : tie.Need-overflow_add-at-in-loop-at invariant-loop-at decreases-loop-at
+overflow_add-at-in-loop-at c =
     let at = (turn c.before.before).before in
-    let s = at.before.before.before.before in
-    omega (arith, small c, at.loop.inv.tasked.taken.within, s.good)
+    omega (arith, small c, at.loop-at.invariant.tasked.taken.within, at.well_formed)
 
-add-lines : tie.Need-overflow-add-lines invariant-loop decreases-loop
-add-lines c =
-    let taken = (turn c.before.before).before.loop.inv.tasked.taken in
+overflow_add-lines : tie.Need-overflow_add-lines invariant-loop-at decreases-loop-at
+overflow_add-lines c =
+    let taken = (turn c.before.before).loop-at.invariant.tasked.taken in
     omega (arith, taken.lines, taken.few, taken.fewer)
 
-loop-less : tie.Need-loop-smaller invariant-loop decreases-loop
-loop-less c = omega (arith, c.length.ensures, (turn c.before.before).loop-test.taken)
+loop-at-smaller : tie.Need-loop-at-smaller invariant-loop-at decreases-loop-at
+loop-at-smaller c = omega (arith, c.length.ensures, (turn c.before.before).loop-at-test.true)
 
-loop-again : tie.Need-loop-preserved invariant-loop decreases-loop
-loop-again c =
+loop-at-preserved : tie.Need-loop-at-preserved invariant-loop-at decreases-loop-at
+loop-at-preserved c =
     let k = c.before.before in
-    let task : Task = k.before.line.given.0.0 in
-    let size : c.length.result ≡ length_of (task_frame task) = c.length.ensures ∙ ap length_of c.before.task-frame.ensures in
+    let task : Task = k.in-Task.task in
+    let size : c.length.result ≡ length_of (task_frame task) = c.length.ensures ∙ ap length_of c.task_frame-frame.ensures in
     rw size
-    (held_task task (turn k).before.loop.invariant (turn k).loop-test.true (other k.before.before.before.before.before) (gives k))
+    (held_task task (turn k).loop-at.invariant (turn k).loop-at-test.true (other k.before.before.before) (gives k))
 
-returns-2 : tie.Need-returns-2 invariant-loop decreases-loop
-returns-2 c =
-    let held = c.before.before.before.loop.invariant in
-    ended_done held (held_before held (sym c.before.is-line.ensures ∙ not-false _ c.if1.false))
+returns-else-not-is_line : tie.Need-returns-else-not-is_line invariant-loop-at decreases-loop-at
+returns-else-not-is_line c =
+    let held = c.loop-at.invariant in
+    ended_done held (held_before held (sym c.is_line.ensures ∙ not-false _ c.if-not-is_line.false-raw))
 
-returns-3 : tie.Need-returns-3 invariant-loop decreases-loop
-returns-3 c = let held = c.before.loop.invariant in ended_done held (held_over held c.loop-test.false)
+returns-after-loop-at : tie.Need-returns-after-loop-at invariant-loop-at decreases-loop-at
+returns-after-loop-at c = let held = c.loop-at.invariant in ended_done held (held_over held c.loop-at-test.false)
 
-pub task-lines-spec : {M : Type 1} → statement M
-task-lines-spec =
+pub task_lines_spec : {M : Type 1} → statement M
+task_lines_spec =
     tie.close
     (tie.spec
-    invariant-loop
-    decreases-loop
+    invariant-loop-at
+    decreases-loop-at
     (λ c κs. search rules)
-    loop-holds
-    is-line-requires
-    array-share-prefix-ids
-    slice-aggregate-task-line
-    task-line-requires
+    loop-at-init
+    is_line-requires
+    slice_bounds-ids-end
+    slice_bounds-task_line-end
+    task_line-line-requires
     (λ c. search rules)
     (λ c. search rules)
     (λ c κs. search rules)
-    returns
-    mul-task
-    element-set-from-task
-    add-set
-    array-write-ids
+    returns-in_default
+    offset_bounds-set-count
+    bounds-set-count
+    overflow_add-set
+    bounds-ids-count
     (λ c κs. search rules)
     (λ c κs. search rules)
-    add_at
-    add-at-2
-    add-lines
-    loop-less
-    loop-again
-    returns-2
-    returns-3)
+    overflow_add-at
+    overflow_add-at-in-loop-at
+    overflow_add-lines
+    loop-at-smaller
+    loop-at-preserved
+    returns-else-not-is_line
+    returns-after-loop-at)

@@ -4,62 +4,62 @@ use Prim.Native.Nat.{◌-◌}
 use mathlib.Core.Path.{◌≡◌, sym, ◌∙◌}
 use native.Mathlib.Omega.{arith}
 use borrow.Author.Rules.{rules}
-use lib.ListN.{length, length-map}
+use lib.ListN.{length}
 use Rattle.tasks.specs.Set.{most_tasks, zero_task}
 use Rattle.tasks.proofs.SearchLaws.{Passed, passed_none, passed_next, found_first, all_first}
 use Rattle.tightrows.specs.Rows.{row_of}
 use Rattle.tightrows_code.proofs.first_broken.Statement.{statement}
 use Rattle.tightrows_code.proofs.first_broken.Tie as tie
 
-abbrev invariant-loop : tie.invariant-loop
-invariant-loop row set header count i₀ i = Passed (row_of row header) zero_task set.tasks count i
+abbrev invariant-loop-i : tie.invariant-loop-i
+invariant-loop-i row set header count i₀ i = Passed (row_of row header) zero_task set.tasks count i
 
-abbrev decreases-loop : tie.decreases-loop
-decreases-loop row set header count i₀ i = count - i
+abbrev decreases-loop-i : tie.decreases-loop-i
+decreases-loop-i row set header count i₀ i = count - i
 
-full : (c : tie.Start invariant-loop decreases-loop) → length c.args.t1.tasks ≡ most_tasks
-full c = sym (length-map c.args.t1.tasks _) ∙ c.well-formed.0.1.1.1.1.0.1.0.1
+full : (c : tie.Start invariant-loop-i decreases-loop-i) → length c.args.set.tasks ≡ most_tasks
+full c = c.well_formed.0.1.1.1.1.0.1.0.1
 
-loop-holds : tie.Need-loop-init invariant-loop decreases-loop
-loop-holds c = passed_none (omega (arith, full c.before, c.before.requires))
+loop-i-init : tie.Need-loop-i-init invariant-loop-i decreases-loop-i
+loop-i-init c = passed_none (omega (arith, full c.before, c.requires))
 
-mul-task : tie.Need-overflow-mul-task invariant-loop decreases-loop
-mul-task c = omega arith
+offset_bounds-set-i : tie.Need-offset_bounds-set-i invariant-loop-i decreases-loop-i
+offset_bounds-set-i c = omega arith
 
-element-copy-out-task : tie.Need-element-copy-out-task invariant-loop decreases-loop
-element-copy-out-task c = omega arith
+bounds-set-i : tie.Need-bounds-set-i invariant-loop-i decreases-loop-i
+bounds-set-i c = omega arith
 
-add-result : tie.Need-overflow-add-result invariant-loop decreases-loop
-add-result c = omega arith
+overflow_add-result : tie.Need-overflow_add-result invariant-loop-i decreases-loop-i
+overflow_add-result c = omega arith
 
-returns : tie.Need-returns invariant-loop decreases-loop
-returns c = sym (found_first c.before.before.before.before.loop.invariant (omega arith) (sym c.before.breaks.ensures ∙ c.if1.true))
+returns-then-breaks : tie.Need-returns-then-breaks invariant-loop-i decreases-loop-i
+returns-then-breaks c = sym (found_first c.loop-i.invariant (omega arith) (sym c.breaks.ensures ∙ c.if-breaks.true))
 
-add-i : tie.Need-overflow-add-i invariant-loop decreases-loop
-add-i c = omega arith
+overflow_add-i : tie.Need-overflow_add-i invariant-loop-i decreases-loop-i
+overflow_add-i c = omega arith
 
-loop-less : tie.Need-loop-smaller invariant-loop decreases-loop
-loop-less c = omega arith
+loop-i-smaller : tie.Need-loop-i-smaller invariant-loop-i decreases-loop-i
+loop-i-smaller c = omega arith
 
-loop-again : tie.Need-loop-preserved invariant-loop decreases-loop
-loop-again c = passed_next c.before.before.before.before.loop.invariant (omega arith) (sym c.before.breaks.ensures ∙ c.if1.false)
+loop-i-preserved : tie.Need-loop-i-preserved invariant-loop-i decreases-loop-i
+loop-i-preserved c = passed_next c.loop-i.invariant (omega arith) (sym c.breaks.ensures ∙ c.if-breaks.false)
 
-returns-2 : tie.Need-returns-2 invariant-loop decreases-loop
-returns-2 c = sym (all_first c.before.loop.invariant (omega arith))
+returns : tie.Need-returns invariant-loop-i decreases-loop-i
+returns c = sym (all_first c.loop-i.invariant (omega arith))
 
-pub first-broken-spec : {M : Type 1} → statement M
-first-broken-spec =
+pub first_broken_spec : {M : Type 1} → statement M
+first_broken_spec =
     tie.close
     (tie.spec
-    invariant-loop
-    decreases-loop
-    loop-holds
-    mul-task
-    element-copy-out-task
+    invariant-loop-i
+    decreases-loop-i
+    loop-i-init
+    offset_bounds-set-i
+    bounds-set-i
     (λ c κs. search rules)
-    add-result
-    returns
-    add-i
-    loop-less
-    loop-again
-    returns-2)
+    overflow_add-result
+    returns-then-breaks
+    overflow_add-i
+    loop-i-smaller
+    loop-i-preserved
+    returns)
