@@ -13,7 +13,8 @@ use wordline::fit_words;
 fn ticks_to_spare(reading: Reading) -> u64
     ensures { result ≡ ticksToSpare reading }
 {
-    if reading.supply < reading.demand {
+    let lacking = reading.supply < reading.demand;
+    if lacking {
         return 0;
     }
     reading.supply - reading.demand

@@ -1,4 +1,3 @@
 // The two questions of a task file.
 // Definitions and laws; the code stands in askfile_code.
 #![tactic(auto)]
-

@@ -25,7 +25,8 @@ fn sooner(first: u64, d: u64) -> u64
     if first == 0 {
         return d;
     }
-    if d < first {
+    let earlier = d < first;
+    if earlier {
         return d;
     }
     first
@@ -69,7 +70,8 @@ pub fn closest_of(loads: &[u64], n: usize, gain: Gain, slot: u64, gap: u64, hi: 
         return closest(loads, n, slot, gap, first, hi);
     }
     let late = closest_gained(loads, n, gain, slot, gap, hi);
-    if from <= first {
+    let none_before = from <= first;
+    if none_before {
         return late;
     }
     let early = closest(loads, n, slot, gap, first, from - 1);

@@ -18,7 +18,7 @@ use Rattle.setfigures.specs.Figures.{set_figures}
 use Rattle.setfigures.specs.Board.{set_board}
 use Rattle.plan.specs.declared.plan.Plan.{Plan}
 use Rattle.layout.specs.Made.{plan_made}
-use Rattle.planner.specs.Planner.{Clear, plan_outcome, plan_of}
+use Rattle.planner.specs.Planner.{Clear, plan_outcome}
 use Rattle.planner.proofs.Made.{plan_outcome_lem, plan_is}
 use Rattle.plancheck.specs.Makes.{makes}
 use Rattle.planagree.proofs.AgreeLaws.{agree_self}

@@ -26,7 +26,8 @@ fn greatest_at(loads: &[u64], n: usize, t: u64) -> u64
             sum = 0;
         }
         sum += demand_code::term_at(loads[at + 1], loads[at + 2], loads[at + 3], t);
-        if greatest < sum {
+        let more = greatest < sum;
+        if more {
             greatest = sum;
         }
         i += 1;

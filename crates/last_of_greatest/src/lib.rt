@@ -41,7 +41,8 @@ fn last_of_greater(a: u64, x: u64, b: u64, y: u64) -> u64
     if b < a {
         return x;
     }
-    if y < x {
+    let later = y < x;
+    if later {
         return y;
     }
     x

@@ -1,9 +1,8 @@
 -- The rows of a set's servers: the record that is made of them is the one in the set's plan, and whether a server is there.
 -- Assumes nothing.
 use Prim.Native.Nat.{ℕ, ◌≤◌, ◌<◌}
-use mathlib.Core.Path.{◌≡◌, refl, sym, ap, ◌∙◌}
+use mathlib.Core.Path.{◌≡◌, sym, ap, ◌∙◌}
 use mathlib.Core.Bool.{true, false}
-use mathlib.Core.List.{List}
 use native.Mathlib.Omega.{arith}
 use borrow.Author.Tests.{le-leb, lt-leb}
 use lib.ListN.{length, take}
@@ -17,7 +16,6 @@ use Rattle.sizing.specs.Reserve.{sized, servers_of}
 use Rattle.setfigures.specs.Figures.{set_figures}
 use Rattle.setfigures.specs.Board.{set_board}
 use Rattle.setfigures.proofs.FigureLaws.{figures_length}
-use Rattle.plan.specs.declared.server.Server.{Server}
 use Rattle.layout.specs.Layout.{server_of, laid_out}
 use Rattle.layout.specs.Made.{reserves_with, caches_with, plan_with, set_placement, set_reserves, set_caches, plan_made}
 use Rattle.planner.specs.Planner.{Placeable}

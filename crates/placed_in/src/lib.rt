@@ -48,7 +48,8 @@ pub fn placed_in(
         jobs[at] += share.jobs;
         cache[at] = larger(cache[at], share.cache);
         soonest[at] = soonest_with(soonest[at], share.due);
-        if count < q {
+        let another = count < q;
+        if another {
             count = q;
         }
         i += 1;

@@ -5,7 +5,8 @@ ghost use Rattle.std.specs.Prelude.{◌≡◌, take};
 pub fn front(buf: &[u8], n: usize) -> &[u8]
     ensures { result.now ≡ take n buf.now }
 {
-    if n <= buf.len() {
+    let inside = n <= buf.len();
+    if inside {
         return &buf[..n];
     }
     buf

@@ -1,7 +1,7 @@
 -- A plan that is checked is laid: the row of its reserves with its slot, ring processors and idle positions is what a turn is walked by.
 -- Assumes nothing.
 use Prim.Native.Nat.{ℕ, ◌+◌, ◌*◌, ◌≤◌}
-use mathlib.Core.Path.{◌≡◌, refl, sym, ap, subst, ◌∙◌}
+use mathlib.Core.Path.{◌≡◌, refl, sym, ap, ◌∙◌}
 use mathlib.Core.Bool.{true}
 use mathlib.Core.List.{List, map}
 use native.Mathlib.Nat.{min-le_left}
@@ -11,7 +11,6 @@ use Rattle.frames.specs.declared.table.Frame.{Frame}
 use Rattle.frames.specs.Table.{length_of}
 use Rattle.tasks.specs.Set.{most_tasks}
 use Rattle.tasks.specs.declared.set.TaskSet.{TaskSet}
-use Rattle.reserves.specs.Slotted.{SlottedFirst}
 use Rattle.reserves.specs.Reserves.{ring_processors, idle_positions}
 use Rattle.turn.specs.declared.Turn.{Turn}
 use Rattle.turn.specs.Stretch.{Laid}
@@ -24,7 +23,7 @@ use Rattle.ring_claims.specs.Slotted.{Slotted}
 use Rattle.plan.specs.declared.plan.Plan.{Plan}
 use Rattle.plan.specs.declared.server.Server.{Server}
 use Rattle.plan.specs.Plan.{reserves_in}
-use Rattle.layout.specs.Made.{set_reserves, set_placement, reserves_with, plan_with, plan_made}
+use Rattle.layout.specs.Made.{set_reserves, plan_with, plan_made}
 use Rattle.layout.specs.Layout.{laid_out}
 use Rattle.plan.proofs.RecordLaws.{take_map}
 use Rattle.plancheck.specs.Makes.{makes}

@@ -18,7 +18,8 @@ pub fn write(set: TaskSet, out: &mut [u8]) -> Written
         return Written::Refused(Refusal::Ask);
     }
     let needed = text_length(set);
-    if out.len() < needed {
+    let short = out.len() < needed;
+    if short {
         return Written::Refused(Refusal::Room);
     }
     put_text(out, set);

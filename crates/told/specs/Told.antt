@@ -1,6 +1,6 @@
 -- An answer told in numbers: a status, and the numbers in lent memory.
 -- Document 01, the two questions (RULES 4.1 and 4.2), and "Refusal numbers and their order" (RULES 6).
-use Rattle.std.specs.Prelude.{ℕ, ◌+◌, ◌*◌, List, [], ◌∷◌, cond, length, ltb}
+use Rattle.std.specs.Prelude.{ℕ, ◌+◌, ◌*◌, List, cond, length, ltb}
 use Rattle.digits.specs.Stored.{stored}
 use Rattle.refusals.specs.Refused.{number_of, place_of}
 use Rattle.refusals.specs.declared.Refusal.TheVariants.{Room}

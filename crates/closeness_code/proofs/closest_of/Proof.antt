@@ -116,18 +116,18 @@ late-at c =
     let a = s.args in
     late_least a.gain (asking s) a.slot a.gap a.hi (begins t) (some t) s.requires.1.1.0.due (gain-steps e) (gained e) s.requires.1.1.1 c.closest_gained-late.ensures
 
-returns-then-from-first : tie.Need-returns-then-from-first
-returns-then-from-first c =
+returns-then-none_before : tie.Need-returns-then-none_before
+returns-then-none_before c =
     let e = c.before.before in
     let t = e.before.before in
     let s = start t in
     let a = s.args in
-    let alone : a.gain.from ≤ first t = omega (arith, c.if-from-first.true) in
+    let alone : a.gain.from ≤ first t = omega (arith, c.if-none_before.true) in
     late_alone a.gain (asking s) a.slot a.gap a.hi (begins t) (some t) s.requires.1.1.0.due (gain-steps e) (gained e) s.requires.1.1.1 c.closest_gained-late.ensures alone
 
 -- past the fourth something is asked before the gain
-before-gain : (c : tie.Else-from-first) → let t = c.before.before.before.before in first t < (start t).args.gain.from
-before-gain c = omega (arith, c.if-from-first.false)
+before-gain : (c : tie.Else-none_before) → let t = c.before.before.before.before in first t < (start t).args.gain.from
+before-gain c = omega (arith, c.if-none_before.false)
 
 overflow_sub-from : tie.Need-overflow_sub-from
 overflow_sub-from c = omega (arith, before-gain c)
@@ -245,7 +245,7 @@ closest_of_spec =
     closest-requires
     returns-then-not-gains
     closest_gained-late-requires
-    returns-then-from-first
+    returns-then-none_before
     overflow_sub-from
     closest-early-requires
     spare-requires

@@ -14,8 +14,8 @@ smaller (suc first) d n = omega arith
 pub returns-then-first-eq0 : goal.returns-then-first-eq0
 returns-then-first-eq0 c = let a = c.args in sym (ap (λ (x : ℕ). sooner_of x a.d) c.if-first-eq0.true)
 
-pub returns-then-d-first : goal.returns-then-d-first
-returns-then-d-first c = let a = c.args in omega (arith, c.if-d-first.true, smaller a.first a.d c.if-first-eq0.false)
+pub returns-then-earlier : goal.returns-then-earlier
+returns-then-earlier c = let a = c.args in omega (arith, c.if-earlier.true, smaller a.first a.d c.if-first-eq0.false)
 
 pub returns : goal.returns
-returns c = let a = c.args in omega (arith, c.if-d-first.false, smaller a.first a.d c.if-first-eq0.false)
+returns c = let a = c.args in omega (arith, c.if-earlier.false, smaller a.first a.d c.if-first-eq0.false)

@@ -11,7 +11,7 @@ use Rattle.interrupting.proofs.SlicesLaws.{bounds_next, its_numbered, its_highes
 use Rattle.interrupting.proofs.ReachedLaws.{Reached, reached_none, reached_new, reached_same, reached_next}
 use Rattle.interrupting_code.proofs.greatest_at.Statement.{statement}
 use Rattle.interrupting_code.proofs.greatest_at.Tie as tie
-use Rattle.interrupting_code.proofs.greatest_at.Lts.{else-greatest-sum, else-processor-its, then-greatest-sum, then-processor-its}
+use Rattle.interrupting_code.proofs.greatest_at.Lts.{else-more, else-processor-its, then-more, then-processor-its}
 
 abbrev invariant-loop-i : tie.invariant-loop-i
 invariant-loop-i loads n t from count greatest₀ processor₀ sum₀ i₀ greatest processor sum i =
@@ -142,10 +142,10 @@ loop-i-preserved c =
     let summed : met.if-processor-its.sum + added.term_at-sum.result ≡ sum = omega (arith, added.term_at-sum.ensures) in (
       omega (arith, within turn),
       rw (bounds_next a.loads.now (3 * a.n) i, summed, (based met).0)
-          (reached_next turn.loop-i.invariant.1 b met.if-processor-its.sum sum c.if-greatest-sum.greatest (numbered turn).there (top turn) (based met).1 refl
-          (elim c.if-greatest-sum.branch [
-            | then-greatest-sum w ↦ omega (arith, w.if-greatest-sum.true, w.greatest-is, summed)
-            | else-greatest-sum w ↦ omega (arith, w.if-greatest-sum.false, w.greatest-is, summed)
+          (reached_next turn.loop-i.invariant.1 b met.if-processor-its.sum sum c.if-more.greatest (numbered turn).there (top turn) (based met).1 refl
+          (elim c.if-more.branch [
+            | then-more w ↦ omega (arith, w.if-more.true, w.greatest-is, summed)
+            | else-more w ↦ omega (arith, w.if-more.false, w.greatest-is, summed)
           ])),
     )
 

@@ -3,7 +3,6 @@
 use mathlib.Core.Path.{◌≡◌, sym, ap, ◌∙◌}
 use mathlib.Core.Bool.{true}
 use borrow.Author.Rules.{rules}
-use Rattle.plan.specs.declared.plan.Plan.{Plan}
 use Rattle.layout.specs.Made.{plan_made}
 use Rattle.planner.proofs.Made.{outcome_clear}
 use Rattle.plancheck.specs.Makes.{makes}
@@ -17,46 +16,44 @@ use Rattle.laidtext.specs.Kinds.{text_of}
 use Rattle.laidtext.proofs.fit_laid.Statement.{statement}
 use Rattle.laidtext.proofs.fit_laid.Tie as tie
 
-plan-of-requires : tie.Need-plan-of-requires
-plan-of-requires c κs = ((outcome_clear _ c.before.requires.0).0, c.before.requires.1)
+plan_of-plan-requires : tie.Need-plan_of-plan-requires
+plan_of-plan-requires c κs = ((outcome_clear _ c.requires.0).0, c.requires.1)
 
 -- the plan is laid
-module _ (c : tie.After-plan-of) where
-  makes-it : makes c.before.before.args.set c.plan_of_lem.result ≡ true
-  makes-it = set_makes _ c.before.before.requires.0 c.plan_of_lem.ensures
+module _ (c : tie.After-plan_of-plan) where
+  makes-it : makes c.args.set c.plan_of-plan.result ≡ true
+  makes-it = set_makes _ c.requires.0 c.plan_of-plan.ensures
 
-fit-plan-requires : tie.Need-fit-plan-requires
-fit-plan-requires c κs = makes_counted _ _ (makes-it c.before.before.before)
+fit_plan-requires : tie.Need-fit_plan-requires
+fit_plan-requires c κs = makes_counted _ _ (makes-it c.before.before)
 
-fit-switches-requires : tie.Need-fit-switches-requires
-fit-switches-requires c κs = makes-it c.before.before.before
+fit_switches-requires : tie.Need-fit_switches-requires
+fit_switches-requires c κs = makes-it c.before.before
 
-returns : tie.Need-returns
-returns c =
-    let p = c.before.before.before.before.before.before in
-    let s = p.before.before in
+returns-in-Plan : tie.Need-returns-in-Plan
+returns-in-Plan c =
+    let p = c.before.before.before.before.before in
     fits_as
-    (ap (plan_text s.args.set) p.plan_of_lem.ensures ∙ sym (ap (λ (t : Text). text_of t s.args.set (plan_made s.args.set)) c.before.before.before.before.enum_told.given.1))
-    c.before.before.fit-plan.ensures
+    (ap (plan_text p.args.set) p.plan_of-plan.ensures ∙ sym (ap (λ (t : Text). text_of t p.args.set (plan_made p.args.set)) c.in-Plan.is))
+    c.fit_plan.ensures
 
-returns-2 : tie.Need-returns-2
-returns-2 c =
-    let p = c.before.before.before.before.before.before in
-    let s = p.before.before in
+returns-in-Switches : tie.Need-returns-in-Switches
+returns-in-Switches c =
+    let p = c.before.before.before.before.before in
     fits_as
-    (ap plan_switches p.plan_of_lem.ensures ∙ sym (ap (λ (t : Text). text_of t s.args.set (plan_made s.args.set)) c.before.before.before.before.enum-told2.given.1))
-    c.before.before.fit-switches.ensures
+    (ap plan_switches p.plan_of-plan.ensures ∙ sym (ap (λ (t : Text). text_of t p.args.set (plan_made p.args.set)) c.in-Switches.is))
+    c.fit_switches.ensures
 
-pub fit-laid-spec : {M : Type 1} → statement M
-fit-laid-spec =
+pub fit_laid_spec : {M : Type 1} → statement M
+fit_laid_spec =
     tie.close
     (tie.spec
-    plan-of-requires
+    plan_of-plan-requires
     (λ c. search rules)
-    fit-plan-requires
+    fit_plan-requires
     (λ c. search rules)
-    fit-switches-requires
+    fit_switches-requires
     (λ c. search rules)
-    returns
+    returns-in-Plan
     (λ c. search rules)
-    returns-2)
+    returns-in-Switches)

@@ -25,11 +25,11 @@ returns-then-b-a c = let a = c.args in sym (rest c.before ∙ cond_ltb a.x (min 
 equally : (c : tie.Else-b-a) → let a = c.args in last_of_greater a.a a.x a.b a.y ≡ min a.x a.y
 equally c = let a = c.args in rest c.before ∙ cond_ltb_not a.x (min a.x a.y) c.if-b-a.false
 
-returns-then-y-x : tie.Need-returns-then-y-x
-returns-then-y-x c = omega (arith, c.if-y-x.true, equally c.before)
+returns-then-later : tie.Need-returns-then-later
+returns-then-later c = omega (arith, c.if-later.true, equally c.before)
 
 returns : tie.Need-returns
-returns c = omega (arith, c.if-y-x.false, equally c.before)
+returns c = omega (arith, c.if-later.false, equally c.before)
 
 pub last_of_greater_spec : {M : Type 1} → statement M
 last_of_greater_spec =
@@ -37,5 +37,5 @@ last_of_greater_spec =
     (tie.spec
     returns-then-a-b
     returns-then-b-a
-    returns-then-y-x
+    returns-then-later
     returns)

@@ -9,32 +9,29 @@ use Rattle.optionallines.proofs.OptionalLaws.{optional_given, optional_bytes, op
 use Rattle.optionallines_code.proofs.put_optional.Statement.{statement}
 use Rattle.optionallines_code.proofs.put_optional.Tie as tie
 
-put-line-requires : tie.Need-put-line-requires
+put_line-requires : tie.Need-put_line-requires
 unfolding widths_of
-put-line-requires c κs =
-    let s = c.before.before.before.before.before.before in
-    (omega (arith, s.requires.0), omega (arith, s.requires.1, optional_bytes s.args.frame c.before.before.before.figure.given.1))
+put_line-requires c κs =
+    (omega (arith, c.requires.0), omega (arith, c.requires.1, optional_bytes c.args.frame c.in-Given.is))
 
-returns : tie.Need-returns
-returns c =
+returns-in-Given : tie.Need-returns-in-Given
+returns-in-Given c =
     let written = c.before.before in
-    let s = written.before.before.before.before.before.before.before in
-    written.put-line.ensures ∙ ap (stored s.args.out.now s.args.at) (sym (optional_given _ written.before.before.before.before.figure.given.1))
+    written.put_line.ensures ∙ ap (stored written.args.out.now written.args.at) (sym (optional_given _ written.in-Given.is))
 
-returns-2 : tie.Need-returns-2
-returns-2 c =
-    let s = c.before.before.before in
-    optional_unchanged _ s.args.out.now s.args.at c.enum_told.given.1
+returns-in_default : tie.Need-returns-in_default
+returns-in_default c =
+    optional_unchanged _ c.args.out.now c.args.at c.in_default.is
 
-pub put-optional-spec : {M : Type 1} → statement M
-put-optional-spec =
+pub put_optional_spec : {M : Type 1} → statement M
+put_optional_spec =
     tie.close
     (tie.spec
     (λ c. search rules)
     (λ c. search rules)
     (λ c. search rules)
-    put-line-requires
+    put_line-requires
     (λ c. search rules)
     (λ c. search rules)
-    returns
-    returns-2)
+    returns-in-Given
+    returns-in_default)

@@ -14,33 +14,40 @@ use Rattle.pass_made.proofs.pass_own.Statement.{statement}
 use Rattle.pass_made.proofs.pass_own.Tie as tie
 
 -- once the reserve is tested
-module _ (c : tie.After-is-allowed-to) where
+module _ (c : tie.After-is_allowed_to) where
   abbrev start : tie.Start
-  start = c.before
+  start = c.before.before
 
   -- by the entry loss of the members
-  told : c.is-allowed-to.result ≡ allowed start.args.set.header.slot (server_loss start.args.set.header (own_members start.args.set start.args.own)) start.args.reserve
+  told : c.is_allowed_to.result ≡ allowed start.args.set.header.slot (server_loss start.args.set.header (own_members start.args.set start.args.own)) start.args.reserve
   told =
-      c.is-allowed-to.ensures
-      ∙ ap (λ (L : ℕ). allowed start.args.set.header.slot L start.args.reserve) (own_loss start.pre)
+      c.is_allowed_to.ensures
+      ∙ ap (λ (L : ℕ). allowed start.args.set.header.slot L start.args.reserve) (own_loss start.requires)
 
-is-allowed-to-requires : tie.Need-is-allowed-to-requires
-is-allowed-to-requires c κs = cache_small c.requires
+is_allowed_to-requires : tie.Need-is_allowed_to-requires
+is_allowed_to-requires c κs = cache_small c.requires
+
+returns-then-not-is_allowed_to : tie.Need-returns-then-not-is_allowed_to
+returns-then-not-is_allowed_to c =
+    let at = c.before.before in
+    let a = (start at).args in
+    c.refused_pass.ensures ∙ own_barred a.set a.own a.reserve (sym (told at) ∙ not-true _ c.if-not-is_allowed_to.true-raw)
+
+pass_judged-requires : tie.Need-pass_judged-requires
+pass_judged-requires c κs = ((start c.before).requires, allowed_is _ _ _ (sym (told c.before) ∙ not-false _ c.if-not-is_allowed_to.false-raw))
 
 returns : tie.Need-returns
 returns c =
     let at = c.before.before in
     let a = (start at).args in
-    c.refused-pass.ensures ∙ own_barred a.set a.own a.reserve (sym (told at) ∙ not-true _ c.before.if1.true)
+    own_there a.set a.own a.reserve (sym (told at) ∙ not-false _ c.if-not-is_allowed_to.false-raw) c.pass_judged.ensures
 
-pass-judged-requires : tie.Need-pass-judged-requires
-pass-judged-requires c κs = ((start c.before).pre, allowed_is _ _ _ (sym (told c.before) ∙ not-false _ c.if1.false))
-
-returns-2 : tie.Need-returns-2
-returns-2 c =
-    let at = c.before.before in
-    let a = (start at).args in
-    own_there a.set a.own a.reserve (sym (told at) ∙ not-false _ c.before.if1.false) c.pass-judged.ensures
-
-pub pass-own-spec : {M : Type 1} → statement M
-pass-own-spec = tie.close (tie.spec is-allowed-to-requires (λ c κs. search rules) returns pass-judged-requires returns-2)
+pub pass_own_spec : {M : Type 1} → statement M
+pass_own_spec =
+    tie.close
+    (tie.spec
+    is_allowed_to-requires
+    (λ c κs. search rules)
+    returns-then-not-is_allowed_to
+    pass_judged-requires
+    returns)

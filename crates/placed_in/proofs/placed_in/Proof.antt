@@ -19,7 +19,7 @@ use Rattle.servers.specs.Placement.{join_by, placed_by, placed}
 use Rattle.servers.proofs.SoFarLaws.{SoFar, so_far_none, so_far_room, so_far_few, so_far_kept, so_far_fit, so_far_range, so_far_next, so_far_placed}
 use Rattle.placed_in.proofs.placed_in.Statement.{statement}
 use Rattle.placed_in.proofs.placed_in.Tie as tie
-use Rattle.placed_in.proofs.placed_in.Lts.{else-count-q, then-count-q}
+use Rattle.placed_in.proofs.placed_in.Lts.{else-another, then-another}
 
 abbrev invariant-loop-i : tie.invariant-loop-i
 invariant-loop-i header figures n interrupts horizon fit count₀ placement₀ work₀ jobs₀ cache₀ soonest₀ i₀ count placement work jobs cache soonest i =
@@ -164,10 +164,10 @@ bounds-soonest-at-in-loop-i : tie.Need-bounds-soonest-at-in-loop-i invariant-loo
 bounds-soonest-at-in-loop-i c = omega (arith, in_row c.before.before.before.before)
 
 -- the servers are counted again
-recounted : (c : tie.Joined-count-q invariant-loop-i decreases-loop-i) → c.if-count-q.count ≡ max (turn c.before.before.before.before.before).loop-i.count (q c.before.before.before.before.before)
-recounted c = (elim c.if-count-q.branch [
-  | then-count-q w ↦ omega (arith, w.if-count-q.true, w.count-is)
-  | else-count-q w ↦ omega (arith, w.if-count-q.false, w.count-is)
+recounted : (c : tie.Joined-another invariant-loop-i decreases-loop-i) → c.if-another.count ≡ max (turn c.before.before.before.before.before).loop-i.count (q c.before.before.before.before.before)
+recounted c = (elim c.if-another.branch [
+  | then-another w ↦ omega (arith, w.if-another.true, w.count-is)
+  | else-another w ↦ omega (arith, w.if-another.false, w.count-is)
 ])
 
 loop-i-preserved : tie.Need-loop-i-preserved invariant-loop-i decreases-loop-i
@@ -183,9 +183,9 @@ loop-i-preserved c =
       subst
           (λ (fs : List Figures).
           SoFar s.args.fit (board s) s.args.horizon fs (at.i + 1) (set at.placement at.i (q picks)) (set at.work here (get_or at.work here 0 + share.result.work))
-          (set at.jobs here (get_or at.jobs here 0 + share.result.jobs)) (set at.cache here cost.result) (set at.soonest here least.result) c.if-count-q.count)
+          (set at.jobs here (get_or at.jobs here 0 + share.result.jobs)) (set at.cache here cost.result) (set at.soonest here least.result) c.if-another.count)
           (sym (each_next (figures_at s.args.figures.now) at.i))
-          (so_far_next at.invariant.1 (next picks) (q picks) here c.if-count-q.count (below (turn picks))
+          (so_far_next at.invariant.1 (next picks) (q picks) here c.if-another.count (below (turn picks))
           (filed_first at.i (omega (arith, (turn picks).loop-i-test.true)) s.requires.0).members (picked picks) refl (recounted c) share.ensures refl refl cost.ensures least.ensures),
     )
 

@@ -9,43 +9,43 @@ use Rattle.planagree.proofs.AgreeLaws.{Figures, figures_same}
 use Rattle.planagree_code.proofs.agree.Statement.{statement}
 use Rattle.planagree_code.proofs.agree.Tie as tie
 
-returns : tie.Need-returns
+returns-then-not-same_figures : tie.Need-returns-then-not-same_figures
 unfolding agrees
-returns c = rw (sym c.before.same_figures_lem.ensures ∙ not-true _ c.if1.true)
+returns-then-not-same_figures c = rw (sym c.same_figures.ensures ∙ not-true _ c.if-not-same_figures.true-raw)
 
 -- past the first test the figures are the same
-figures : (c : tie.Else1) → Figures c.before.before.args.t2 c.before.before.args.t3
-figures c = figures_same c.before.before.args.t2 c.before.before.args.t3 (sym c.before.same_figures_lem.ensures ∙ not-false _ c.if1.false)
+figures : (c : tie.Else-not-same_figures) → Figures c.args.a c.args.b
+figures c = figures_same c.args.a c.args.b (sym c.same_figures.ensures ∙ not-false _ c.if-not-same_figures.false-raw)
 
-same-servers-requires : tie.Need-same-servers-requires
-same-servers-requires c κs = (c.before.before.requires.1, (figures c).servers)
+same_servers-requires : tie.Need-same_servers-requires
+same_servers-requires c κs = (c.requires.1, (figures c).servers)
 
-returns-2 : tie.Need-returns-2
+returns-then-not-same_servers : tie.Need-returns-then-not-same_servers
 unfolding agrees
-returns-2 c = rw (sym c.before.before.before.same_figures_lem.ensures ∙ not-false _ c.before.before.if1.false, sym c.before.same_servers_lem.ensures ∙ not-true _ c.if2.true)
+returns-then-not-same_servers c = rw (sym c.same_figures.ensures ∙ not-false _ c.if-not-same_figures.false-raw, sym c.same_servers.ensures ∙ not-true _ c.if-not-same_servers.true-raw)
 
-returns-3 : tie.Need-returns-3
+returns-then-not-same_front : tie.Need-returns-then-not-same_front
 unfolding agrees
-returns-3 c = rw (sym c.before.before.before.before.before.before.before.before.before.before.before.same_figures_lem.ensures ∙ not-false _ c.before.before.before.before.before.before.before.before.before.before.if1.false, sym c.before.before.before.before.before.before.before.before.before.same_servers_lem.ensures ∙ not-false _ c.before.before.before.before.before.before.before.before.if2.false, sym c.before.same-front.ensures ∙ not-true _ c.if3.true)
+returns-then-not-same_front c = rw (sym c.same_figures.ensures ∙ not-false _ c.if-not-same_figures.false-raw, sym c.same_servers.ensures ∙ not-false _ c.if-not-same_servers.false-raw, sym c.same_front.ensures ∙ not-true _ c.if-not-same_front.true-raw)
 
-same-processors-requires : tie.Need-same-processors-requires
-same-processors-requires c κs =
-    let first = c.before.before.before.before.before.before.before.before.before.before in
-    (first.before.before.requires.1.processors, ap₂ (λ (k w : ℕ). k + w) (figures first).ring (figures first).whole)
+same_processors-requires : tie.Need-same_processors-requires
+same_processors-requires c κs =
+    let first = c.before.before.before.before.before.before.before.before in
+    (first.requires.1.processors, ap₂ (λ (k w : ℕ). k + w) (figures first).ring (figures first).whole)
 
-returns-4 : tie.Need-returns-4
+returns : tie.Need-returns
 unfolding agrees
-returns-4 c = rw (sym c.before.before.before.before.before.before.before.before.before.before.before.before.same_figures_lem.ensures ∙ not-false _ c.before.before.before.before.before.before.before.before.before.before.before.if1.false, sym c.before.before.before.before.before.before.before.before.before.before.same_servers_lem.ensures ∙ not-false _ c.before.before.before.before.before.before.before.before.before.if2.false, sym c.before.before.same-front.ensures ∙ not-false _ c.before.if3.false) c.same-processors.ensures
+returns c = rw (sym c.same_figures.ensures ∙ not-false _ c.if-not-same_figures.false-raw, sym c.same_servers.ensures ∙ not-false _ c.if-not-same_servers.false-raw, sym c.same_front.ensures ∙ not-false _ c.if-not-same_front.false-raw) c.same_processors.ensures
 
-pub agree-spec : {M : Type 1} → statement M
-agree-spec =
+pub agree_spec : {M : Type 1} → statement M
+agree_spec =
     tie.close
     (tie.spec
     (λ c κs. search rules)
-    returns
-    same-servers-requires
-    returns-2
+    returns-then-not-same_figures
+    same_servers-requires
+    returns-then-not-same_servers
     (λ c κs. search rules)
-    returns-3
-    same-processors-requires
-    returns-4)
+    returns-then-not-same_front
+    same_processors-requires
+    returns)

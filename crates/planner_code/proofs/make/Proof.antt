@@ -11,31 +11,39 @@ use Rattle.settling.proofs.SettledLaws.{settled_rows, settled_outcome, settled_s
 use Rattle.planner_code.proofs.make.Statement.{statement}
 use Rattle.planner_code.proofs.make.Tie as tie
 
-settle-requires : tie.Need-settle-requires
-settle-requires c κs = record { told = λ H e. rows_clear _ (sym c.rows_of_lem.ensures ∙ e) }
+settle-made-requires : tie.Need-settle-made-requires
+settle-made-requires c κs = record { told = λ H e. rows_clear _ (sym c.rows_of-rows.ensures ∙ e) }
 
 -- the set was settled
-module _ (c : tie.After-settle) where
-  made : c.settle.result ≡ settled_of c.before.before.args.set
-  made = settled_rows _ c.before.rows_of_lem.ensures c.settle.ensures
+module _ (c : tie.After-settle-made) where
+  made : c.settle-made.result ≡ settled_of c.args.set
+  made = settled_rows _ c.rows_of-rows.ensures c.settle-made.ensures
+
+returns-in-Refused : tie.Need-returns-in-Refused
+returns-in-Refused c =
+    c.refused.ensures ∙ plan_refused _ (sym (settled_outcome _ (made c.before.before)) ∙ c.in-Refused.is)
+
+module _ (c : tie.In_default) where
+  done : plan_outcome c.args.set ≡ Done
+  done = sym (settled_outcome _ (made c.before)) ∙ c.in_default.is
+
+plan_of-requires : tie.Need-plan_of-requires
+plan_of-requires c κs = ((outcome_clear _ (done c.before)).0, settled_servers _ (made c.before.before) c.in_default.is)
 
 returns : tie.Need-returns
 returns c =
-    c.refused.ensures ∙ plan_refused _ (sym (settled_outcome _ (made c.before.before.before.before)) ∙ c.before.before.outcome.given.1)
-
-module _ (c : tie.After-enum-told) where
-  done : plan_outcome c.before.before.before.before.args.set ≡ Done
-  done = sym (settled_outcome _ (made c.before.before)) ∙ c.enum_told.given.1
-
-plan-of-requires : tie.Need-plan-of-requires
-plan-of-requires c κs = ((outcome_clear _ (done c)).0, settled_servers _ (made c.before.before) c.enum_told.given.1)
-
-returns-2 : tie.Need-returns-2
-returns-2 c =
-    let clear = outcome_clear _ (done c.before) in
-    plan_done _ clear.0 clear.1 c.plan_of_lem.ensures
+    let clear = outcome_clear _ (done c.before.before) in
+    plan_done _ clear.0 clear.1 c.plan_of.ensures
 
 pub make_spec : {M : Type 1} → statement M
 make_spec =
     tie.close
-    (tie.spec (λ c κs. search rules) settle-requires (λ c. search rules) (λ c κs. search rules) returns (λ c. search rules) plan-of-requires returns-2)
+    (tie.spec
+    (λ c κs. search rules)
+    settle-made-requires
+    (λ c. search rules)
+    (λ c κs. search rules)
+    returns-in-Refused
+    (λ c. search rules)
+    plan_of-requires
+    returns)

@@ -26,53 +26,53 @@ servers q e = e ∙ ap (λ (k : ℕ). q * k) server_size
 tasks : {n : ℕ} (q : ℕ) → n ≡ q * (length_of Frame.Placed + 1) → n ≡ q * 7
 tasks q e = e ∙ ap (λ (k : ℕ). q * k) placed_size
 
-add-tasks : tie.Need-overflow-add-tasks
-add-tasks c =
+overflow_add-tasks : tie.Need-overflow_add-tasks
+overflow_add-tasks c =
     let s = c.before.before.before.before in
-    omega (arith, room s, first c.before.lines_length.ensures, servers s.args.plan.servers c.lines-length2.ensures)
+    omega (arith, room s, first c.lines_length-servers.ensures, servers s.args.plan.servers c.lines_length.ensures)
 
 -- once the bytes of the groups are known
-module _ (c : tie.After-lines-length3) where
+module _ (c : tie.After-lines_length-2) where
   abbrev start : tie.Start
   start = c.before.before.before.before.before
 
-  to-servers : c.before.before.lines_length.result ≡ 23
-  to-servers = first c.before.before.lines_length.ensures
+  to-servers : c.lines_length-servers.result ≡ 23
+  to-servers = first c.lines_length-servers.ensures
 
-  of-servers : c.before.lines-length2.result ≡ start.args.plan.servers * 21
-  of-servers = servers start.args.plan.servers c.before.lines-length2.ensures
+  of-servers : c.lines_length.result ≡ start.args.plan.servers * 21
+  of-servers = servers start.args.plan.servers c.lines_length.ensures
 
-  of_tasks : c.lines-length3.result ≡ start.args.set.count * 7
-  of_tasks = tasks start.args.set.count c.lines-length3.ensures
+  of_tasks : c.lines_length-2.result ≡ start.args.set.count * 7
+  of_tasks = tasks start.args.set.count c.lines_length-2.ensures
 
-add-processors : tie.Need-overflow-add-processors
-add-processors c = omega (arith, room (start c), to-servers c, of-servers c, of_tasks c)
+overflow_add-processors : tie.Need-overflow_add-processors
+overflow_add-processors c = omega (arith, room (start c), to-servers c, of-servers c, of_tasks c)
 
-put-processors-requires : tie.Need-put-processors-requires
-put-processors-requires c κs =
+put_processors-requires : tie.Need-put_processors-requires
+put_processors-requires c κs =
     let l = c.before in
     let p = (start l).args.plan in
     ((start l).requires.0.processors, omega (arith, room (start l), to-servers l, of-servers l, of_tasks l, ap (λ (k : ℕ). (p.ring + p.whole) * k) processor_size))
 
-put-tasks-requires : tie.Need-put-tasks-requires
-put-tasks-requires c κs =
+put_tasks-requires : tie.Need-put_tasks-requires
+put_tasks-requires c κs =
     let l = c.before.before.before.before.before in
-    let kept = c.before.before.before.put-processors.auto.0 in
+    let kept = c.put_processors.auto.out in
     ((start l).requires.0.tasks, omega (arith, room (start l), to-servers l, of-servers l, ap (λ (k : ℕ). (start l).args.set.count * k) placed_size, kept))
 
-put-servers-requires : tie.Need-put-servers-requires
-put-servers-requires c κs =
+put_servers-requires : tie.Need-put_servers-requires
+put_servers-requires c κs =
     let p = c.before.before.before.before.before.before.before in
     let l = p.before.before in
-    let kept = c.before.before.before.put-tasks.auto.0 ∙ p.put-processors.auto.0 in
+    let kept = c.put_tasks.auto.out ∙ p.put_processors.auto.out in
     ((start l).requires.0.servers, omega (arith, room (start l), to-servers l, ap (λ (k : ℕ). (start l).args.plan.servers * k) server_size, kept))
 
-put-plan-requires : tie.Need-put-plan-requires
-put-plan-requires c κs =
+put_plan-requires : tie.Need-put_plan-requires
+put_plan-requires c κs =
     let t = c.before.before.before.before.before.before.before in
     let p = t.before.before.before.before in
     let l = p.before.before in
-    omega (arith, room (start l), plan_bytes_lem (start l).args.plan, c.before.before.before.put-servers.auto.0, t.put-tasks.auto.0, p.put-processors.auto.0)
+    omega (arith, room (start l), plan_bytes_lem (start l).args.plan, c.put_servers.auto.out, t.put_tasks.auto.out, p.put_processors.auto.out)
 
 returns : tie.Need-returns
 returns c =
@@ -82,21 +82,21 @@ returns c =
     let l = p.before.before in
     let a = (start l).args in
     text_stored a.set a.plan a.out.now (start l).requires.1 (to-servers l) (omega (arith, to-servers l, of-servers l)) (omega (arith, of_tasks l))
-    p.put-processors.ensures t.put-tasks.ensures s.put-servers.ensures c.before.before.put-plan.ensures
+    p.put_processors.ensures t.put_tasks.ensures s.put_servers.ensures c.put_plan.ensures
 
-pub put-text-spec : {M : Type 1} → statement M
-put-text-spec =
+pub put_text_spec : {M : Type 1} → statement M
+put_text_spec =
     tie.close
     (tie.spec
     (λ c. search rules)
     (λ c κs. search rules)
     (λ c κs. search rules)
-    add-tasks
+    overflow_add-tasks
     (λ c κs. search rules)
-    add-processors
-    put-processors-requires
-    put-tasks-requires
-    put-servers-requires
-    put-plan-requires
+    overflow_add-processors
+    put_processors-requires
+    put_tasks-requires
+    put_servers-requires
+    put_plan-requires
     (λ c. search rules)
     returns)

@@ -11,33 +11,33 @@ use Rattle.plantext_code.proofs.text_length.Statement.{statement}
 use Rattle.plantext_code.proofs.text_length.Tie as tie
 
 -- the four parts, in bytes
-parts : (c : tie.After-lines-length4) → let a = c.before.before.before.before.before.args in
-    (c.before.before.before.before.lines_length.result ≡ 23) × (c.before.before.before.lines-length2.result ≡ a.plan.servers * 21) × (c.before.before.lines-length3.result ≡ a.set.count * 7) × (c.lines-length4.result ≡ (a.plan.ring + a.plan.whole) * 13)
+parts : (c : tie.After-lines_length-processors) → let a = c.args in
+    (c.lines_length-first.result ≡ 23) × (c.lines_length-servers.result ≡ a.plan.servers * 21) × (c.lines_length-tasks.result ≡ a.set.count * 7) × (c.lines_length-processors.result ≡ (a.plan.ring + a.plan.whole) * 13)
 parts c =
-    let a = c.before.before.before.before.before.args in (
-      c.before.before.before.before.lines_length.ensures ∙ ap (λ (n : ℕ). 1 * n) plan_size,
-      c.before.before.before.lines-length2.ensures ∙ ap (λ (n : ℕ). a.plan.servers * n) server_size,
-      c.before.before.lines-length3.ensures ∙ ap (λ (n : ℕ). a.set.count * n) placed_size,
-      c.lines-length4.ensures ∙ ap (λ (n : ℕ). (a.plan.ring + a.plan.whole) * n) processor_size,
+    let a = c.args in (
+      c.lines_length-first.ensures ∙ ap (λ (n : ℕ). 1 * n) plan_size,
+      c.lines_length-servers.ensures ∙ ap (λ (n : ℕ). a.plan.servers * n) server_size,
+      c.lines_length-tasks.ensures ∙ ap (λ (n : ℕ). a.set.count * n) placed_size,
+      c.lines_length-processors.ensures ∙ ap (λ (n : ℕ). (a.plan.ring + a.plan.whole) * n) processor_size,
     )
 
-bounds : (c : tie.After-lines-length4) → let a = c.before.before.before.before.before.args in (a.plan.servers ≤ most_tasks) × (a.set.count ≤ most_tasks) × (a.plan.ring + a.plan.whole ≤ most_processors)
-bounds c = let s = c.before.before.before.before.before in (s.requires.servers, s.requires.tasks, s.requires.processors)
+bounds : (c : tie.After-lines_length-processors) → let a = c.args in (a.plan.servers ≤ most_tasks) × (a.set.count ≤ most_tasks) × (a.plan.ring + a.plan.whole ≤ most_processors)
+bounds c = (c.requires.servers, c.requires.tasks, c.requires.processors)
 
-add-result : tie.Need-overflow-add-result
-add-result c = omega (arith, parts c, bounds c)
+overflow_add-result : tie.Need-overflow_add-result
+overflow_add-result c = omega (arith, parts c, bounds c)
 
-add-result-2 : tie.Need-overflow-add-result-2
-add-result-2 c = omega (arith, parts c, bounds c)
+overflow_add-result-2 : tie.Need-overflow_add-result-2
+overflow_add-result-2 c = omega (arith, parts c, bounds c)
 
-add-result-3 : tie.Need-overflow-add-result-3
-add-result-3 c = omega (arith, parts c, bounds c)
+overflow_add-result-3 : tie.Need-overflow_add-result-3
+overflow_add-result-3 c = omega (arith, parts c, bounds c)
 
 returns : tie.Need-returns
-returns c = let a = c.before.before.before.before.before.args in omega (arith, parts c, text_bytes a.set a.plan)
+returns c = let a = c.args in omega (arith, parts c, text_bytes a.set a.plan)
 
-pub text-length-spec : {M : Type 1} → statement M
-text-length-spec =
+pub text_length_spec : {M : Type 1} → statement M
+text_length_spec =
     tie.close
     (tie.spec
     (λ c κs. search rules)
@@ -45,7 +45,7 @@ text-length-spec =
     (λ c κs. search rules)
     (λ c. search rules)
     (λ c κs. search rules)
-    add-result
-    add-result-2
-    add-result-3
+    overflow_add-result
+    overflow_add-result-2
+    overflow_add-result-3
     returns)

@@ -10,39 +10,38 @@ use Rattle.taskread.proofs.Reading.{first_refused, later_refused}
 use Rattle.taskread_code.proofs.read.Statement.{statement}
 use Rattle.taskread_code.proofs.read.Tie as tie
 
-returns : tie.Need-returns
-returns c =
+returns-in_default : tie.Need-returns-in_default
+returns-in_default c =
     let outcome = c.before.before in
-    let line = outcome.before.before.before in
-    let told = outcome.before.enum_told.given in
-    c.answered.ensures ∙ first_refused line.before.before.args.text.now told.0.0 c.before.zero.result line.header-line.ensures told.1 outcome.header-outcome.ensures
+    let told = outcome.in_default in
+    c.answered.ensures ∙ first_refused outcome.args.text.now told.field-0 c.zero.result outcome.header_line-first.ensures told.is outcome.header_outcome.ensures
 
 -- line 1 is clear, and the header has its figures
-first-line : (c : tie.After-known-told) →
-    let text : List ℕ = c.before.before.before.before.before.args.text.now in
-    (line_outcome text 1 ≡ Done) × (c.before.first.given.0.0 ≡ header_at text)
+first-line : (c : tie.In-Header) →
+    let text : List ℕ = c.args.text.now in
+    (line_outcome text 1 ≡ Done) × (c.in-Header.header ≡ header_at text)
 first-line c =
-    let text : List ℕ = c.before.before.before.before.before.args.text.now in
-    header-given (line_outcome text 1) (header_at text) c.before.first.given.0.0 (sym c.before.before.before.header-line.ensures ∙ c.before.first.given.1)
+    let text : List ℕ = c.args.text.now in
+    header-given (line_outcome text 1) (header_at text) c.in-Header.header (sym c.header_line-first.ensures ∙ c.in-Header.is)
 
 opened-requires : tie.Need-opened-requires
 opened-requires c κs = first-line c
 
-task-lines-requires : tie.Need-task-lines-requires
-task-lines-requires c κs = ((first-line c.before).0, c.opened.ensures)
+task_lines-listed-requires : tie.Need-task_lines-listed-requires
+task_lines-listed-requires c κs = ((first-line c.before).0, c.opened.ensures)
 
-returns-2 : tie.Need-returns-2
-returns-2 c =
-    let told = c.before.enum-told3.given in
-    c.answered2.ensures ∙ later_refused c.before.before.before.before.task-lines.ensures told.0.0 told.1
+returns-in_default-outcome : tie.Need-returns-in_default-outcome
+returns-in_default-outcome c =
+    let told = c.in_default-outcome in
+    c.answered-in_default-outcome.ensures ∙ later_refused c.task_lines-listed.ensures told.field-0 told.is
 
 finished-requires : tie.Need-finished-requires
 finished-requires c κs =
-    let ended = c.before.before.before.task-lines.ensures in
-    (ended.done c.enum-told2.given.1, (ended.tasked.none, ended.all))
+    let ended = c.task_lines-listed.ensures in
+    (ended.done c.in-Done.is, (ended.tasked.none, ended.all))
 
-returns-3 : tie.Need-returns-3
-returns-3 c = c.finished.ensures
+returns : tie.Need-returns
+returns c = c.finished.ensures
 
 pub read_spec : {M : Type 1} → statement M
 read_spec =
@@ -54,12 +53,12 @@ read_spec =
     (λ c κs. search rules)
     (λ c κs. search rules)
     (λ c κs. search rules)
-    returns
+    returns-in_default
     opened-requires
-    task-lines-requires
+    task_lines-listed-requires
     (λ c. search rules)
     (λ c. search rules)
     (λ c κs. search rules)
-    returns-2
+    returns-in_default-outcome
     finished-requires
-    returns-3)
+    returns)

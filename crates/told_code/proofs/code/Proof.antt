@@ -7,15 +7,22 @@ use Rattle.told_code.proofs.code.Statement.{statement}
 use Rattle.told_code.proofs.code.Tie as tie
 
 -- a number of at most 13 and a place of one byte
-small : (c : tie.After-place) → (c.before.number.result ≤ 13) × (c.place.result < 256)
-small c = (omega (arith, (number_row c.before.before.args.refusal).1, c.before.number.ensures), omega (arith, c.place.type-inv))
+small : (c : tie.After-place-at) → (c.number-row.result ≤ 13) × (c.place-at.result < 256)
+small c = (omega (arith, (number_row c.args.refusal).1, c.number-row.ensures), omega (arith, c.place-at.type_inv))
 
-mul-result : tie.Need-overflow-mul-result
-mul-result c = omega (arith, small c)
+overflow_mul-result : tie.Need-overflow_mul-result
+overflow_mul-result c = omega (arith, small c)
 
-add-result : tie.Need-overflow-add-result
-add-result c = omega (arith, small c)
+overflow_add-result : tie.Need-overflow_add-result
+overflow_add-result c = omega (arith, small c)
 
-pub code-spec : {M : Type 1} → statement M
-code-spec =
-    tie.close (tie.spec (λ c κs. search rules) (λ c κs. search rules) (λ c. search rules) mul-result add-result (λ c. search rules))
+pub code_spec : {M : Type 1} → statement M
+code_spec =
+    tie.close
+    (tie.spec
+    (λ c κs. search rules)
+    (λ c κs. search rules)
+    (λ c. search rules)
+    overflow_mul-result
+    overflow_add-result
+    (λ c. search rules))

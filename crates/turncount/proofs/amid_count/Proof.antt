@@ -9,78 +9,74 @@ use Rattle.turncount.proofs.AmidLaws.{Counted, counted_none, counted_room, count
 use Rattle.turncount.proofs.amid_count.Statement.{statement}
 use Rattle.turncount.proofs.amid_count.Tie as tie
 
-abbrev invariant-loop : tie.invariant-loop
-invariant-loop reserves turn count₀ p₀ count p = Counted turn reserves count p
+abbrev invariant-loop-p : tie.invariant-loop-p
+invariant-loop-p reserves turn count₀ p₀ count p = Counted turn reserves count p
 
-abbrev decreases-loop : tie.decreases-loop
-decreases-loop reserves turn count₀ p₀ count p = turn.ring - p
+abbrev decreases-loop-p : tie.decreases-loop-p
+decreases-loop-p reserves turn count₀ p₀ count p = turn.ring - p
 
-loop-holds : tie.Need-loop-init invariant-loop decreases-loop
-loop-holds c = counted_none
+loop-p-init : tie.Need-loop-p-init invariant-loop-p decreases-loop-p
+loop-p-init c = counted_none
 
-first-requires : tie.Need-first-requires invariant-loop decreases-loop
-first-requires c κs =
-    let at = c.before.before in
-    let laid = at.before.before.requires in
-    (laid.slotted, omega arith, omega (arith, c.if1.true, laid.ring))
+first-stand-requires : tie.Need-first-stand-requires invariant-loop-p decreases-loop-p
+first-stand-requires c κs =
+    let laid = c.requires in
+    (laid.slotted, omega arith, omega (arith, c.loop-p-test.true, laid.ring))
 
 -- the server of a first reserve is there
-there : (c : tie.After-first invariant-loop decreases-loop) →
-    (1 ≤ c.first.result.server) × (c.first.result.server ≤ c.before.before.before.before.before.args.turn.servers)
-there c = first_there c.before.before.before.before.before.requires c.before.if1.true c.first.ensures
+there : (c : tie.After-first-stand invariant-loop-p decreases-loop-p) →
+    (1 ≤ c.first-stand.result.server) × (c.first-stand.result.server ≤ c.args.turn.servers)
+there c = first_there c.requires c.loop-p-test.true c.first-stand.ensures
 
-sub-place : tie.Need-overflow-sub-place invariant-loop decreases-loop
-sub-place c = (there c.before).0
+overflow_sub-place : tie.Need-overflow_sub-place invariant-loop-p decreases-loop-p
+overflow_sub-place c = (there c.before).0
 
-mul-if2 : tie.Need-overflow-mul-if2 invariant-loop decreases-loop
-mul-if2 c =
-    let laid = c.before.before.before.before.before.before.requires in
+offset_bounds-reserves-place : tie.Need-offset_bounds-reserves-place invariant-loop-p decreases-loop-p
+offset_bounds-reserves-place c =
+    let laid = c.requires in
     omega (arith, (there c.before).1, laid.slotted.few)
 
-shared-slice-read-if2 : tie.Need-shared-slice-read-if2 invariant-loop decreases-loop
-shared-slice-read-if2 c =
+bounds-reserves-place : tie.Need-bounds-reserves-place invariant-loop-p decreases-loop-p
+bounds-reserves-place c =
     let f = c.before.before in
-    let laid = f.before.before.before.before.before.requires in
+    let laid = f.requires in
     omega (arith, (there f).0, (there f).1, laid.slotted.there)
 
-add-count : tie.Need-overflow-add-count invariant-loop decreases-loop
-add-count c =
-    let at = c.before.before.before.before.before.before.before in
-    let laid = at.before.before.requires in
-    omega (arith, counted_room at.loop.invariant, at.loop.invariant.within, laid.few)
+overflow_add-count : tie.Need-overflow_add-count invariant-loop-p decreases-loop-p
+overflow_add-count c =
+    let laid = c.requires in
+    omega (arith, counted_room c.loop-p.invariant, c.loop-p.invariant.within, laid.few)
 
-loop-again : tie.Need-loop-preserved invariant-loop decreases-loop
-loop-again c =
+loop-p-preserved-then-stand-reserves : tie.Need-loop-p-preserved-then-stand-reserves invariant-loop-p decreases-loop-p
+loop-p-preserved-then-stand-reserves c =
     let f = c.before.before.before.before in
-    let at = f.before.before.before in
-    let less : f.first.result.left < get_or at.before.before.args.reserves.now (f.first.result.server - 1) 0 = omega (arith, c.if2.true) in
-    counted_more at.before.before.requires f.before.if1.true f.first.ensures at.loop.invariant less refl
+    let less : f.first-stand.result.left < get_or f.args.reserves.now (f.first-stand.result.server - 1) 0 = omega (arith, c.if-stand-reserves.true) in
+    counted_more f.requires f.loop-p-test.true f.first-stand.ensures f.loop-p.invariant less refl
 
-loop-again-2 : tie.Need-loop-preserved-2 invariant-loop decreases-loop
-loop-again-2 c =
+loop-p-preserved : tie.Need-loop-p-preserved invariant-loop-p decreases-loop-p
+loop-p-preserved c =
     let f = c.before.before.before.before in
-    let at = f.before.before.before in
-    let all : get_or at.before.before.args.reserves.now (f.first.result.server - 1) 0 ≤ f.first.result.left = omega (arith, c.if2.false) in
-    counted_same at.before.before.requires f.before.if1.true f.first.ensures at.loop.invariant all refl
+    let all : get_or f.args.reserves.now (f.first-stand.result.server - 1) 0 ≤ f.first-stand.result.left = omega (arith, c.if-stand-reserves.false) in
+    counted_same f.requires f.loop-p-test.true f.first-stand.ensures f.loop-p.invariant all refl
 
-returns : tie.Need-returns invariant-loop decreases-loop
-returns c = counted_all_lem c.before.before.loop.invariant c.if1.false
+returns : tie.Need-returns invariant-loop-p decreases-loop-p
+returns c = counted_all_lem c.loop-p.invariant c.loop-p-test.false
 
-pub amid-count-spec : {M : Type 1} → statement M
-amid-count-spec =
+pub amid_count_spec : {M : Type 1} → statement M
+amid_count_spec =
     tie.close
     (tie.spec
-    invariant-loop
-    decreases-loop
-    loop-holds
+    invariant-loop-p
+    decreases-loop-p
+    loop-p-init
     (λ c. search rules)
-    first-requires
-    sub-place
-    mul-if2
-    shared-slice-read-if2
-    add-count
+    first-stand-requires
+    overflow_sub-place
+    offset_bounds-reserves-place
+    bounds-reserves-place
+    overflow_add-count
     (λ c. search rules)
-    loop-again
+    loop-p-preserved-then-stand-reserves
     (λ c. search rules)
-    loop-again-2
+    loop-p-preserved
     returns)

@@ -16,59 +16,58 @@ use Rattle.wordline.proofs.fit_words.Statement.{statement}
 use Rattle.wordline.proofs.fit_words.Tie as tie
 
 -- the line is no longer than the longest
-short : (c : tie.After-slice-known) →
-    let a = c.before.before.before.args in
+short : (c : tie.After-slice_known-1) →
+    let a = c.args in
     length (said a.words.now a.numbers.now) ≤ longest_line
 short c =
-    let s = c.before.before.before in
-    let a = s.args in
-    omega (arith, said_short a.words.now a.numbers.now (λ k. omega (arith, c.before.shared-slice-known2.given k)), s.requires.1)
+    let a = c.args in
+    omega (arith, said_short a.words.now a.numbers.now (λ k. omega (arith, c.shared_slice_known-2-1.given k)), c.requires.1)
 
-put-words-requires : tie.Need-put-words-requires
-put-words-requires c κs = (c.before.before.before.before.requires.0, short c.before)
+put_words-n-requires : tie.Need-put_words-n-requires
+put_words-n-requires c κs = (c.requires.0, short c.before)
+
+returns-then-out-n : tie.Need-returns-then-out-n
+returns-then-out-n c =
+    let a = c.args in
+    (no_room a.out.now (said a.words.now a.numbers.now) (omega (arith, c.if-out-n.true, c.put_words-n.ensures.0)), short c.before.before.before.before)
+
+-- the line lies within the buffer in which it is put together
+inside : (c : tie.After-put_words-n) → c.put_words-n.result ≤ length c.put_words-n.new.out
+inside c = omega (arith, c.put_words-n.ensures.0, short c.before.before, c.put_words-n.auto.out)
+
+slice_bounds-line-end : tie.Need-slice_bounds-line-end
+slice_bounds-line-end c = inside c.before.before.before
+
+slice_bounds-put_bytes-end : tie.Need-slice_bounds-put_bytes-end
+slice_bounds-put_bytes-end c = sym (length-take-le _ _ (inside c.before.before.before.before))
+
+put_bytes-requires : tie.Need-put_bytes-requires
+put_bytes-requires c κs =
+    let said-it = c.put_words-n in
+    omega (arith, length-take-le said-it.result said-it.new.out (inside c.before.before.before.before), c.if-out-n.false)
+
+shape_of-out : tie.Need-shape_of-out
+shape_of-out c = c.put_bytes.auto.out
 
 returns : tie.Need-returns
 returns c =
-    let a = c.before.before.before.before.before.before.before.args in
-    (no_room a.out.now (said a.words.now a.numbers.now) (omega (arith, c.if1.true, c.before.before.put-words.ensures.0)), short c.before.before.before.before)
-
--- the line lies within the buffer in which it is put together
-inside : (c : tie.After-put-words) → c.put-words.result ≤ length c.put-words.new.0
-inside c = omega (arith, c.put-words.ensures.0, short c.before.before, c.put-words.auto.0)
-
-array-share-prefix-line : tie.Need-array-share-prefix-line
-array-share-prefix-line c = inside c.before.before.before
-
-slice-aggregate-put-bytes : tie.Need-slice-aggregate-put-bytes
-slice-aggregate-put-bytes c = sym (length-take-le _ _ (inside c.before.before.before.before))
-
-put-bytes-requires : tie.Need-put-bytes-requires
-put-bytes-requires c κs =
-    let said-it = c.before.before.before.before.put-words in
-    omega (arith, length-take-le said-it.result said-it.new.0 (inside c.before.before.before.before), c.before.before.if1.false)
-
-same_length : tie.Need-same-length
-same_length c = c.before.before.put-bytes.auto.0
-
-returns-2 : tie.Need-returns-2
-returns-2 c =
-    let a = c.before.before.before.before.before.before.before.before.before.before.before.before.args in
-    let said-it = c.before.before.before.before.before.before.before.put-words.ensures in
+    let a = c.args in
+    let said-it = c.put_words-n.ensures in
     let line = said a.words.now a.numbers.now in (
-      stored_whole a.out.now line _ said-it.0 c.before.before.before.before.before.if1.false
-          (c.before.before.put-bytes.ensures ∙ ap (stored a.out.now 0) (front_is _ line said-it.1 said-it.0)),
+      stored_whole a.out.now line _ said-it.0 c.if-out-n.false
+          (c.put_bytes.ensures ∙ ap (stored a.out.now 0) (front_is _ line said-it.1 said-it.0)),
       short c.before.before.before.before.before.before.before.before.before,
     )
 
-pub fit-words-spec : {M : Type 1} → statement M
-fit-words-spec =
+pub fit_words_spec : {M : Type 1} → statement M
+fit_words_spec =
     tie.close
     (tie.spec
     (λ c. search rules)
-    put-words-requires
-    returns
-    array-share-prefix-line
-    slice-aggregate-put-bytes
-    put-bytes-requires
-    same_length
-    returns-2)
+    put_words-n-requires
+    returns-then-out-n
+    slice_bounds-line-end
+    slice_bounds-put_bytes-end
+    put_bytes-requires
+    shape_of-out
+    returns)

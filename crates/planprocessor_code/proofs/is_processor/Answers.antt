@@ -1,0 +1,13 @@
+-- `is_processor` meets its contract: the tests are the definition's.
+-- Assumes nothing.
+use borrow.Author.Tests.{le-leb, lt-leb}
+use Rattle.planprocessor.specs.Standing.{is_processor}
+use Rattle.planprocessor_code.proofs.is_processor.Goals as goal
+
+pub returns-then-processor-lt1 : goal.returns-then-processor-lt1
+unfolding is_processor
+returns-then-processor-lt1 c = rw (lt-leb _ _ c.if-processor-lt1.true)
+
+pub returns : goal.returns
+unfolding is_processor
+returns c = rw (le-leb _ _ c.if-processor-lt1.false)
