@@ -3,22 +3,19 @@
 use Prim.Native.Nat.{ℕ}
 use mathlib.Core.List.{List}
 use mathlib.Core.Bool.{false}
-use mathlib.Core.Path.{◌≡◌, refl, sym, ap, ◌∙◌}
+use mathlib.Core.Path.{◌≡◌, refl, ◌∙◌}
 use Rattle.refusals.specs.declared.Refusal.{Refusal}
 use Rattle.refusals.specs.declared.Outcome.{Outcome}
 use Rattle.refusals.specs.declared.Outcome.TheVariants.{Done, Refused}
 use Rattle.refusals.specs.First.{first_of}
 use Rattle.tasks.specs.declared.set.TaskSet.{TaskSet}
 use Rattle.taskask.specs.Ask.{ask_row}
-use Rattle.taskread.specs.declared.read.ReadAnswer.{ReadAnswer}
 use Rattle.taskread.specs.Read.{read_of}
 use Rattle.taskwrite.proofs.WriteAsks.{writer_ask}
 use Rattle.tasks_claims.proofs.Claims.{written_read}
 use Rattle.rows.specs.Rows.{charged_outcome}
-use Rattle.planner.specs.declared.PlanAnswer.{PlanAnswer}
 use Rattle.planner.specs.Planner.{plan_outcome, plan_of}
 use Rattle.planner.proofs.Made.{plan_outcome_lem}
-use Rattle.plantext.specs.Text.{plan_text}
 use Rattle.planlines.specs.Line.{refusal_text}
 use Rattle.taskplan.specs.declared.FileAnswer.{FileAnswer}
 use Rattle.taskplan.specs.File.{unless, refused_file, planned_set, filed_of}

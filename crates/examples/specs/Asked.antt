@@ -9,7 +9,6 @@ use Rattle.demand.specs.Passes.{fake}
 use Rattle.tasks.specs.declared.set.TaskSet.{TaskSet}
 use Rattle.tasks.specs.Set.{members}
 use Rattle.tasks.specs.Search.{first_task, at_task}
-use Rattle.taskread.specs.declared.read.ReadAnswer.{ReadAnswer}
 use Rattle.taskread.specs.Read.{read_of}
 use Rattle.ring.specs.declared.clock.Tick.{Tick}
 use Rattle.places.specs.Places.{chosen}
@@ -23,7 +22,6 @@ use Rattle.layout.specs.Made.{set_placement}
 use Rattle.planner.specs.Planner.{needed, full_row}
 use Rattle.whoruns.specs.declared.WhoAnswer.{WhoAnswer}
 use Rattle.doespass.specs.declared.PassAnswer.{PassAnswer}
-use Rattle.taskplan.specs.declared.FileAnswer.{FileAnswer}
 use Rattle.taskplan.specs.File.{filed_of}
 use Rattle.planfile.specs.Tool.{answered}
 use Rattle.askfile.specs.OfFile.{who_in, pass_in}

@@ -5,11 +5,8 @@ use Rattle.std.specs.Prelude.{ℕ, List, [], ◌∷◌, ◌≡◌}
 use Prim.Native.String.{String}
 use Rattle.refusals.specs.declared.Refusal.TheVariants.{Horizon}
 use Rattle.refusals.specs.declared.Outcome.TheVariants.{Done, Refused}
-use Rattle.verdict.specs.declared.answer.Reading.{Reading}
 use Rattle.verdict.specs.declared.answer.Verdict.TheVariants.{Yes, No}
 use Rattle.ring.specs.declared.clock.Tick.{Tick}
-use Rattle.whoruns.specs.declared.WhoAnswer.{WhoAnswer}
-use Rattle.doespass.specs.declared.PassAnswer.{PassAnswer}
 use Rattle.quoted.specs.Quoted.{bytes_of}
 use Rattle.examples.specs.Asked.{Question, Answer, answer_of}
 use Rattle.examples.specs.Asked.Question.{prints, runs, passes, sums, lasts, refuses}

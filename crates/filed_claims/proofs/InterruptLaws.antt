@@ -1,25 +1,23 @@
 -- The interrupts of a set in file order and by processor: what they ask of each processor, the greatest of that, and their periods.
 -- Assumes nothing.
-use Prim.Native.Nat.{ℕ, zero, suc, ◌+◌, ◌*◌, ◌≤◌, ◌<◌, ◌∣◌}
-use mathlib.Core.Path.{◌≡◌, refl, sym, ap, subst, ◌∙◌}
-use mathlib.Core.Logic.{◌⊎◌, inl, inr, ⊎_elim}
+use Prim.Native.Nat.{ℕ, zero, suc, ◌≤◌, ◌∣◌}
+use mathlib.Core.Path.{◌≡◌, refl, sym, ap, ◌∙◌}
+use mathlib.Core.Logic.{inl, inr}
 use mathlib.Core.List.{List, [], ◌∷◌, ◌++◌, map}
 use native.Mathlib.Omega.{arith}
 use native.Mathlib.Decide.{ℕ_discrete}
 use borrow.Author.Tests.{eq-eqb, ne_eqb}
-use lib.ListN.{length, get_or}
 use Rattle.wholes.specs.Multiple.{Divide, LeastMultipleOf}
-use Rattle.demand.specs.Load.{Load, Sound, Every}
-use Rattle.demand.specs.Demand.{jobs, demand}
+use Rattle.demand.specs.Load.{Load, Sound}
+use Rattle.demand.specs.Demand.{demand}
 use Rattle.demand.specs.Steps.{StepOf, Some}
 use Rattle.interrupting.specs.Interrupts.{Bound, EveryBound, bound_to, interrupt_demand, greatest}
 use Rattle.interrupting.proofs.BoundLaws.{bounds_map, bound_own, bound_other, every_bound}
 use Rattle.interrupting.proofs.GreatestLaws.{greatest_most, greatest_one}
 use Rattle.steps.proofs.StepLaws.{some_steps}
 use Rattle.tasks.specs.declared.set.Interrupt.{Interrupt}
-use Rattle.tasks.specs.Set.{zero_interrupt}
 use Rattle.byprocessor.specs.Interrupts.{bound_of, on_processor, by_processor}
-use Rattle.byprocessor.proofs.GroupLaws.{On, Each, on_here, on_other, by_loads, by_each, by_every}
+use Rattle.byprocessor.proofs.GroupLaws.{On, Each, by_loads, by_each, by_every}
 use Rattle.rows.proofs.InterruptLaws.{divide_left, divide_right}
 use Rattle.filed_claims.specs.Claims.{asks_on, GreatestOf}
 

@@ -5,7 +5,6 @@ use Rattle.refusals.specs.declared.Written.{Written}
 use Rattle.refusals.specs.declared.Written.TheVariants.{Refused}
 use Rattle.planlines.specs.Line.{refusal_text}
 use Rattle.planfit.specs.Fit.{fitted}
-use Rattle.taskplan.specs.declared.FileAnswer.{FileAnswer}
 use Rattle.taskplan.specs.File.{unless, filed_of}
 use Rattle.switchlist.specs.Write.{plan_switches}
 

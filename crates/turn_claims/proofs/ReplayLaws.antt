@@ -25,7 +25,7 @@ use Rattle.turn_claims.proofs.ListedLaws.{entries, entries_told, at_next, before
 named_both : (last : ℕ) (a b : List Switch) (p x : ℕ) → named_from last (a ++ b) p x ≡ named_from (named_from last a p x) b p x
 unfolding named_from
 named_both last [] b p x = refl
-named_both last (s ∷ a) b p x = named_both _ a b p x
+named_both last (s ∷ a) b p x = named_both (cond (eqb s.processor p && leb s.tick x) s.server last) a b p x
 
 -- a list without an entry of p at or before x changes nothing
 named_other : (last : ℕ) (list : List Switch) (p x : ℕ) → ((s : Switch) → StandsIn s list → s.processor ≡ p → s.tick ≤ x → ⊥) →

@@ -7,47 +7,47 @@ use borrow.Author.Rules.{rules}
 use Rattle.askfile_code.proofs.pass_in.Statement.{statement}
 use Rattle.askfile_code.proofs.pass_in.Tie as tie
 
-settle-requires : tie.Need-settle-requires
-settle-requires c κs = read_cleared _ c.before.rows-read.ensures
+settle-made-requires : tie.Need-settle-made-requires
+settle-made-requires c κs = read_cleared _ c.rows_read-rows.ensures
 
 -- what is known of the file once it is settled
-abbrev begun : tie.After-settle → tie.Start
+abbrev begun : tie.After-settle-made → tie.Start
 begun m = m.before.before.before.before.before
 
-file : (m : tie.After-settle) → OfFile (begun m).args.text.now m.before.before.before.read.result.set m.settle.result
-file m = of_file _ m.before.before.rows-read.ensures m.before.before.before.read.ensures m.settle.ensures
+file : (m : tie.After-settle-made) → OfFile (begun m).args.text.now m.read-file.result.set m.settle-made.result
+file m = of_file _ m.rows_read-rows.ensures m.read-file.ensures m.settle-made.ensures
 
-pass-served-requires : tie.Need-pass-served-requires
-pass-served-requires c κs =
+pass_served-requires : tie.Need-pass_served-requires
+pass_served-requires c κs =
     let m = c.before.before in
-    ((file m).clear c.enum_told.given.1, (file m).servers c.enum_told.given.1)
+    ((file m).clear c.in-Done.is, (file m).servers c.in-Done.is)
 
-returns : tie.Need-returns
+returns-in-Done : tie.Need-returns-in-Done
 unfolding pass_in
-returns c =
+returns-in-Done c =
     let t = c.before in
     let m = t.before.before in
     let a = (begun m).args in
-    c.pass-served.ensures ∙ ap (pass_of_file a.server a.reserve) ((file m).planned t.enum_told.given.1 refl)
+    c.pass_served.ensures ∙ ap (pass_of_file a.server a.reserve) ((file m).planned t.in-Done.is refl)
 
-returns-2 : tie.Need-returns-2
+returns-in-Refused : tie.Need-returns-in-Refused
 unfolding pass_in
-returns-2 c =
-    let t = c.before.before in
-    let m = t.before.before in
+returns-in-Refused c =
+    let t = c.before in
+    let m = t.before in
     let a = (begun m).args in
-    c.refused-pass.ensures ∙ ap (pass_of_file a.server a.reserve) ((file m).refused t.outcome.given.1)
+    c.refused_pass.ensures ∙ ap (pass_of_file a.server a.reserve) ((file m).refused t.in-Refused.is)
 
-pub pass-in-spec : {M : Type 1} → statement M
-pass-in-spec =
+pub pass_in_spec : {M : Type 1} → statement M
+pass_in_spec =
     tie.close
     (tie.spec
     (λ c κs. search rules)
     (λ c κs. search rules)
-    settle-requires
+    settle-made-requires
     (λ c. search rules)
-    pass-served-requires
+    pass_served-requires
     (λ c. search rules)
     (λ c κs. search rules)
-    returns
-    returns-2)
+    returns-in-Done
+    returns-in-Refused)

@@ -8,51 +8,51 @@ use borrow.Author.Rules.{rules}
 use Rattle.askfile_code.proofs.who_in.Statement.{statement}
 use Rattle.askfile_code.proofs.who_in.Tie as tie
 
-settle-requires : tie.Need-settle-requires
-settle-requires c κs = read_cleared _ c.before.rows-read.ensures
+settle-made-requires : tie.Need-settle-made-requires
+settle-made-requires c κs = read_cleared _ c.rows_read-rows.ensures
 
 -- what is known of the file once it is settled
-abbrev begun : tie.After-settle → tie.Start
+abbrev begun : tie.After-settle-made → tie.Start
 begun m = m.before.before.before.before.before
 
-file : (m : tie.After-settle) → OfFile (begun m).args.text.now m.before.before.before.read.result.set m.settle.result
-file m = of_file _ m.before.before.rows-read.ensures m.before.before.before.read.ensures m.settle.ensures
+file : (m : tie.After-settle-made) → OfFile (begun m).args.text.now m.read-file.result.set m.settle-made.result
+file m = of_file _ m.rows_read-rows.ensures m.read-file.ensures m.settle-made.ensures
 
-plan-of-requires : tie.Need-plan-of-requires
-plan-of-requires c κs =
+plan_of-requires : tie.Need-plan_of-requires
+plan_of-requires c κs =
     let m = c.before.before in
-    ((outcome_clear _ ((file m).clear c.enum_told.given.1)).0, (file m).servers c.enum_told.given.1)
+    ((outcome_clear _ ((file m).clear c.in-Done.is)).0, (file m).servers c.in-Done.is)
 
-who-made-requires : tie.Need-who-made-requires
-who-made-requires c κs = set_makes _ ((file c.before.before.before).clear c.before.enum_told.given.1) c.plan_of_lem.ensures
+who_made-requires : tie.Need-who_made-requires
+who_made-requires c κs = set_makes _ ((file c.before.before.before).clear c.in-Done.is) c.plan_of.ensures
 
-returns : tie.Need-returns
+returns-in-Done : tie.Need-returns-in-Done
 unfolding who_in
-returns c =
+returns-in-Done c =
     let t = c.before.before in
     let m = t.before.before in
     let a = (begun m).args in
-    c.who-made.ensures ∙ ap (who_of_file a.processor a.tick) ((file m).planned t.enum_told.given.1 c.before.plan_of_lem.ensures)
+    c.who_made.ensures ∙ ap (who_of_file a.processor a.tick) ((file m).planned t.in-Done.is c.plan_of.ensures)
 
-returns-2 : tie.Need-returns-2
+returns-in-Refused : tie.Need-returns-in-Refused
 unfolding who_in
-returns-2 c =
-    let t = c.before.before in
-    let m = t.before.before in
+returns-in-Refused c =
+    let t = c.before in
+    let m = t.before in
     let a = (begun m).args in
-    c.refused-who.ensures ∙ ap (who_of_file a.processor a.tick) ((file m).refused t.outcome.given.1)
+    c.refused_who.ensures ∙ ap (who_of_file a.processor a.tick) ((file m).refused t.in-Refused.is)
 
-pub who-in-spec : {M : Type 1} → statement M
-who-in-spec =
+pub who_in_spec : {M : Type 1} → statement M
+who_in_spec =
     tie.close
     (tie.spec
     (λ c κs. search rules)
     (λ c κs. search rules)
-    settle-requires
+    settle-made-requires
     (λ c. search rules)
-    plan-of-requires
-    who-made-requires
+    plan_of-requires
+    who_made-requires
     (λ c. search rules)
     (λ c κs. search rules)
-    returns
-    returns-2)
+    returns-in-Done
+    returns-in-Refused)

@@ -2,7 +2,7 @@
 -- Assumes nothing.
 use borrow.Author.Rules.{rules}
 use mathlib.Core.Path.{◌≡◌, sym, ap, ◌∙◌}
-use lib.ListN.{length, length-map}
+use lib.ListN.{length}
 use native.Mathlib.Omega.{arith}
 use Rattle.tasks.specs.Set.{most_tasks}
 use Rattle.refusals.specs.declared.Outcome.TheVariants.{Done}
@@ -16,28 +16,35 @@ use Rattle.plancheck_code.proofs.makes_plan.Tie as tie
 
 -- a set's tasks have their places
 full : (c : tie.Start) → length c.args.set.tasks ≡ most_tasks
-full c = sym (length-map c.args.set.tasks _) ∙ c.well-formed.0.1.1.1.1.0.1.0.1
+full c = c.well_formed.0.1.1.1.1.0.1.0.1
 
 -- where the planner is done, its plan is the set's
-done : (c : tie.After-enum-told) → plan_outcome c.before.before.before.args.set ≡ Done
+done : (c : tie.In-Done) → plan_outcome c.args.set ≡ Done
 done c =
-    sym (plan_outcome_lem c.before.before.before.args.set) ∙ sym (ap (λ (a : PlanAnswer). a.outcome) c.before.before.make.ensures) ∙ c.enum_told.given.1
+    sym (plan_outcome_lem c.args.set) ∙ sym (ap (λ (a : PlanAnswer). a.outcome) c.make-made.ensures) ∙ c.in-Done.is
 
-made : (c : tie.After-enum-told) → c.before.before.make.result.plan ≡ plan_made c.before.before.before.args.set
-made c = ap (λ (a : PlanAnswer). a.plan) c.before.before.make.ensures ∙ plan_is c.before.before.before.args.set (done c)
+made : (c : tie.In-Done) → c.make-made.result.plan ≡ plan_made c.args.set
+made c = ap (λ (a : PlanAnswer). a.plan) c.make-made.ensures ∙ plan_is c.args.set (done c)
 
-returns : tie.Need-returns
-returns c = makes_refused _ _ (sym (ap (λ (a : PlanAnswer). a.outcome) c.before.before.make.ensures) ∙ c.enum-told2.given.1)
+returns-in_default : tie.Need-returns-in_default
+returns-in_default c = makes_refused _ _ (sym (ap (λ (a : PlanAnswer). a.outcome) c.make-made.ensures) ∙ c.in_default.is)
 
 agree-requires : tie.Need-agree-requires
 agree-requires c κs =
     let s = c.before.before.before in
-    let clear = (outcome_clear s.args.set (done c)).0.clear in
-    (omega (arith, count_most s.args.set (full s) clear), rw (made c) (made_room s.args.set (full s) s.args.plan clear))
+    let clear = (outcome_clear s.args.set (done c.before)).0.clear in
+    (omega (arith, count_most s.args.set (full s) clear), rw (made c.before) (made_room s.args.set (full s) s.args.plan clear))
 
-returns-2 : tie.Need-returns-2
-returns-2 c = makes_by c.before.before.before.before.args.set c.before.before.before.before.args.plan (done c.before) (made c.before) c.agree.ensures
+returns : tie.Need-returns
+returns c = makes_by c.args.set c.args.plan (done c.before.before) (made c.before.before) c.agree.ensures
 
-pub makes-plan-spec : {M : Type 1} → statement M
-makes-plan-spec =
-    tie.close (tie.spec (λ c κs. search rules) (λ c. search rules) (λ c. search rules) returns agree-requires returns-2)
+pub makes_plan_spec : {M : Type 1} → statement M
+makes_plan_spec =
+    tie.close
+    (tie.spec
+    (λ c κs. search rules)
+    (λ c. search rules)
+    (λ c. search rules)
+    returns-in_default
+    agree-requires
+    returns)

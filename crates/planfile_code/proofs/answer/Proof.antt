@@ -8,45 +8,43 @@ use borrow.Author.Rules.{rules}
 use Rattle.planfile_code.proofs.answer.Statement.{statement}
 use Rattle.planfile_code.proofs.answer.Tie as tie
 
-settle-requires : tie.Need-settle-requires
-settle-requires c κs = read_cleared _ c.before.rows-read.ensures
+settle-made-requires : tie.Need-settle-made-requires
+settle-made-requires c κs = read_cleared _ c.rows_read-rows.ensures
 
 -- what is known of the file once it is settled
-abbrev begun : tie.After-settle → tie.Start
+abbrev begun : tie.After-settle-made → tie.Start
 begun m = m.before.before.before.before.before.before
 
-file : (m : tie.After-settle) → OfFile (begun m).args.text.now m.before.before.before.read.result.set m.settle.result
-file m = of_file _ m.before.before.rows-read.ensures m.before.before.before.read.ensures m.settle.ensures
+file : (m : tie.After-settle-made) → OfFile (begun m).args.text.now m.read-file.result.set m.settle-made.result
+file m = of_file _ m.rows_read-rows.ensures m.read-file.ensures m.settle-made.ensures
 
-fit-laid-requires : tie.Need-fit-laid-requires
-fit-laid-requires c κs =
+fit_laid-requires : tie.Need-fit_laid-requires
+fit_laid-requires c κs =
     let m = c.before.before.before in
-    ((file m).clear c.before.enum_told.given.1, (file m).servers c.before.enum_told.given.1)
+    ((file m).clear c.in-Done.is, (file m).servers c.in-Done.is)
 
-returns : tie.Need-returns
+returns-in-Done : tie.Need-returns-in-Done
 unfolding answered
-returns c =
-    let t = c.before.before.before.before in
-    fits_as (ap printed ((file t.before.before).planned t.enum_told.given.1 refl)) c.before.before.fit-laid.ensures
+returns-in-Done c =
+    fits_as (ap printed ((file c.before.before.before.before.before.before).planned c.in-Done.is refl)) c.fit_laid.ensures
 
-returns-2 : tie.Need-returns-2
+returns-in-Refused : tie.Need-returns-in-Refused
 unfolding answered
-returns-2 c =
-    let t = c.before.before.before.before.before in
-    fits_as (ap printed ((file t.before.before).refused t.outcome.given.1)) c.before.before.fit-refusal.ensures
+returns-in-Refused c =
+    fits_as (ap printed ((file c.before.before.before.before.before).refused c.in-Refused.is)) c.fit_refusal.ensures
 
-pub answer-spec : {M : Type 1} → statement M
-answer-spec =
+pub answer_spec : {M : Type 1} → statement M
+answer_spec =
     tie.close
     (tie.spec
     (λ c κs. search rules)
     (λ c κs. search rules)
-    settle-requires
+    settle-made-requires
     (λ c. search rules)
-    fit-laid-requires
+    fit_laid-requires
     (λ c. search rules)
     (λ c κs. search rules)
     (λ c. search rules)
-    returns
+    returns-in-Done
     (λ c. search rules)
-    returns-2)
+    returns-in-Refused)

@@ -2,10 +2,10 @@
 -- Assumes nothing.
 use Prim.Native.Nat.{ℕ, ◌≤◌}
 use mathlib.Core.List.{List}
-use mathlib.Core.Path.{◌≡◌, sym, ◌∙◌, ap}
+use mathlib.Core.Path.{◌≡◌, ◌∙◌, ap}
 use native.Mathlib.Omega.{arith}
 use borrow.Author.Rules.{rules}
-use lib.ListN.{length, length-map}
+use lib.ListN.{length}
 use Rattle.digits.specs.Stored.{stored}
 use Rattle.frames.specs.Table.{widths_of}
 use Rattle.frames.specs.declared.table.Frame.{Frame}
@@ -20,17 +20,16 @@ use Rattle.put_interrupts.proofs.put_interrupts.Tie as tie
 
 fits : (s : tie.Start) → s.args.interrupts.count ≤ length s.args.interrupts.each
 fits s =
-    let full : length s.args.interrupts.each ≡ most_interrupts = sym (length-map s.args.interrupts.each _) ∙ s.well-formed.1.1.0.1.1.1.0.1.0.1 in
+    let full : length s.args.interrupts.each ≡ most_interrupts = s.well_formed.1.1.0.1.1.1.0.1.0.1 in
     omega (arith, full, s.requires.0)
 
-put-lines-requires : tie.Need-put-lines-requires
+put_lines-requires : tie.Need-put_lines-requires
 unfolding widths_of
-put-lines-requires c κs =
+put_lines-requires c κs =
     let d = c.before.before in
-    let s = d.before.before in
-    let is = s.args.interrupts in (
-      rw d.interrupt-figures.ensures (omega (arith, s.requires.0, figures_length Frame.Interrupt interrupt_values zero_interrupt is.each interrupt_sized most_figures is.count (omega (arith, s.requires.0)))),
-      omega (arith, s.requires.1),
+    let is = d.args.interrupts in (
+      rw d.interrupt_figures-values.ensures (omega (arith, d.requires.0, figures_length Frame.Interrupt interrupt_values zero_interrupt is.each interrupt_sized most_figures is.count (omega (arith, d.requires.0)))),
+      omega (arith, d.requires.1),
     )
 
 returns : tie.Need-returns
@@ -39,17 +38,17 @@ returns c =
     let d = lines.before.before.before in
     let s = d.before.before in
     let is = s.args.interrupts in
-    lines.put-lines.ensures
+    lines.put_lines.ensures
     ∙ ap (stored s.args.out.now s.args.at)
-    (ap (λ (vs : List ℕ). lines_of Frame.Interrupt vs is.count) d.interrupt-figures.ensures
+    (ap (λ (vs : List ℕ). lines_of Frame.Interrupt vs is.count) d.interrupt_figures-values.ensures
     ∙ figures_lines Frame.Interrupt interrupt_values zero_interrupt is.each interrupt_sized most_figures is.count (fits s))
 
-pub put-interrupts-spec : {M : Type 1} → statement M
-put-interrupts-spec =
+pub put_interrupts_spec : {M : Type 1} → statement M
+put_interrupts_spec =
     tie.close
     (tie.spec
     (λ c κs. search rules)
     (λ c. search rules)
-    put-lines-requires
+    put_lines-requires
     (λ c. search rules)
     returns)

@@ -7,43 +7,42 @@ use borrow.Author.Rules.{rules}
 use Rattle.switchfile_code.proofs.list.Statement.{statement}
 use Rattle.switchfile_code.proofs.list.Tie as tie
 
-settle-requires : tie.Need-settle-requires
-settle-requires c κs = read_cleared _ c.before.rows-read.ensures
+settle-made-requires : tie.Need-settle-made-requires
+settle-made-requires c κs = read_cleared _ c.rows_read-rows.ensures
 
 -- what is known of the file once it is settled
-abbrev begun : tie.After-settle → tie.Start
+abbrev begun : tie.After-settle-made → tie.Start
 begun m = m.before.before.before.before.before.before
 
-file : (m : tie.After-settle) → OfFile (begun m).args.text.now m.before.before.before.read.result.set m.settle.result
-file m = of_file _ m.before.before.rows-read.ensures m.before.before.before.read.ensures m.settle.ensures
+file : (m : tie.After-settle-made) → OfFile (begun m).args.text.now m.read-file.result.set m.settle-made.result
+file m = of_file _ m.rows_read-rows.ensures m.read-file.ensures m.settle-made.ensures
 
-fit-laid-requires : tie.Need-fit-laid-requires
-fit-laid-requires c κs =
+fit_laid-requires : tie.Need-fit_laid-requires
+fit_laid-requires c κs =
     let m = c.before.before.before in
-    ((file m).clear c.before.enum_told.given.1, (file m).servers c.before.enum_told.given.1)
+    ((file m).clear c.in-Done.is, (file m).servers c.in-Done.is)
 
-returns : tie.Need-returns
-returns c =
+returns-in-Done : tie.Need-returns-in-Done
+returns-in-Done c =
     let t = c.before.before.before.before in
     let m = t.before.before in
-    list_fits (begun m).args.text.now (begun m).args.out.now ((file m).planned t.enum_told.given.1 refl) refl c.before.before.fit-laid.ensures
+    list_fits (begun m).args.text.now (begun m).args.out.now ((file m).planned t.in-Done.is refl) refl c.fit_laid.ensures
 
-returns-2 : tie.Need-returns-2
-returns-2 c =
-    let t = c.before in
-    let m = t.before.before in
-    list_refused (begun m).args.text.now (begun m).args.out.now ((file m).refused t.outcome.given.1) refl
+returns-in-Refused : tie.Need-returns-in-Refused
+returns-in-Refused c =
+    let m = c.before in
+    list_refused (begun m).args.text.now (begun m).args.out.now ((file m).refused c.in-Refused.is) refl
 
-pub list-spec : {M : Type 1} → statement M
-list-spec =
+pub list_spec : {M : Type 1} → statement M
+list_spec =
     tie.close
     (tie.spec
     (λ c κs. search rules)
     (λ c κs. search rules)
-    settle-requires
+    settle-made-requires
     (λ c. search rules)
-    fit-laid-requires
+    fit_laid-requires
     (λ c. search rules)
     (λ c. search rules)
-    returns
-    returns-2)
+    returns-in-Done
+    returns-in-Refused)

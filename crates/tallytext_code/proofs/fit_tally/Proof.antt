@@ -9,43 +9,41 @@ use Rattle.tallytext.proofs.ReportLaws.{bytes_told, text_length, told_length, te
 use Rattle.tallytext_code.proofs.fit_tally.Statement.{statement}
 use Rattle.tallytext_code.proofs.fit_tally.Tie as tie
 
-returns : tie.Need-returns
-returns c =
-    let a = c.before.before.args in
-    no_room a.out.now (tally_text a.tally) (omega (arith, c.if1.true, text_length a.tally, bytes_told))
+returns-then-out-lt-BYTES : tie.Need-returns-then-out-lt-BYTES
+returns-then-out-lt-BYTES c =
+    let a = c.args in
+    no_room a.out.now (tally_text a.tally) (omega (arith, c.if-out-lt-BYTES.true, text_length a.tally, bytes_told))
 
-put-line-requires : tie.Need-put-line-requires
+put_line-requires : tie.Need-put_line-requires
 unfolding widths_of sum
-put-line-requires c κs = (omega arith, omega (arith, c.before.before.if1.false))
+put_line-requires c κs = (omega arith, omega (arith, c.if-out-lt-BYTES.false))
 
-put-lines-requires : tie.Need-put-lines-requires
+put_lines-requires : tie.Need-put_lines-requires
 unfolding widths_of sum
-put-lines-requires c κs =
+put_lines-requires c κs =
     let m = c.before.before in
     let w = m.before.before.before in
     let e = w.before.before.before in
-    let s = e.before.before in
-    (rw m.met-values.ensures (omega (arith, told_length s.args.tally)), omega (arith, e.if1.false, w.put-line.auto.0))
+    (rw m.met_values-values.ensures (omega (arith, told_length e.args.tally)), omega (arith, e.if-out-lt-BYTES.false, w.put_line.auto.out))
 
-returns-2 : tie.Need-returns-2
-returns-2 c =
+returns : tie.Need-returns
+returns c =
     let l = c.before.before in
     let m = l.before.before.before in
     let w = m.before.before.before in
-    let e = w.before.before.before in
-    let a = e.before.before.args in
-    stored_whole a.out.now (tally_text a.tally) _ (omega (arith, text_length a.tally, bytes_told)) e.if1.false
-    (text_put a.tally a.out.now (omega (arith, e.if1.false, bytes_told)) w.put-line.ensures m.met-values.ensures l.put-lines.ensures)
+    let a = w.args in
+    stored_whole a.out.now (tally_text a.tally) _ (omega (arith, text_length a.tally, bytes_told)) w.if-out-lt-BYTES.false
+    (text_put a.tally a.out.now (omega (arith, w.if-out-lt-BYTES.false, bytes_told)) w.put_line.ensures m.met_values-values.ensures l.put_lines.ensures)
 
-pub fit-tally-spec : {M : Type 1} → statement M
-fit-tally-spec =
+pub fit_tally_spec : {M : Type 1} → statement M
+fit_tally_spec =
     tie.close
     (tie.spec
-    returns
+    returns-then-out-lt-BYTES
     (λ c. search rules)
-    put-line-requires
+    put_line-requires
     (λ c κs. search rules)
     (λ c. search rules)
-    put-lines-requires
+    put_lines-requires
     (λ c. search rules)
-    returns-2)
+    returns)

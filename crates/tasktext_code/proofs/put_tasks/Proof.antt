@@ -1,10 +1,10 @@
 -- The loop's invariant: the lines of the first `i` tasks are put, one behind the other.
 -- Assumes nothing.
 use Prim.Native.Nat.{◌+◌, ◌-◌, ◌≤◌}
-use mathlib.Core.Path.{◌≡◌, sym, ◌∙◌, ap}
+use mathlib.Core.Path.{◌≡◌, ◌∙◌, ap}
 use native.Mathlib.Omega.{arith}
 use borrow.Author.Rules.{rules}
-use lib.ListN.{length, length-map, get_or}
+use lib.ListN.{length, get_or}
 use Rattle.digits.specs.Stored.{stored}
 use Rattle.frames.specs.Table.{sum, row_of}
 use Rattle.frames.proofs.Tables.{fields_most}
@@ -20,90 +20,90 @@ use Rattle.tasktext.proofs.TextLaws.{task_sized}
 use Rattle.tasktext_code.proofs.put_tasks.Statement.{statement}
 use Rattle.tasktext_code.proofs.put_tasks.Tie as tie
 
-abbrev invariant-loop : tie.invariant-loop
-invariant-loop out₀ at set n next₀ i₀ out next i = EachPut task_line out₀ at set.tasks n out next i
+abbrev invariant-loop-i : tie.invariant-loop-i
+invariant-loop-i out₀ at set n next₀ i₀ out next i = EachPut task_line out₀ at set.tasks n out next i
 
-abbrev decreases-loop : tie.decreases-loop
-decreases-loop out₀ at set n next₀ i₀ out next i = n - i
+abbrev decreases-loop-i : tie.decreases-loop-i
+decreases-loop-i out₀ at set n next₀ i₀ out next i = n - i
 
-loop-holds : tie.Need-loop-init invariant-loop decreases-loop
-loop-holds c = each_put_none task_line _ _ _ _
+loop-i-init : tie.Need-loop-i-init invariant-loop-i decreases-loop-i
+loop-i-init c = each_put_none task_line _ _ _ _
 
-full : (s : tie.Start invariant-loop decreases-loop) → length s.args.t3.tasks ≡ most_tasks
-full s = sym (length-map s.args.t3.tasks _) ∙ s.well-formed.1.1.0.1.1.1.1.0.1.0.1
+full : (s : tie.Start invariant-loop-i decreases-loop-i) → length s.args.set.tasks ≡ most_tasks
+full s = s.well_formed.1.1.0.1.1.1.1.0.1.0.1
 
-element-copy-out-task : tie.Need-element-copy-out-task invariant-loop decreases-loop
-element-copy-out-task c = omega (arith, c.before.before.before.requires.0)
+bounds-set-i : tie.Need-bounds-set-i invariant-loop-i decreases-loop-i
+bounds-set-i c = omega (arith, c.requires.0)
 
 -- the next task's line: its row, its figures, and that there is room for it
-module _ (c : tie.After-task-values invariant-loop decreases-loop) where
-  abbrev turn : tie.In-loop invariant-loop decreases-loop
+module _ (c : tie.After-task_values-values invariant-loop-i decreases-loop-i) where
+  abbrev turn : tie.In-loop-i invariant-loop-i decreases-loop-i
   turn = c.before.before.before.before
 
-  abbrev start : tie.Start invariant-loop decreases-loop
+  abbrev start : tie.Start invariant-loop-i decreases-loop-i
   start = turn.before.before.before
 
   abbrev task : Task
-  task = get_or start.args.t3.tasks turn.before.loop.i zero_task
+  task = get_or start.args.set.tasks turn.loop-i.i zero_task
 
-  own : c.before.row_of_lem.result ≡ row_of (task_frame task)
-  own = c.before.row_of_lem.ensures ∙ ap row_of c.before.before.task-frame.ensures
+  own : c.row_of-row.result ≡ row_of (task_frame task)
+  own = c.row_of-row.ensures ∙ ap row_of c.task_frame-frame.ensures
 
-  enough : start.args.t3.count ≤ length start.args.t3.tasks
-  enough = omega (arith, full start, start.pre.0)
+  enough : start.args.set.count ≤ length start.args.set.tasks
+  enough = omega (arith, full start, start.requires.0)
 
-  ends : turn.before.loop.next + 2 + sum (row_widths c.before.row_of_lem.result) + 1 ≡ turn.before.loop.next + length (task_line task)
+  ends : turn.loop-i.next + 2 + sum (row_widths c.row_of-row.result) + 1 ≡ turn.loop-i.next + length (task_line task)
   ends = omega (arith, row_digits (task_frame task) own, line_length (task_frame task) (task_values task))
 
-  room : turn.before.loop.next + length (task_line task) ≤ length start.args.out.now
-  room = each_put_room task_line zero_task turn.before.loop.inv enough start.pre.1 turn.loop-test.taken
+  room : turn.loop-i.next + length (task_line task) ≤ length start.args.out.now
+  room = each_put_room task_line zero_task turn.loop-i.invariant enough start.requires.1 turn.loop-i-test.true
 
-put-row-requires : tie.Need-put-row-requires invariant-loop decreases-loop
-put-row-requires c κs =
+put_row-next-requires : tie.Need-put_row-next-requires invariant-loop-i decreases-loop-i
+put_row-next-requires c κs =
     let d = c.before.before in
-    let l = (turn d).before.loop in
-    rw d.task-values.ensures (
+    let l = (turn d).loop-i in
+    rw d.task_values-values.ensures (
       (omega (arith, row_fields (task_frame (task d)) (own d), fields_most (task_frame (task d))), omega (arith, row_fields (task_frame (task d)) (own d), task_sized (task d))),
-      omega (arith, ends d, room d, l.inv.same),
+      omega (arith, ends d, room d, l.invariant.same),
     )
 
-add-i : tie.Need-overflow-add-i invariant-loop decreases-loop
-add-i c = omega arith
+overflow_add-i : tie.Need-overflow_add-i invariant-loop-i decreases-loop-i
+overflow_add-i c = omega arith
 
-loop-less : tie.Need-loop-smaller invariant-loop decreases-loop
-loop-less c = omega arith
+loop-i-smaller : tie.Need-loop-i-smaller invariant-loop-i decreases-loop-i
+loop-i-smaller c = omega arith
 
-loop-again : tie.Need-loop-preserved invariant-loop decreases-loop
-loop-again c =
+loop-i-preserved : tie.Need-loop-i-preserved invariant-loop-i decreases-loop-i
+loop-i-preserved c =
     let written = c.before.before in
     let d = written.before.before.before in
-    let l = (turn d).before.loop in
-    let line = row_line (task_frame (task d)) (own d) _ ∙ ap (line_of (task_frame (task d))) d.task-values.ensures in
-    each_put_next task_line zero_task l.inv (enough d) (start d).requires.1 (turn d).loop-test.true
-    (written.put-row.ensures.1 ∙ ap (stored l.out l.next) line) written.put-row.auto.0 (written.put-row.ensures.0 ∙ ends d)
+    let l = (turn d).loop-i in
+    let line = row_line (task_frame (task d)) (own d) _ ∙ ap (line_of (task_frame (task d))) d.task_values-values.ensures in
+    each_put_next task_line zero_task l.invariant (enough d) (start d).requires.1 (turn d).loop-i-test.true
+    (written.put_row-next.ensures.1 ∙ ap (stored l.out l.next) line) written.put_row-next.auto.out (written.put_row-next.ensures.0 ∙ ends d)
 
-same_length : tie.Need-same-length invariant-loop decreases-loop
-same_length c = c.before.loop.invariant.same
+shape_of-out : tie.Need-shape_of-out invariant-loop-i decreases-loop-i
+shape_of-out c = c.loop-i.invariant.same
 
-returns : tie.Need-returns invariant-loop decreases-loop
-returns c = each_put_all task_line c.before.loop.invariant c.loop-test.false
+returns : tie.Need-returns invariant-loop-i decreases-loop-i
+returns c = each_put_all task_line c.loop-i.invariant c.loop-i-test.false
 
-pub put-tasks-spec : {M : Type 1} → statement M
-put-tasks-spec =
+pub put_tasks_spec : {M : Type 1} → statement M
+put_tasks_spec =
     tie.close
     (tie.spec
-    invariant-loop
-    decreases-loop
-    loop-holds
+    invariant-loop-i
+    decreases-loop-i
+    loop-i-init
     (λ c. search rules)
-    element-copy-out-task
+    bounds-set-i
     (λ c κs. search rules)
     (λ c κs. search rules)
     (λ c κs. search rules)
     (λ c. search rules)
-    put-row-requires
-    add-i
-    loop-less
-    loop-again
-    same_length
+    put_row-next-requires
+    overflow_add-i
+    loop-i-smaller
+    loop-i-preserved
+    shape_of-out
     returns)

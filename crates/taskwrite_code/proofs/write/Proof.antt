@@ -16,50 +16,59 @@ use Rattle.taskwrite.proofs.WriteAsks.{writer_ask, write_ask, write_room, write_
 use Rattle.taskwrite_code.proofs.write.Statement.{statement}
 use Rattle.taskwrite_code.proofs.write.Tie as tie
 
-returns : tie.Need-returns
-returns c =
-    let a = c.before.before.before.args in
-    answered a.set a.out.now (Refused Ask) a.out.now (write_ask a.set a.out.now (sym c.before.writer-asks.ensures ∙ c.if1.true)) refl
+returns-then-writer_asks : tie.Need-returns-then-writer_asks
+returns-then-writer_asks c =
+    let a = c.args in
+    answered a.set a.out.now (Refused Ask) a.out.now (write_ask a.set a.out.now (sym c.writer_asks.ensures ∙ c.if-writer_asks.true)) refl
 
 -- past row 11 the set can be written, and its counts are within the room
-taken : (d : tie.Else1) → writer_asks d.before.before.before.args.set ≡ false
-taken d = sym d.before.writer-asks.ensures ∙ d.if1.false
+taken : (d : tie.Else-writer_asks) → writer_asks d.args.set ≡ false
+taken d = sym d.writer_asks.ensures ∙ d.if-writer_asks.false
 
-within : (d : tie.Else1) → (d.before.before.before.args.set.count ≤ most_tasks) × (d.before.before.before.args.set.interrupts.count ≤ most_interrupts)
+within : (d : tie.Else-writer_asks) → (d.args.set.count ≤ most_tasks) × (d.args.set.interrupts.count ≤ most_interrupts)
 within d =
-    let set = d.before.before.before.args.set in
+    let set = d.args.set in
     let counts = ask_count set (writer_ask set (taken d)) in
     ((count_within set counts).1, interrupts_within set counts)
 
-text-length-requires : tie.Need-text-length-requires
-text-length-requires c κs = within c
+text_length-needed-requires : tie.Need-text_length-needed-requires
+text_length-needed-requires c κs = within c
 
 -- the length that is tested is the text's
-size : (d : tie.After-text-length) → d.text_length.result ≡ length (text_of d.before.before.before.before.args.set)
-size d = d.text_length.ensures
+size : (d : tie.After-text_length-needed) → d.text_length-needed.result ≡ length (text_of d.args.set)
+size d = d.text_length-needed.ensures
 
-returns-2 : tie.Need-returns-2
-returns-2 c =
+returns-then-short : tie.Need-returns-then-short
+returns-then-short c =
     let d = c.before in
-    let a = d.before.before.before.before.args in
-    let short : length a.out.now < length (text_of a.set) = omega (arith, c.if2.true, size d) in
+    let a = d.args in
+    let short : length a.out.now < length (text_of a.set) = omega (arith, c.if-short.true-raw, size d) in
     answered a.set a.out.now (Refused Room) a.out.now (write_room a.set a.out.now (taken d.before) short) refl
 
-put-text-requires : tie.Need-put-text-requires
-put-text-requires c κs =
+put_text-requires : tie.Need-put_text-requires
+put_text-requires c κs =
     let d = c.before.before in
     let counts = within d.before in
-    (counts.0, (counts.1, omega (arith, c.before.if2.false, size d)))
+    (counts.0, (counts.1, omega (arith, c.if-short.false-raw, size d)))
 
-returns-3 : tie.Need-returns-3
-returns-3 c =
+returns : tie.Need-returns
+returns c =
     let e = c.before.before.before.before in
     let d = e.before in
-    let a = d.before.before.before.before.args in
-    let room : length (text_of a.set) ≤ length a.out.now = omega (arith, e.if2.false, size d) in
-    answered a.set a.out.now (Bytes d.text_length.result) c.before.before.put-text.new.0
+    let a = d.args in
+    let room : length (text_of a.set) ≤ length a.out.now = omega (arith, e.if-short.false-raw, size d) in
+    answered a.set a.out.now (Bytes d.text_length-needed.result) c.put_text.new.out
     (write_bytes a.set a.out.now (taken d.before) room ∙ ap Bytes (sym (size d)))
-    c.before.before.put-text.ensures
+    c.put_text.ensures
 
 pub write_spec : {M : Type 1} → statement M
-write_spec = tie.close (tie.spec (λ c κs. search rules) returns text-length-requires returns-2 put-text-requires (λ c. search rules) returns-3)
+write_spec =
+    tie.close
+    (tie.spec
+    (λ c κs. search rules)
+    returns-then-writer_asks
+    text_length-needed-requires
+    returns-then-short
+    put_text-requires
+    (λ c. search rules)
+    returns)

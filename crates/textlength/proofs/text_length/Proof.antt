@@ -5,7 +5,7 @@ use Prim.Native.Nat.{ℕ, ◌+◌, ◌*◌, ◌-◌, ◌≤◌}
 use mathlib.Core.Path.{◌≡◌, sym, ◌∙◌, ap}
 use native.Mathlib.Omega.{arith}
 use borrow.Author.Rules.{rules}
-use lib.ListN.{length, length-map, take, get_or}
+use lib.ListN.{length, take, get_or}
 use Rattle.frames.specs.Table.{widths_of, sum, length_of}
 use Rattle.frames.specs.declared.table.Frame.{Frame}
 use Rattle.frames.proofs.Tables.{length_most}
@@ -19,125 +19,125 @@ use Rattle.tasktext.proofs.TextLaws.{tasks_most, tasks_more, text_bytes}
 use Rattle.textlength.proofs.text_length.Statement.{statement}
 use Rattle.textlength.proofs.text_length.Tie as tie
 
-abbrev invariant-loop : tie.invariant-loop
-invariant-loop set first masked rule n tasks₀ i₀ tasks i = (i ≤ n) × (tasks ≡ length (task_lines (take i set.tasks)))
+abbrev invariant-loop-i : tie.invariant-loop-i
+invariant-loop-i set first masked rule n tasks₀ i₀ tasks i = (i ≤ n) × (tasks ≡ length (task_lines (take i set.tasks)))
 
-abbrev decreases-loop : tie.decreases-loop
-decreases-loop set first masked rule n tasks₀ i₀ tasks i = n - i
+abbrev decreases-loop-i : tie.decreases-loop-i
+decreases-loop-i set first masked rule n tasks₀ i₀ tasks i = n - i
 
-full : (s : tie.Start invariant-loop decreases-loop) → length s.args.t1.tasks ≡ most_tasks
-full s = sym (length-map s.args.t1.tasks _) ∙ s.well-formed.0.1.1.1.1.0.1.0.1
+full : (s : tie.Start invariant-loop-i decreases-loop-i) → length s.args.set.tasks ≡ most_tasks
+full s = s.well_formed.0.1.1.1.1.0.1.0.1
 
-lines-length-requires : tie.Need-lines-length-requires invariant-loop decreases-loop
-lines-length-requires c κs = omega arith
+lines_length-first-requires : tie.Need-lines_length-first-requires invariant-loop-i decreases-loop-i
+lines_length-first-requires c κs = omega arith
 
-loop-holds : tie.Need-loop-init invariant-loop decreases-loop
-loop-holds c = (omega arith, sym (ap length (each_nil task_line)))
+loop-i-init : tie.Need-loop-i-init invariant-loop-i decreases-loop-i
+loop-i-init c = (omega arith, sym (ap length (each_nil task_line)))
 
-element-copy-out-task : tie.Need-element-copy-out-task invariant-loop decreases-loop
-element-copy-out-task c = omega (arith, c.before.before.before.before.before.before.requires.0)
+bounds-set-i : tie.Need-bounds-set-i invariant-loop-i decreases-loop-i
+bounds-set-i c = omega (arith, c.requires.0)
 
-lines-length-requires-2 : tie.Need-lines-length-requires-2 invariant-loop decreases-loop
-lines-length-requires-2 c κs = omega arith
+lines_length-tasks-requires : tie.Need-lines_length-tasks-requires invariant-loop-i decreases-loop-i
+lines_length-tasks-requires c κs = omega arith
 
 -- the line of the next task
-module _ (c : tie.After-lines-length2 invariant-loop decreases-loop) where
-  abbrev turn : tie.In-loop invariant-loop decreases-loop
+module _ (c : tie.After-lines_length-tasks invariant-loop-i decreases-loop-i) where
+  abbrev turn : tie.In-loop-i invariant-loop-i decreases-loop-i
   turn = c.before.before.before
 
-  abbrev start : tie.Start invariant-loop decreases-loop
+  abbrev start : tie.Start invariant-loop-i decreases-loop-i
   start = turn.before.before.before.before.before.before
 
-  counted : c.lines-length2.result ≡ length_of (task_frame (get_or start.args.t1.tasks turn.before.loop.i zero_task)) + 1
-  counted = c.lines-length2.ensures ∙ omega arith ∙ ap (λ (f : Frame). length_of f + 1) c.before.task-frame.ensures
+  counted : c.lines_length-tasks.result ≡ length_of (task_frame (get_or start.args.set.tasks turn.loop-i.i zero_task)) + 1
+  counted = c.lines_length-tasks.ensures ∙ omega arith ∙ ap (λ (f : Frame). length_of f + 1) c.task_frame-frame.ensures
 
-add-tasks : tie.Need-overflow-add-tasks invariant-loop decreases-loop
-add-tasks c =
-    let l = (turn c).before.loop in
+overflow_add-tasks : tie.Need-overflow_add-tasks invariant-loop-i decreases-loop-i
+overflow_add-tasks c =
+    let l = (turn c).loop-i in
     let s = start c in
-    omega (arith, counted c, length_most (task_frame (get_or s.args.t1.tasks l.i zero_task)), l.inv.1, tasks_most s.args.t1.tasks l.i, (turn c).loop-test.true, s.pre.0)
+    omega (arith, counted c, length_most (task_frame (get_or s.args.set.tasks l.i zero_task)), l.invariant.1, tasks_most s.args.set.tasks l.i, (turn c).loop-i-test.true, s.requires.0)
 
-add-i : tie.Need-overflow-add-i invariant-loop decreases-loop
-add-i c = omega arith
+overflow_add-i : tie.Need-overflow_add-i invariant-loop-i decreases-loop-i
+overflow_add-i c = omega arith
 
-loop-less : tie.Need-loop-smaller invariant-loop decreases-loop
-loop-less c = omega arith
+loop-i-smaller : tie.Need-loop-i-smaller invariant-loop-i decreases-loop-i
+loop-i-smaller c = omega arith
 
-loop-again : tie.Need-loop-preserved invariant-loop decreases-loop
-loop-again c =
-    let l = (turn c).before.loop in
+loop-i-preserved : tie.Need-loop-i-preserved invariant-loop-i decreases-loop-i
+loop-i-preserved c =
+    let l = (turn c).loop-i in
     let s = start c in
-    let next = tasks_more s.args.t1.tasks l.i (omega (arith, full s, (turn c).loop-test.true, s.pre.0)) in
-    (omega arith, omega (arith, l.inv.1, counted c, next))
+    let next = tasks_more s.args.set.tasks l.i (omega (arith, full s, (turn c).loop-i-test.true, s.requires.0)) in
+    (omega arith, omega (arith, l.invariant.1, counted c, next))
 
-lines-length-requires-3 : tie.Need-lines-length-requires-3 invariant-loop decreases-loop
-lines-length-requires-3 c κs = omega (arith, c.before.before.before.before.before.before.requires.1)
+lines_length-last-requires : tie.Need-lines_length-last-requires invariant-loop-i decreases-loop-i
+lines_length-last-requires c κs = omega (arith, c.requires.1)
 
-module _ (c : tie.After-lines-length3 invariant-loop decreases-loop) where
-  abbrev loop : tie.At-loop invariant-loop decreases-loop
+module _ (c : tie.After-lines_length-last invariant-loop-i decreases-loop-i) where
+  abbrev loop : tie.At-loop-i invariant-loop-i decreases-loop-i
   loop = c.before.before
 
-  abbrev begin : tie.Start invariant-loop decreases-loop
+  abbrev begin : tie.Start invariant-loop-i decreases-loop-i
   begin = loop.before.before.before.before.before
 
-  first-bytes : loop.before.before.before.before.lines_length.result ≡ length_of Frame.Header + 1
-  first-bytes = loop.before.before.before.before.lines_length.ensures ∙ omega arith
+  first-bytes : loop.lines_length-first.result ≡ length_of Frame.Header + 1
+  first-bytes = loop.lines_length-first.ensures ∙ omega arith
 
-  masked-bytes : loop.before.before.optional-length.result ≡ length (optional_line Frame.Masked begin.args.t1.header.masked)
-  masked-bytes = loop.before.before.optional-length.ensures
+  masked-bytes : loop.optional_length-masked.result ≡ length (optional_line Frame.Masked begin.args.set.header.masked)
+  masked-bytes = loop.optional_length-masked.ensures
 
-  rule-bytes : loop.before.optional-length2.result ≡ length (optional_line Frame.Rule begin.args.t1.header.rule)
-  rule-bytes = loop.before.optional-length2.ensures
+  rule-bytes : loop.optional_length-rule.result ≡ length (optional_line Frame.Rule begin.args.set.header.rule)
+  rule-bytes = loop.optional_length-rule.ensures
 
-  tasks_all : loop.loop.tasks ≡ length (task_lines (members begin.args.t1))
+  tasks_all : loop.loop-i.tasks ≡ length (task_lines (members begin.args.set))
   tasks_all =
-      let all : loop.loop.i ≡ begin.args.t1.count = omega (arith, loop.loop.inv.0, c.before.loop-test.false) in
-      loop.loop.inv.1 ∙ ap (λ (k : ℕ). length (task_lines (take k begin.args.t1.tasks))) all
+      let all : loop.loop-i.i ≡ begin.args.set.count = omega (arith, loop.loop-i.invariant.0, c.loop-i-test.false) in
+      loop.loop-i.invariant.1 ∙ ap (λ (k : ℕ). length (task_lines (take k begin.args.set.tasks))) all
 
-  few : loop.before.before.before.before.lines_length.result + loop.before.before.optional-length.result + loop.before.optional-length2.result + loop.loop.tasks + c.lines-length3.result ≤ 65 * 99
+  few : loop.lines_length-first.result + loop.optional_length-masked.result + loop.optional_length-rule.result + loop.loop-i.tasks + c.lines_length-last.result ≤ 65 * 99
   unfolding widths_of sum
   few =
-      omega (arith, first-bytes, masked-bytes, optional_most Frame.Masked begin.args.t1.header.masked, rule-bytes, optional_most Frame.Rule begin.args.t1.header.rule, tasks_all, tasks_most begin.args.t1.tasks begin.args.t1.count, begin.pre.0, c.lines-length3.ensures, begin.pre.1)
+      omega (arith, first-bytes, masked-bytes, optional_most Frame.Masked begin.args.set.header.masked, rule-bytes, optional_most Frame.Rule begin.args.set.header.rule, tasks_all, tasks_most begin.args.set.tasks begin.args.set.count, begin.requires.0, c.lines_length-last.ensures, begin.requires.1)
 
-add-result : tie.Need-overflow-add-result invariant-loop decreases-loop
-add-result c = omega (arith, few c)
+overflow_add-result : tie.Need-overflow_add-result invariant-loop-i decreases-loop-i
+overflow_add-result c = omega (arith, few c)
 
-add-result-2 : tie.Need-overflow-add-result-2 invariant-loop decreases-loop
-add-result-2 c = omega (arith, few c)
+overflow_add-result-2 : tie.Need-overflow_add-result-2 invariant-loop-i decreases-loop-i
+overflow_add-result-2 c = omega (arith, few c)
 
-add-result-3 : tie.Need-overflow-add-result-3 invariant-loop decreases-loop
-add-result-3 c = omega (arith, few c)
+overflow_add-result-3 : tie.Need-overflow_add-result-3 invariant-loop-i decreases-loop-i
+overflow_add-result-3 c = omega (arith, few c)
 
-add-result-4 : tie.Need-overflow-add-result-4 invariant-loop decreases-loop
-add-result-4 c = omega (arith, few c)
+overflow_add-result-4 : tie.Need-overflow_add-result-4 invariant-loop-i decreases-loop-i
+overflow_add-result-4 c = omega (arith, few c)
 
-returns : tie.Need-returns invariant-loop decreases-loop
+returns : tie.Need-returns invariant-loop-i decreases-loop-i
 returns c =
-    let set = (begin c).args.t1 in
-    let interrupts : length set.interrupts.each ≡ most_interrupts = sym (length-map set.interrupts.each _) ∙ (begin c).well-formed.0.1.1.1.1.1.0.1.1.1.0.1.0.1 in
-    omega (arith, first-bytes c, masked-bytes c, rule-bytes c, tasks_all c, c.lines-length3.ensures, text_bytes set (omega (arith, interrupts, (begin c).requires.1)))
+    let set = (begin c).args.set in
+    let interrupts : length set.interrupts.each ≡ most_interrupts = (begin c).well_formed.0.1.1.1.1.1.0.1.1.1.0.1.0.1 in
+    omega (arith, first-bytes c, masked-bytes c, rule-bytes c, tasks_all c, c.lines_length-last.ensures, text_bytes set (omega (arith, interrupts, (begin c).requires.1)))
 
-pub text-length-spec : {M : Type 1} → statement M
-text-length-spec =
+pub text_length_spec : {M : Type 1} → statement M
+text_length_spec =
     tie.close
     (tie.spec
-    invariant-loop
-    decreases-loop
-    lines-length-requires
+    invariant-loop-i
+    decreases-loop-i
+    lines_length-first-requires
     (λ c κs. search rules)
     (λ c κs. search rules)
-    loop-holds
+    loop-i-init
     (λ c. search rules)
-    element-copy-out-task
+    bounds-set-i
     (λ c κs. search rules)
-    lines-length-requires-2
-    add-tasks
-    add-i
-    loop-less
-    loop-again
-    lines-length-requires-3
-    add-result
-    add-result-2
-    add-result-3
-    add-result-4
+    lines_length-tasks-requires
+    overflow_add-tasks
+    overflow_add-i
+    loop-i-smaller
+    loop-i-preserved
+    lines_length-last-requires
+    overflow_add-result
+    overflow_add-result-2
+    overflow_add-result-3
+    overflow_add-result-4
     returns)

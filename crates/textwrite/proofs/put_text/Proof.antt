@@ -1,10 +1,10 @@
 -- The 01 line of the header's figures, behind it the 05 line and the 06 line where there are such, the lines of the tasks and the 07 lines are the text.
 -- Assumes nothing.
 use Prim.Native.Nat.{◌+◌, ◌*◌, ◌≤◌}
-use mathlib.Core.Path.{◌≡◌, sym, ◌∙◌}
+use mathlib.Core.Path.{◌≡◌, ◌∙◌}
 use native.Mathlib.Omega.{arith}
 use borrow.Author.Rules.{rules}
-use lib.ListN.{length, length-map}
+use lib.ListN.{length}
 use Rattle.frames.specs.Table.{widths_of, sum, length_of}
 use Rattle.frames.specs.declared.table.Frame.{Frame}
 use Rattle.tasks.specs.Set.{most_interrupts, members}
@@ -21,116 +21,115 @@ room : (s : tie.Start) →
     length_of Frame.Header + 1 + length (optional_line Frame.Masked set.header.masked) + length (optional_line Frame.Rule set.header.rule) + length (task_lines (members set)) + set.interrupts.count * (length_of Frame.Interrupt + 1) ≤ length s.args.out.now
 room s =
     let set = s.args.set in
-    let interrupts : length set.interrupts.each ≡ most_interrupts = sym (length-map set.interrupts.each _) ∙ s.well-formed.1.0.1.1.1.1.1.0.1.1.1.0.1.0.1 in
+    let interrupts : length set.interrupts.each ≡ most_interrupts = s.well_formed.1.0.1.1.1.1.1.0.1.1.1.0.1.0.1 in
     omega (arith, s.requires.1.1, text_bytes set (omega (arith, interrupts, s.requires.1.0)))
 
-put-line-requires : tie.Need-put-line-requires
+put_line-requires : tie.Need-put_line-requires
 unfolding widths_of
-put-line-requires c κs =
-    let d = c.before.before in
-    rw d.header-values.ensures (omega arith, omega (arith, room d.before.before.before))
+put_line-requires c κs =
+    rw c.header_values-first.ensures (omega arith, omega (arith, room c.before.before.before.before.before))
 
-lines-length-requires : tie.Need-lines-length-requires
-lines-length-requires c κs = omega arith
+lines_length-second-requires : tie.Need-lines_length-second-requires
+lines_length-second-requires c κs = omega arith
 
 -- the 05 line stands behind the 01 line
-second : (c : tie.After-lines-length) → c.lines_length.result ≡ length_of Frame.Header + 1
-second c = c.lines_length.ensures ∙ omega arith
+second : (c : tie.After-lines_length-second) → c.lines_length-second.result ≡ length_of Frame.Header + 1
+second c = c.lines_length-second.ensures ∙ omega arith
 
-put-optional-requires : tie.Need-put-optional-requires
+put_optional-requires : tie.Need-put_optional-requires
 unfolding widths_of optional_line
-put-optional-requires c κs =
+put_optional-requires c κs =
     let d = c.before in
     let written = d.before.before.before in
     let s = written.before.before.before.before.before.before in
-    (omega arith, omega (arith, room s, second d, written.put-line.auto.0))
+    (omega arith, omega (arith, room s, second d, written.put_line.auto.out))
 
 -- the 06 line stands behind these two
-module _ (c : tie.After-optional-length) where
-  abbrev opened : tie.After-put-optional
+module _ (c : tie.After-optional_length) where
+  abbrev opened : tie.After-put_optional
   opened = c.before.before.before
 
-  abbrev written : tie.After-put-line
+  abbrev written : tie.After-put_line
   written = opened.before.before.before.before.before
 
   abbrev start : tie.Start
   start = written.before.before.before.before.before.before
 
-  rule_start : opened.before.before.lines_length.result + c.optional-length.result ≡ length_of Frame.Header + 1 + length (optional_line Frame.Masked start.args.set.header.masked)
-  rule_start = omega (arith, second opened.before.before, c.optional-length.ensures)
+  rule_start : opened.lines_length-second.result + c.optional_length.result ≡ length_of Frame.Header + 1 + length (optional_line Frame.Masked start.args.set.header.masked)
+  rule_start = omega (arith, second opened.before.before, c.optional_length.ensures)
 
-add-next : tie.Need-overflow-add-next
+overflow_add-next : tie.Need-overflow_add-next
 unfolding widths_of sum
-add-next c = omega (arith, rule_start c, optional_most Frame.Masked (start c).args.set.header.masked)
+overflow_add-next c = omega (arith, rule_start c, optional_most Frame.Masked (start c).args.set.header.masked)
 
-put-optional-requires-2 : tie.Need-put-optional-requires-2
+put_optional-requires-2 : tie.Need-put_optional-requires-2
 unfolding widths_of optional_line
-put-optional-requires-2 c κs =
+put_optional-requires-2 c κs =
     let d = c.before in
-    (omega arith, omega (arith, room (start d), rule_start d, (written d).put-line.auto.0, (opened d).put-optional.auto.0))
+    (omega arith, omega (arith, room (start d), rule_start d, (written d).put_line.auto.out, (opened d).put_optional.auto.out))
 
 -- the tasks' lines start behind these three
-module _ (c : tie.After-optional-length2) where
-  abbrev ruled : tie.After-put-optional2
+module _ (c : tie.After-optional_length-2) where
+  abbrev ruled : tie.After-put_optional-2
   ruled = c.before.before.before
 
-  abbrev marked : tie.After-optional-length
+  abbrev marked : tie.After-optional_length
   marked = ruled.before.before
 
-  tasks_start : (opened marked).before.before.lines_length.result + marked.optional-length.result + c.optional-length2.result
+  tasks_start : (opened marked).lines_length-second.result + marked.optional_length.result + c.optional_length-2.result
       ≡ length_of Frame.Header + 1 + length (optional_line Frame.Masked (start marked).args.set.header.masked) + length (optional_line Frame.Rule (start marked).args.set.header.rule)
-  tasks_start = omega (arith, rule_start marked, c.optional-length2.ensures)
+  tasks_start = omega (arith, rule_start marked, c.optional_length-2.ensures)
 
   -- the lines so far left the buffer's length as it was
-  kept : length ruled.put-optional2.last.0 ≡ length (start marked).args.out.now
-  kept = omega (arith, (written marked).put-line.kept.0, (opened marked).put-optional.kept.0, ruled.put-optional2.kept.0)
+  kept : length ruled.put_optional-2.new.out ≡ length (start marked).args.out.now
+  kept = omega (arith, (written marked).put_line.auto.out, (opened marked).put_optional.auto.out, ruled.put_optional-2.auto.out)
 
-add_at : tie.Need-overflow-add-at
+overflow_add-at : tie.Need-overflow_add-at
 unfolding widths_of sum
-add_at c =
+overflow_add-at c =
     let header = (start (marked c)).args.set.header in
     omega (arith, tasks_start c, optional_most Frame.Masked header.masked, optional_most Frame.Rule header.rule)
 
-put-tasks-requires : tie.Need-put-tasks-requires
-put-tasks-requires c κs =
+put_tasks-behind-requires : tie.Need-put_tasks-behind-requires
+put_tasks-behind-requires c κs =
     let d = c.before in
     let s = start (marked d) in
-    (s.pre.0, omega (arith, room s, tasks_start d, kept d))
+    (s.requires.0, omega (arith, room s, tasks_start d, kept d))
 
-put-interrupts-requires : tie.Need-put-interrupts-requires
-put-interrupts-requires c κs =
+put_interrupts-requires : tie.Need-put_interrupts-requires
+put_interrupts-requires c κs =
     let listed = c.before.before.before in
-    let d = listed.before.before in
+    let d = listed.before.before.before in
     let s = start (marked d) in
-    (s.pre.1.0, omega (arith, room s, tasks_start d, listed.put-tasks.ensures.0, kept d, listed.put-tasks.auto.0))
+    (s.requires.1.0, omega (arith, room s, tasks_start d, listed.put_tasks-behind.ensures.0, kept d, listed.put_tasks-behind.auto.out))
 
 returns : tie.Need-returns
 returns c =
     let last = c.before.before in
     let listed = last.before.before.before.before in
-    let d = listed.before.before in
+    let d = listed.before.before.before in
     let m = marked d in
     let first = (written m).before.before.before in
     let s = start m in
-    text_put s.args.set s.args.out.now s.pre.1.1 first.header-values.ensures
-    (second (opened m).before.before) (rule_start m) (tasks_start d) listed.put-tasks.ensures.0
-    (written m).put-line.ensures (opened m).put-optional.ensures (ruled d).put-optional2.ensures listed.put-tasks.ensures.1 last.put-interrupts.ensures
+    text_put s.args.set s.args.out.now s.requires.1.1 first.header_values-first.ensures
+    (second (opened m).before.before) (rule_start m) (tasks_start d) listed.put_tasks-behind.ensures.0
+    (written m).put_line.ensures (opened m).put_optional.ensures (ruled d).put_optional-2.ensures listed.put_tasks-behind.ensures.1 last.put_interrupts.ensures
 
-pub put-text-spec : {M : Type 1} → statement M
-put-text-spec =
+pub put_text_spec : {M : Type 1} → statement M
+put_text_spec =
     tie.close
     (tie.spec
     (λ c κs. search rules)
     (λ c. search rules)
-    put-line-requires
-    lines-length-requires
-    put-optional-requires
+    put_line-requires
+    lines_length-second-requires
+    put_optional-requires
     (λ c κs. search rules)
-    add-next
-    put-optional-requires-2
+    overflow_add-next
+    put_optional-requires-2
     (λ c κs. search rules)
-    add_at
-    put-tasks-requires
-    put-interrupts-requires
+    overflow_add-at
+    put_tasks-behind-requires
+    put_interrupts-requires
     (λ c. search rules)
     returns)
