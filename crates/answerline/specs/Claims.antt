@@ -4,7 +4,6 @@ use Rattle.std.specs.Prelude.{ℕ, ◌≡◌}
 use Rattle.quoted.specs.Quoted.{bytes_of}
 use Rattle.refusals.specs.declared.Refusal.TheVariants.{Ask}
 use Rattle.refusals.specs.declared.Outcome.TheVariants.{Done}
-use Rattle.verdict.specs.declared.answer.Reading.{Reading}
 use Rattle.verdict.specs.declared.answer.Verdict.TheVariants.{Yes, No}
 use Rattle.whoruns.specs.declared.WhoAnswer.{WhoAnswer}
 use Rattle.whoruns.specs.WhoRuns.{refused_who}

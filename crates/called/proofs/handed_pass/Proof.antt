@@ -12,12 +12,12 @@ use Rattle.called.proofs.handed_pass.Statement.{statement}
 use Rattle.called.proofs.handed_pass.Tie as tie
 
 -- the question is asked of the set and the plan that the numbers give
-asked : (c : tie.After-pass) →
-    let a = c.before.before.before.before.before.before.args in
-    c.pass.result ≡ pass_handed a.set.now a.plan.now a.server a.reserve
+asked : (c : tie.After-pass-passed) →
+    let a = c.args in
+    c.pass-passed.result ≡ pass_handed a.set.now a.plan.now a.server a.reserve
 asked c =
-    let a = c.before.before.before.before.before.before.args in
-    c.pass.ensures ∙ ap₂ (λ (s : TaskSet) (p : Plan). does_pass s p a.server a.reserve) c.before.before.set-from.ensures c.before.plan-from.ensures
+    let a = c.args in
+    c.pass-passed.ensures ∙ ap₂ (λ (s : TaskSet) (p : Plan). does_pass s p a.server a.reserve) c.set_from.ensures c.plan_from.ensures
 
 returns : tie.Need-returns
 unfolding pass_told pass_numbers
@@ -25,10 +25,10 @@ returns c =
     let numbers = c.before.before.before.before.before in
     let p = numbers.before in
     told_by (λ (p : PassAnswer). p.outcome) (λ (p : PassAnswer). verdict_numbers p.verdict) _ (asked p) refl
-    (told_numbers p.pass.result.outcome _ numbers.Numbers-of.ensures c.before.before.tell.ensures)
+    (told_numbers p.pass-passed.result.outcome _ numbers.numbers_of-numbers.ensures c.tell.ensures)
 
-pub handed-pass-spec : {M : Type 1} → statement M
-handed-pass-spec =
+pub handed_pass_spec : {M : Type 1} → statement M
+handed_pass_spec =
     tie.close
     (tie.spec
     (λ c κs. search rules)

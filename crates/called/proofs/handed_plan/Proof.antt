@@ -22,23 +22,23 @@ unfolding planned_told planned_numbers
 told answer set = told_by (λ (m : PlanAnswer). m.outcome) (λ (m : PlanAnswer). plan_numbers m.plan) answer
 
 -- what is made of the set that the numbers give
-made : (c : tie.After-make) → c.make.result ≡ plan_of (set_from c.before.before.before.before.args.set.now)
-made c = c.make.ensures ∙ ap plan_of c.before.set-from.ensures
+made : (c : tie.After-make-made) → c.make-made.result ≡ plan_of (set_from c.args.set.now)
+made c = c.make-made.ensures ∙ ap plan_of c.set_from.ensures
 
-returns : tie.Need-returns
-returns c =
-    let m = c.before.before.before.before.before.before.before in
-    let a = m.before.before.before.before.args in
-    told a.answer.now a.set.now (made m) c.before.before.before.before.enum_told.given.1 c.before.before.put-plan.ensures
+returns-in-Done : tie.Need-returns-in-Done
+returns-in-Done c =
+    let m = c.before.before.before.before.before.before in
+    let a = m.args in
+    told a.answer.now a.set.now (made m) c.in-Done.is c.put_plan.ensures
 
-returns-2 : tie.Need-returns-2
-returns-2 c =
-    let m = c.before.before.before.before.before in
-    let a = m.before.before.before.before.args in
-    told a.answer.now a.set.now (made m) c.before.before.outcome.given.1 (told_refused _ a.answer.now _ c.code.ensures)
+returns-in-Refused : tie.Need-returns-in-Refused
+returns-in-Refused c =
+    let m = c.before.before.before in
+    let a = m.args in
+    told a.answer.now a.set.now (made m) c.in-Refused.is (told_refused _ a.answer.now _ c.code.ensures)
 
-pub handed-plan-spec : {M : Type 1} → statement M
-handed-plan-spec =
+pub handed_plan_spec : {M : Type 1} → statement M
+handed_plan_spec =
     tie.close
     (tie.spec
     (λ c κs. search rules)
@@ -48,5 +48,5 @@ handed-plan-spec =
     (λ c. search rules)
     (λ c κs. search rules)
     (λ c. search rules)
-    returns
-    returns-2)
+    returns-in-Done
+    returns-in-Refused)

@@ -12,20 +12,20 @@ use Rattle.called.proofs.handed_who.Statement.{statement}
 use Rattle.called.proofs.handed_who.Tie as tie
 
 -- the question is asked of the set and the plan that the numbers give
-asked : (c : tie.After-who) →
-    let a = c.before.before.before.before.before.before.args in
-    c.who.result ≡ who_handed a.set.now a.plan.now a.processor a.tick
+asked : (c : tie.After-who-who) →
+    let a = c.args in
+    c.who-who.result ≡ who_handed a.set.now a.plan.now a.processor a.tick
 asked c =
-    let a = c.before.before.before.before.before.before.args in
-    c.who.ensures ∙ ap₂ (λ (s : TaskSet) (q : Plan). who_runs s q a.processor (record { 0 = a.tick })) c.before.before.set-from.ensures c.before.plan-from.ensures
+    let a = c.args in
+    c.who-who.ensures ∙ ap₂ (λ (s : TaskSet) (q : Plan). who_runs s q a.processor (record { 0 = a.tick })) c.set_from.ensures c.plan_from.ensures
 
 returns : tie.Need-returns
 unfolding who_told who_numbers
 returns c =
-    told_by (λ (w : WhoAnswer). w.outcome) (λ (w : WhoAnswer). w.server ∷ w.left ∷ []) _ (asked c.before.before.before.before.before) refl c.before.before.tell.ensures
+    told_by (λ (w : WhoAnswer). w.outcome) (λ (w : WhoAnswer). w.server ∷ w.left ∷ []) _ (asked c.before.before.before.before.before) refl c.tell.ensures
 
-pub handed-who-spec : {M : Type 1} → statement M
-handed-who-spec =
+pub handed_who_spec : {M : Type 1} → statement M
+handed_who_spec =
     tie.close
     (tie.spec
     (λ c κs. search rules)

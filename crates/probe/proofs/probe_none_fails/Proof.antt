@@ -13,19 +13,23 @@ use Rattle.masking.proofs.OwnLaws.{own_gains}
 use Rattle.probe.proofs.probe_none_fails.Statement.{statement}
 use Rattle.probe.proofs.probe_none_fails.Tie as tie
 
-none-fails-requires : tie.Need-none-fails-requires
-none-fails-requires c κs =
-    let s = c.before.before in
-    let a = s.args in
-    let m = s.requires.1.1 in
-    let own = own_gains _ (loads_of a.loads.now a.n) c.gain-of.ensures (record { masked_small = omega (arith, m.masked_small); due = m.due }) in
-    (s.requires.0, (s.requires.1.0, own))
+none_fails-requires : tie.Need-none_fails-requires
+none_fails-requires c κs =
+    let a = c.args in
+    let m = c.requires.1.1 in
+    let own = own_gains _ (loads_of a.loads.now a.n) c.gain_of-gain.ensures (record { masked_small = omega (arith, m.masked_small); due = m.due }) in
+    (c.requires.0, (c.requires.1.0, own))
 
 returns : tie.Need-returns
 returns c =
-    let a = c.before.before.before.args in
-    c.none-fails.ensures ∙
-    ap (λ (g : ℕ → ℕ). eqb (first_up_to (short g a.slot a.gap 0) a.hi) 0) (ap (λ (k : Gain). gaining k (asked a.loads.now a.n)) c.before.gain-of.ensures)
+    let a = c.args in
+    c.none_fails.ensures ∙
+    ap (λ (g : ℕ → ℕ). eqb (first_up_to (short g a.slot a.gap 0) a.hi) 0) (ap (λ (k : Gain). gaining k (asked a.loads.now a.n)) c.gain_of-gain.ensures)
 
-pub probe-none-fails-spec : {M : Type 1} → statement M
-probe-none-fails-spec = tie.close (tie.spec (λ c κs. search rules) none-fails-requires returns)
+pub probe_none_fails_spec : {M : Type 1} → statement M
+probe_none_fails_spec =
+    tie.close
+    (tie.spec
+    (λ c κs. search rules)
+    none_fails-requires
+    returns)
