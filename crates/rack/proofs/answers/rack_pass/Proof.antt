@@ -11,10 +11,17 @@ use Rattle.rack.proofs.answers.rack_pass.Tie as tie
 returns : tie.Need-returns
 unfolding pass_told pass_numbers
 returns c =
-    let p = c.before.before.before.before.before.before.pass-in in
+    let p = c.pass_in-pass in
     told_by (λ (p : PassAnswer). p.outcome) (λ (p : PassAnswer). verdict_numbers p.verdict) _ p.ensures refl
-    (told_numbers p.result.outcome _ c.before.before.before.before.before.Numbers-of.ensures c.before.before.tell.ensures)
+    (told_numbers p.result.outcome _ c.numbers_of-numbers.ensures c.tell.ensures)
 
-pub rack-pass-spec : {M : Type 1} → statement M
-rack-pass-spec =
-    tie.close (tie.spec (λ c κs. search rules) (λ c κs. search rules) (λ c. search rules) (λ c κs. search rules) (λ c. search rules) returns)
+pub rack_pass_spec : {M : Type 1} → statement M
+rack_pass_spec =
+    tie.close
+    (tie.spec
+    (λ c κs. search rules)
+    (λ c κs. search rules)
+    (λ c. search rules)
+    (λ c κs. search rules)
+    (λ c. search rules)
+    returns)

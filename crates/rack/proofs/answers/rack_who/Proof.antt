@@ -11,7 +11,14 @@ use Rattle.rack.proofs.answers.rack_who.Tie as tie
 returns : tie.Need-returns
 unfolding who_told who_numbers
 returns c =
-    told_by (λ (w : WhoAnswer). w.outcome) (λ (w : WhoAnswer). w.server ∷ w.left ∷ []) _ c.before.before.before.before.before.who-in.ensures refl c.before.before.tell.ensures
+    told_by (λ (w : WhoAnswer). w.outcome) (λ (w : WhoAnswer). w.server ∷ w.left ∷ []) _ c.who_in-who.ensures refl c.tell.ensures
 
-pub rack-who-spec : {M : Type 1} → statement M
-rack-who-spec = tie.close (tie.spec (λ c κs. search rules) (λ c. search rules) (λ c κs. search rules) (λ c. search rules) returns)
+pub rack_who_spec : {M : Type 1} → statement M
+rack_who_spec =
+    tie.close
+    (tie.spec
+    (λ c κs. search rules)
+    (λ c. search rules)
+    (λ c κs. search rules)
+    (λ c. search rules)
+    returns)

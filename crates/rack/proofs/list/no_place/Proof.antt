@@ -13,13 +13,20 @@ use Rattle.rack.proofs.list.no_place.Tie as tie
 told : {own other o : Outcome} → own ≡ other → own ≡ o → status_of (first_of o (Refused Room)) ≡ status_of (first_of other (Refused Room))
 told e f = ap (λ (o : Outcome). status_of (first_of o (Refused Room))) (sym f ∙ e)
 
-returns : tie.Need-returns
-returns c = c.code.ensures ∙ told c.before.before.before.outcome_of_lem.ensures c.before.enum_told.given.1
+returns-in-Done : tie.Need-returns-in-Done
+returns-in-Done c = c.code.ensures ∙ told c.outcome_of-outcome.ensures c.in-Done.is
 
-returns-2 : tie.Need-returns-2
-returns-2 c = c.code2.ensures ∙ told c.before.before.before.before.outcome_of_lem.ensures c.before.before.outcome.given.1
+returns-in-Refused : tie.Need-returns-in-Refused
+returns-in-Refused c = c.code-in-Refused.ensures ∙ told c.outcome_of-outcome.ensures c.in-Refused.is
 
-pub no-place-spec : {M : Type 1} → statement M
-no-place-spec =
+pub no_place_spec : {M : Type 1} → statement M
+no_place_spec =
     tie.close
-    (tie.spec (λ c κs. search rules) (λ c. search rules) (λ c κs. search rules) (λ c. search rules) (λ c κs. search rules) returns returns-2)
+    (tie.spec
+    (λ c κs. search rules)
+    (λ c. search rules)
+    (λ c κs. search rules)
+    (λ c. search rules)
+    (λ c κs. search rules)
+    returns-in-Done
+    returns-in-Refused)

@@ -8,31 +8,29 @@ use Rattle.rack.proofs.ListLaws.{listed_nowhere, listed_bytes, listed_refused}
 use Rattle.rack.proofs.list.rack_switches.Statement.{statement}
 use Rattle.rack.proofs.list.rack_switches.Tie as tie
 
-returns : tie.Need-returns
-returns c =
-    let a = c.before.before.before.before.before.args in
-    listed_nowhere a.tasks.now a.out.now a.answer.now (omega (arith, c.before.if1.true)) c.no_place.ensures
+returns-then-answer-eq0 : tie.Need-returns-then-answer-eq0
+returns-then-answer-eq0 c =
+    let a = c.args in
+    listed_nowhere a.tasks.now a.out.now a.answer.now (omega (arith, c.if-answer-eq0.true)) c.no_place.ensures
 
-returns-2 : tie.Need-returns-2
-returns-2 c =
-    let tried = c.before.before.before.before.before in
-    let a = tried.before.before.before.before.before.before.args in
-    listed_bytes a.tasks.now a.out.now a.answer.now _ (omega (arith, tried.before.before.if1.false))
-    (sym tried.list.ensures.0 ∙ c.before.written.given.1) tried.list.ensures.1
+returns-in-Bytes : tie.Need-returns-in-Bytes
+returns-in-Bytes c =
+    let a = c.args in
+    listed_bytes a.tasks.now a.out.now a.answer.now _ (omega (arith, c.if-answer-eq0.false))
+    (sym c.list-written.ensures.0 ∙ c.in-Bytes.is) c.list-written.ensures.1
 
-returns-3 : tie.Need-returns-3
-returns-3 c =
-    let tried = c.before.before.before.before.before.before in
-    let a = tried.before.before.before.before.before.before.args in
-    listed_refused a.tasks.now a.out.now a.answer.now _ (omega (arith, tried.before.before.if1.false))
-    (sym tried.list.ensures.0 ∙ c.before.before.written2.given.1) tried.list.ensures.1 c.code.ensures
+returns-in-Refused : tie.Need-returns-in-Refused
+returns-in-Refused c =
+    let a = c.args in
+    listed_refused a.tasks.now a.out.now a.answer.now _ (omega (arith, c.if-answer-eq0.false))
+    (sym c.list-written.ensures.0 ∙ c.in-Refused.is) c.list-written.ensures.1 c.code.ensures
 
-pub rack-switches-spec : {M : Type 1} → statement M
-rack-switches-spec =
+pub rack_switches_spec : {M : Type 1} → statement M
+rack_switches_spec =
     tie.close
     (tie.spec
     (λ c κs. search rules)
-    returns
+    returns-then-answer-eq0
     (λ c κs. search rules)
     (λ c. search rules)
     (λ c. search rules)
@@ -40,6 +38,6 @@ rack-switches-spec =
     (λ c κs. search rules)
     (λ c. search rules)
     (λ c. search rules)
-    returns-2
+    returns-in-Bytes
     (λ c. search rules)
-    returns-3)
+    returns-in-Refused)

@@ -5,17 +5,24 @@ use borrow.Author.Rules.{rules}
 use Rattle.rack.proofs.text.rack_plan.Statement.{statement}
 use Rattle.rack.proofs.text.rack_plan.Tie as tie
 
+returns-in_default : tie.Need-returns-in_default
+returns-in_default c =
+    let a = c.args in
+    plan_told a.tasks.now a.out.now _ c.answer.result (Refused c.in_default.field-0) c.in_default.is c.answer.ensures
+
 returns : tie.Need-returns
 returns c =
-    let a = c.before.before.before.before.before.before.before.before.args in
-    plan_told a.tasks.now a.out.now _ c.before.before.before.before.answer.result (Refused c.enum_told.given.0.0) c.enum_told.given.1 c.before.before.before.before.answer.ensures
+    let a = c.args in
+    plan_told a.tasks.now a.out.now _ c.answer.result (Bytes c.in-Bytes.length) c.in-Bytes.is c.answer.ensures
 
-returns-2 : tie.Need-returns-2
-returns-2 c =
-    let a = c.before.before.before.before.before.before.before.before.before.args in
-    plan_told a.tasks.now a.out.now _ c.before.before.before.before.before.answer.result (Bytes c.before.length.given.0.0) c.before.length.given.1 c.before.before.before.before.before.answer.ensures
-
-pub rack-plan-spec : {M : Type 1} → statement M
-rack-plan-spec =
+pub rack_plan_spec : {M : Type 1} → statement M
+rack_plan_spec =
     tie.close
-    (tie.spec (λ c κs. search rules) (λ c. search rules) (λ c. search rules) (λ c. search rules) returns (λ c. search rules) returns-2)
+    (tie.spec
+    (λ c κs. search rules)
+    (λ c. search rules)
+    (λ c. search rules)
+    (λ c. search rules)
+    returns-in_default
+    (λ c. search rules)
+    returns)
