@@ -1,6 +1,0 @@
-pub mod ReadingLaws
-pub mod AlikeLaws
-pub mod CacheLaws
-pub mod PlanningLaws
-pub mod StateLaws
-pub mod Claims

@@ -1,2 +1,0 @@
-pub mod Eased
-pub mod Claims

@@ -1,3 +1,0 @@
-pub mod TasksLaws
-pub mod ProcessorLaws
-pub mod Claims

@@ -1,3 +1,0 @@
-pub mod Computing
-pub mod RowLaws
-pub mod Claims

@@ -1,2 +1,0 @@
-pub mod FittingLaws
-pub mod Claims

@@ -1,2 +1,0 @@
-pub mod Rota
-pub mod Claims

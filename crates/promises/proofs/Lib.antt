@@ -1,3 +1,0 @@
-pub mod PrintLaws
-pub mod Claims
-pub mod Worked

@@ -1,2 +1,0 @@
-pub mod Prints
-pub mod Claims

@@ -1,6 +1,0 @@
-pub mod CountLaws
-pub mod StandLaws
-pub mod StandingLaws
-pub mod WindowLaws
-pub mod Claims
-pub mod Worked

@@ -1,3 +1,0 @@
-pub mod Rota
-pub mod Counted
-pub mod Claims

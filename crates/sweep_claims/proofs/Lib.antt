@@ -1,4 +1,0 @@
-pub mod NumberLaws
-pub mod CountLaws
-pub mod OpensLaws
-pub mod Claims

@@ -1,2 +1,0 @@
-pub mod PlanLaws
-pub mod Claims

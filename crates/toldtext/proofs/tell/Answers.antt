@@ -1,1 +1,0 @@
--- `toldtext::tell` meets its contract, by the answer. Assumes nothing.

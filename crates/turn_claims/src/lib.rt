@@ -1,2 +1,0 @@
-// No code of its own: what is promised of the switches of a turn.
-#![tactic(auto)]
