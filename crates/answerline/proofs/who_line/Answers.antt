@@ -1,0 +1,22 @@
+-- `answerline::who_line` meets its contract: the line of who stands there, or of the refusal.
+-- Assumes nothing.
+use Rattle.whoruns.specs.declared.WhoAnswer.{WhoAnswer}
+use Rattle.planlines.specs.Line.{refusal_text}
+use Rattle.taskplan.proofs.FileLaws.{when_done, when_refused}
+use Rattle.answerwords.specs.Answers.{standLine}
+use Rattle.wordline.proofs.LineLaws.{lined_as}
+use Rattle.answerline.proofs.LineLaws.{refusal_lined}
+use Rattle.answerline.proofs.who_line.Goals as goal
+
+pub returns-in-Done : goal.returns-in-Done
+returns-in-Done c =
+    let a = c.args in
+    lined_as c.fit_stand.ensures
+    (when_done refusal_text (λ (w : WhoAnswer). w.outcome) (λ (w : WhoAnswer). standLine w.server w.left a.processor a.tick) c.who_in-who.ensures c.in-Done.is)
+
+pub returns-in-Refused : goal.returns-in-Refused
+returns-in-Refused c =
+    let a = c.args in
+    let refusal = c.in-Refused in
+    lined_as (refusal_lined refusal.refusal c.fit_refusal.ensures)
+    (when_refused refusal_text (λ (w : WhoAnswer). w.outcome) (λ (w : WhoAnswer). standLine w.server w.left a.processor a.tick) c.who_in-who.ensures refusal.is)

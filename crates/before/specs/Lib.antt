@@ -1,0 +1,5 @@
+pub mod Earlier
+pub mod Reading
+pub mod Planning
+pub mod Answers
+pub mod Claims

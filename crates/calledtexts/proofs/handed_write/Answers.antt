@@ -1,0 +1,1 @@
+-- `calledtexts::handed_write` meets its contract: what the writer answers to the set that the numbers give. Assumes nothing.

@@ -1,0 +1,1 @@
+-- `calledtexts::handed_write_plan` meets its contract: what the writer answers to the set and the plan that the numbers give. Assumes nothing.

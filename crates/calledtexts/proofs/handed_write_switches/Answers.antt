@@ -1,0 +1,2 @@
+-- `calledtexts::handed_write_switches` meets its contract: what the writer of switch lists answers to the set and the plan that the numbers give.
+-- Assumes nothing.

@@ -1,0 +1,2 @@
+pub mod Eased
+pub mod Claims

@@ -1,0 +1,2 @@
+// What is claimed of a server that is eased. No code.
+#![tactic(auto)]

@@ -1,0 +1,3 @@
+pub mod TasksLaws
+pub mod ProcessorLaws
+pub mod Claims

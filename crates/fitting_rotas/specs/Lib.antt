@@ -1,0 +1,2 @@
+pub mod Rota
+pub mod Claims

@@ -1,0 +1,42 @@
+// All servers and all first reserves of a plan, told in numbers. What they are stands in specs/Parts.antt.
+#![tactic(auto)]
+
+ghost use Rattle.std.specs.Prelude.{◌≡◌, ◌+◌, ◌*◌, ◌≤◌, length};
+ghost use Rattle.digits.specs.Stored.{stored};
+ghost use Rattle.tasks.specs.Set.{most_tasks};
+ghost use Rattle.framelines.specs.Lines.{joined};
+ghost use Rattle.handed.specs.Handed.{per_server, servers_at, first_at};
+ghost use Rattle.numberedparts.specs.Parts.{server_numbers_at, stand_numbers_at};
+
+use handed::{EACH, FIRST, SERVERS};
+use numberedserver::put_server;
+use plan::plan::Plan;
+use put_figures::put_figures;
+use tasks::set::TaskSet;
+
+// Puts the numbers of all servers to their place.
+pub fn put_servers(numbers: &mut [u64], plan: Plan)
+    requires { servers_at + most_tasks * per_server ≤ length numbers.old }
+    ensures { numbers.new ≡ stored numbers.old servers_at (joined (server_numbers_at plan.server) most_tasks) }
+{
+    let mut q: usize = 0;
+    while q < TaskSet::MOST_TASKS {
+        let server = plan.server[q];
+        put_server(numbers, SERVERS + EACH * q, server);
+        q += 1;
+    }
+}
+
+// Puts the numbers of all first reserves to their place.
+pub fn put_first(numbers: &mut [u64], plan: Plan)
+    requires { first_at + most_tasks * 2 ≤ length numbers.old }
+    ensures { numbers.new ≡ stored numbers.old first_at (joined (stand_numbers_at plan.first) most_tasks) }
+{
+    let mut p: usize = 0;
+    while p < TaskSet::MOST_TASKS {
+        let first = plan.first[p];
+        let figures = [first.server, first.left];
+        put_figures(numbers, FIRST + 2 * p, &figures);
+        p += 1;
+    }
+}

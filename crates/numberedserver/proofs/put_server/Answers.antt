@@ -1,0 +1,7 @@
+-- `numberedserver::put_server` meets its contract: count, places and the rest are stored one behind the other. Assumes nothing.
+use Rattle.numberedserver.proofs.ServerLaws.{server_stored}
+use Rattle.numberedserver.proofs.put_server.Goals as goal
+
+pub returns : goal.returns
+returns c =
+    server_stored c.args.numbers.now c.args.at c.args.server c.wide_places-places.ensures c.requires c.put_figures.ensures c.put_figures-2.ensures c.put_figures-3.ensures

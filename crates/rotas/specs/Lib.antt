@@ -1,0 +1,3 @@
+pub mod Rota
+pub mod Counted
+pub mod Claims

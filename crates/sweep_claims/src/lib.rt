@@ -1,0 +1,2 @@
+// No code of its own: what is promised of a sweep.
+#![tactic(auto)]

@@ -1,0 +1,14 @@
+pub mod RunLaws
+pub mod ShapedLaws
+pub mod ReachedLaws
+pub mod Exactly
+pub mod Accepted
+pub mod OptionalLaws
+pub mod TaskLineLaws
+pub mod InterruptLaws
+pub mod Prefix
+pub mod RoundTripSet
+pub mod RoundTripText
+pub mod WriteAnswers
+pub mod Examples
+pub mod Claims

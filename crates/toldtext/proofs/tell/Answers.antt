@@ -1,0 +1,1 @@
+-- `toldtext::tell` meets its contract, by the answer. Assumes nothing.

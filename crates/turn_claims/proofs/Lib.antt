@@ -1,0 +1,6 @@
+pub mod StandsLaws
+pub mod ListedLaws
+pub mod ReplayLaws
+pub mod FitLaws
+pub mod Claims
+pub mod Examples
