@@ -25,7 +25,8 @@ pub fn first_alone(
     requires met { Met header (figures_to figures.now n) }
     ensures { result ≡ first_task (fails_alone (board_of header interrupts.now)) (figures_to figures.now n) }
 {
-    if interrupts.len() == 0 {
+    let bare = interrupts.len() == 0;
+    if bare {
         return 0;
     }
     let mut i: usize = 0;

@@ -32,7 +32,8 @@ pub fn first_fails(loads: &[u64], n: usize, gain: Gain, slot: u64, gap: u64, hi:
     }
     let gained = until - 1;
     let near = first_short(loads, n, slot, gap, extra, before, gained);
-    if near != 0 {
+    let fails_near = near != 0;
+    if fails_near {
         return near;
     }
     first_short(loads, n, slot, gap, 0, gained, hi)

@@ -26,13 +26,15 @@ pub fn first_short(
 {
     let mut low = lo;
     let mut top = last_short(loads, n, slot, gap, extra, hi);
-    if top <= lo {
+    let none_short = top <= lo;
+    if none_short {
         return 0;
     }
     while low + 1 < top {
         let mid = low + (top - low) / 2;
         let found = last_short(loads, n, slot, gap, extra, mid);
-        if found <= lo {
+        let none_lower = found <= lo;
+        if none_lower {
             low = mid;
         } else {
             top = found;

@@ -44,7 +44,8 @@ pub fn interrupt_row(text: &[u8], at: usize, lines: usize, count: usize) -> Outc
             Outcome::Refused(Refusal::Order(line))
         }
         Frame::Interrupt => {
-            if count == TaskSet::MOST_INTERRUPTS {
+            let full = count == TaskSet::MOST_INTERRUPTS;
+            if full {
                 return Outcome::Refused(Refusal::Count(line));
             }
             Outcome::Done

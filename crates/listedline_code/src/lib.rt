@@ -79,7 +79,8 @@ pub fn listed_line(text: &[u8], at: usize, frame: Frame, lines: usize, ids: &[u8
     ensures { result ≡ task_or (line_outcome text.now (lines + 1)) (task_at (drop at text.now)) }
 {
     let place = (lines + 1) as u8;
-    if ids.len() == TaskSet::MOST_TASKS {
+    let full = ids.len() == TaskSet::MOST_TASKS;
+    if full {
         return TaskLine::Refused(Refusal::Count(place));
     }
     let task = task_at(text, at, frame);

@@ -18,7 +18,8 @@ pub fn gain_of(loads: &[u64], n: usize, masked: u64) -> Gain
     let mut i: usize = 0;
     while i < n {
         let d = loads[3 * i + 1];
-        if i == 0 {
+        let begins = i == 0;
+        if begins {
             from = d;
         }
         if d < from {

@@ -24,7 +24,8 @@ pub fn pass_served(set: TaskSet, servers: Servers, server: u64, reserve: u64) ->
     ensures { result ≡ does_pass set (plan_made set) server reserve }
 {
     let count = servers.count;
-    if server < 1 {
+    let before_first = server < 1;
+    if before_first {
         return refused_pass(Refusal::Ask);
     }
     if count < server {

@@ -56,11 +56,13 @@ pub fn figures(set: TaskSet) -> Outcome
         return Outcome::Refused(Refusal::Board);
     }
     let task = first_out_of_range(set);
-    if task != 0 {
+    let broken = task != 0;
+    if broken {
         return Outcome::Refused(Refusal::Range(task as u8));
     }
     let interrupt = first_interrupt_out(header.processors, set.interrupts);
-    if interrupt == 0 {
+    let kept = interrupt == 0;
+    if kept {
         return Outcome::Done;
     }
     Outcome::Refused(Refusal::Range((TaskSet::MOST_TASKS + interrupt) as u8))

@@ -23,10 +23,13 @@ pub fn answered(outcome: Outcome, set: TaskSet) -> ReadAnswer
             outcome: Outcome::Done,
             set,
         },
-        Outcome::Refused(refusal) => ReadAnswer {
-            outcome: Outcome::Refused(refusal),
-            set: TaskSet::zero(),
-        },
+        Outcome::Refused(refusal) => {
+            let none = TaskSet::zero();
+            ReadAnswer {
+                outcome: Outcome::Refused(refusal),
+                set: none,
+            }
+        }
     }
 }
 
@@ -44,7 +47,8 @@ pub fn finished(text: &[u8], at: usize, lines: usize, tasks: TaskSet) -> ReadAns
     let Outcome::Done = outcome else {
         return answered(outcome, set);
     };
-    if set.count == 0 {
+    let empty = set.count == 0;
+    if empty {
         let place = (behind + 1) as u8;
         return answered(Outcome::Refused(Refusal::Count(place)), set);
     }

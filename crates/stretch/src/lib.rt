@@ -29,7 +29,8 @@ pub fn stand_after(reserves: &[u64], n: usize, slot: u64, idle: u64, server: u64
         }
         i += 1;
     }
-    if idle != 0 {
+    let has_idle = idle != 0;
+    if has_idle {
         return Stand {
             server: 0,
             left: idle,

@@ -29,7 +29,8 @@ fn out_of_range(cost: u32, deadline: u32, period: u32) -> bool
     if cost < 1 {
         return true;
     }
-    if deadline < cost {
+    let over = deadline < cost;
+    if over {
         return true;
     }
     if period < deadline {

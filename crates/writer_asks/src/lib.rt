@@ -21,7 +21,8 @@ pub fn writer_asks(set: TaskSet) -> bool
         return true;
     }
     let task = first_out_of_range(set);
-    if task != 0 {
+    let broken = task != 0;
+    if broken {
         return true;
     }
     let interrupt = first_interrupt_out(header.processors, set.interrupts);

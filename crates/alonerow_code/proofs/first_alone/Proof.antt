@@ -13,14 +13,14 @@ use Rattle.alonerow_code.proofs.first_alone.Statement.{statement}
 use Rattle.alonerow_code.proofs.first_alone.Tie as tie
 
 abbrev invariant-loop-i : tie.invariant-loop-i
-invariant-loop-i header figures n interrupts horizon i₀ i = Tried (board_of header interrupts) figures n i
+invariant-loop-i header figures n interrupts horizon bare i₀ i = Tried (board_of header interrupts) figures n i
 
 abbrev decreases-loop-i : tie.decreases-loop-i
-decreases-loop-i header figures n interrupts horizon i₀ i = n - i
+decreases-loop-i header figures n interrupts horizon bare i₀ i = n - i
 
-returns-then-interrupts-eq0 : tie.Need-returns-then-interrupts-eq0 invariant-loop-i decreases-loop-i
-returns-then-interrupts-eq0 c =
-    let bare : length c.args.interrupts.now ≡ 0 = omega (arith, c.if-interrupts-eq0.true) in
+returns-then-bare : tie.Need-returns-then-bare invariant-loop-i decreases-loop-i
+returns-then-bare c =
+    let bare : length c.args.interrupts.now ≡ 0 = omega (arith, c.if-bare.true) in
     none_first_alone c.args.interrupts.now c.requires.0 c.requires.1.1 bare
 
 loop-i-init : tie.Need-loop-i-init invariant-loop-i decreases-loop-i
@@ -66,7 +66,7 @@ first_alone_spec =
     (tie.spec
     invariant-loop-i
     decreases-loop-i
-    returns-then-interrupts-eq0
+    returns-then-bare
     loop-i-init
     alone-requires
     overflow_add-result

@@ -55,13 +55,13 @@ first_short-near-requires c κs =
     let e = c.before.before in
     searched e _ _ (omega (arith, e.requires.1.1.small_extra)) (omega (arith, apart e))
 
-returns-then-near-ne0 : tie.Need-returns-then-near-ne0
-returns-then-near-ne0 c =
+returns-then-fails_near : tie.Need-returns-then-fails_near
+returns-then-fails_near c =
     let f = c.before.before in
     let e = f.before.before in
     let a = e.args in
     first_near a.gain (asked a.loads.now a.n) a.slot a.gap e.requires.1.1 e.requires.0.loads.sound (gained e)
-    f.first_short-early.ensures f.if-early-ne0.false c.first_short-near.ensures c.if-near-ne0.true
+    f.first_short-early.ensures f.if-early-ne0.false c.first_short-near.ensures c.if-fails_near.true
 
 returns : tie.Need-returns
 returns c =
@@ -70,7 +70,7 @@ returns c =
     let e = f.before.before in
     let a = e.args in
     first_far a.gain (asked a.loads.now a.n) a.slot a.gap e.requires.1.1 e.requires.0.loads.sound (gained e)
-    f.first_short-early.ensures f.if-early-ne0.false n.first_short-near.ensures c.if-near-ne0.false c.first_short-2.ensures
+    f.first_short-early.ensures f.if-early-ne0.false n.first_short-near.ensures c.if-fails_near.false c.first_short-2.ensures
 
 pub first_fails_spec : {M : Type 1} → statement M
 first_fails_spec =
@@ -84,6 +84,6 @@ first_fails_spec =
     returns-then-early-ne0
     overflow_sub-gained
     first_short-near-requires
-    returns-then-near-ne0
+    returns-then-fails_near
     (λ c κs. search rules)
     returns)

@@ -36,9 +36,9 @@ interrupt : (c : tie.In-Interrupt) → formed Frame.Interrupt (rest c.before.bef
 interrupt c =
     ap (λ (f : Frame). formed f (rest c.before.before.before.before)) (sym c.in-Interrupt.is) ∙ is-formed c.before
 
-returns-then-count-eq-MOST_INTERRUPTS : tie.Need-returns-then-count-eq-MOST_INTERRUPTS
-returns-then-count-eq-MOST_INTERRUPTS c =
-    let full : c.args.count ≡ most_interrupts = omega (arith, c.if-count-eq-MOST_INTERRUPTS.true, c.requires.1.1, c.requires.0.taken.fewer) in
+returns-then-full : tie.Need-returns-then-full
+returns-then-full c =
+    let full : c.args.count ≡ most_interrupts = omega (arith, c.if-full.true, c.requires.1.1, c.requires.0.taken.fewer) in
     sym (said_full c.requires.0.taken (interrupt c.before) c.args.count c.requires.1.1 full)
 
 returns-in_default-frame : tie.Need-returns-in_default-frame
@@ -51,9 +51,9 @@ returns-in-Header : tie.Need-returns-in-Header
 returns-in-Header c =
     sym (said_behind c.requires.0 c.in-Frame.frame (is-formed c.before) c.in-Header.in-Header-own.keys1)
 
-returns-else-count-eq-MOST_INTERRUPTS : tie.Need-returns-else-count-eq-MOST_INTERRUPTS
-returns-else-count-eq-MOST_INTERRUPTS c =
-    sym (said_done c.requires.0.taken (interrupt c.before) c.args.count c.requires.1.1 (λ (full : c.args.count ≡ most_interrupts). omega (arith, c.if-count-eq-MOST_INTERRUPTS.false)))
+returns-else-full : tie.Need-returns-else-full
+returns-else-full c =
+    sym (said_done c.requires.0.taken (interrupt c.before) c.args.count c.requires.1.1 (λ (full : c.args.count ≡ most_interrupts). omega (arith, c.if-full.false)))
 
 pub interrupt_row_spec : {M : Type 1} → statement M
 interrupt_row_spec =
@@ -66,7 +66,7 @@ interrupt_row_spec =
     (λ c. search rules)
     returns-in_default
     (λ c. search rules)
-    returns-then-count-eq-MOST_INTERRUPTS
+    returns-then-full
     returns-in-Header
-    returns-else-count-eq-MOST_INTERRUPTS
+    returns-else-full
     returns-in_default-frame)

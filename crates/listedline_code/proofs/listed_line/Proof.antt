@@ -21,15 +21,15 @@ use Rattle.listedline_code.proofs.listed_line.Tie as tie
 abbrev given : tie.Start → Outcome → TaskLine
 given s o = task_or o (task_at (drop s.args.at s.args.text.now))
 
-returns-then-ids-eq-MOST_TASKS : tie.Need-returns-then-ids-eq-MOST_TASKS
-returns-then-ids-eq-MOST_TASKS c =
+returns-then-full : tie.Need-returns-then-full
+returns-then-full c =
     let s = c.before.before.before in
-    sym (ap (given s) (said_count s.requires.0 s.requires.1.1.0 s.args.ids.now s.requires.1.0 c.if-ids-eq-MOST_TASKS.true))
+    sym (ap (given s) (said_count s.requires.0 s.requires.1.1.0 s.args.ids.now s.requires.1.0 c.if-full.true))
 
 -- what the search for the id says of the line
 by-id : (c : tie.After-holds_id) (b : Bool) → c.holds_id.result ≡ b → line_outcome c.args.text.now (c.args.lines + 1) ≡ when b (Twice (c.args.lines + 1))
 by-id c b e =
-    said_twice c.requires.0 c.requires.1.1.0 c.args.ids.now c.requires.1.0 c.if-ids-eq-MOST_TASKS.false b
+    said_twice c.requires.0 c.requires.1.1.0 c.args.ids.now c.requires.1.0 c.if-full.false b
     (ap (λ (t : Task). some (λ i. eqb i t.id) c.args.ids.now) (sym c.task_at-task.ensures) ∙ (sym c.holds_id.ensures ∙ e))
 
 returns-then-holds_id : tie.Need-returns-then-holds_id
@@ -46,7 +46,7 @@ listed_line_spec =
     (tie.spec
     (λ c. search rules)
     (λ c. search rules)
-    returns-then-ids-eq-MOST_TASKS
+    returns-then-full
     (λ c κs. search rules)
     (λ c κs. search rules)
     returns-then-holds_id

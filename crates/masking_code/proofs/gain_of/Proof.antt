@@ -12,7 +12,7 @@ use Rattle.masking.specs.Masking.{soonest, latest, gain_of}
 use Rattle.masking.proofs.EndsLaws.{soonest_alone, soonest_more, latest_next}
 use Rattle.masking_code.proofs.gain_of.Statement.{statement}
 use Rattle.masking_code.proofs.gain_of.Tie as tie
-use Rattle.masking_code.proofs.gain_of.Lts.{else-d-from, else-i-eq0, else-until-d, then-d-from, then-i-eq0, then-until-d}
+use Rattle.masking_code.proofs.gain_of.Lts.{else-d-from, else-begins, else-until-d, then-d-from, then-begins, then-until-d}
 
 abbrev invariant-loop-i : tie.invariant-loop-i
 invariant-loop-i loads n masked from₀ until₀ i₀ from until i =
@@ -46,18 +46,18 @@ from_next c =
     rw (each_next (load_at numbers) i)
     (⊎_elim
     (λ (e : i ≡ 0).
-    let one : c.if-i-eq0.from ≡ l.deadline = (elim c.if-i-eq0.branch [
-      | then-i-eq0 w ↦ w.from-is
-      | else-i-eq0 w ↦ absurd (w.if-i-eq0.false e)
+    let one : c.if-begins.from ≡ l.deadline = (elim c.if-begins.branch [
+      | then-begins w ↦ w.from-is
+      | else-begins w ↦ absurd (w.if-begins.false e)
     ]) in
     (elim c.if-d-from.branch [
       | then-d-from w ↦ omega (arith, w.if-d-from.true, w.from-is)
       | else-d-from w ↦ omega (arith, w.from-is, one, soonest_alone (loads_of numbers i) l (omega (arith, each_length (load_at numbers) i)))
     ]))
     (λ (n : i ≡ 0 → ⊥).
-    let same : c.if-i-eq0.from ≡ s.loop-i.from = (elim c.if-i-eq0.branch [
-      | then-i-eq0 w ↦ absurd (n w.if-i-eq0.true)
-      | else-i-eq0 w ↦ w.from-is
+    let same : c.if-begins.from ≡ s.loop-i.from = (elim c.if-begins.branch [
+      | then-begins w ↦ absurd (n w.if-begins.true)
+      | else-begins w ↦ w.from-is
     ]) in
     let next = soonest_more (loads_of numbers i) l (omega (arith, each_length (load_at numbers) i)) in
     (elim c.if-d-from.branch [

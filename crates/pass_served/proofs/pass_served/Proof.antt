@@ -45,11 +45,11 @@ module _ (s : tie.Start) where
   costed : length s.args.servers.cache ≡ most_tasks
   costed = s.well_formed.1.0.1.1.1.1.0.1.0.1
 
-returns-then-server-lt1 : tie.Need-returns-then-server-lt1
-returns-then-server-lt1 c =
+returns-then-before_first : tie.Need-returns-then-before_first
+returns-then-before_first c =
     let s = c.before.before in
     let a = s.args in
-    c.refused_pass.ensures ∙ pass_absent a.set (plan_made a.set) (made s) a.server a.reserve (none_first a.set a.server (omega (arith, c.if-server-lt1.true)))
+    c.refused_pass.ensures ∙ pass_absent a.set (plan_made a.set) (made s) a.server a.reserve (none_first a.set a.server (omega (arith, c.if-before_first.true)))
 
 returns-then-count-server : tie.Need-returns-then-count-server
 returns-then-count-server c =
@@ -64,7 +64,7 @@ module _ (c : tie.Else-count-server) where
   start = c.before.before
 
   first : 1 ≤ start.args.server
-  first = omega (arith, c.if-server-lt1.false)
+  first = omega (arith, c.if-before_first.false)
 
   last : start.args.server ≤ start.args.servers.count
   last = omega (arith, c.if-count-server.false)
@@ -107,7 +107,7 @@ pass_served_spec =
     tie.close
     (tie.spec
     (λ c κs. search rules)
-    returns-then-server-lt1
+    returns-then-before_first
     (λ c κs. search rules)
     returns-then-count-server
     (λ c. search rules)

@@ -39,8 +39,8 @@ module _ (c : tie.After-first_out_of_range-task) where
 overflow_cast-result : tie.Need-overflow_cast-result
 overflow_cast-result c = omega (arith, few c.before)
 
-returns-then-task-ne0 : tie.Need-returns-then-task-ne0
-returns-then-task-ne0 c = let d = c.before in sym (figures_task (start d).args.set (board d) (task d) c.if-task-ne0.true)
+returns-then-broken : tie.Need-returns-then-broken
+returns-then-broken c = let d = c.before in sym (figures_task (start d).args.set (board d) (task d) c.if-broken.true)
 
 first_interrupt_out-interrupt-requires : tie.Need-first_interrupt_out-interrupt-requires
 first_interrupt_out-interrupt-requires c κs = (start c.before.before).requires.1
@@ -51,15 +51,15 @@ module _ (c : tie.After-first_interrupt_out-interrupt) where
   ranged = c.before.before.before
 
   interrupts : figures_outcome (start ranged).args.set ≡ at_task range_at c.first_interrupt_out-interrupt.result
-  interrupts = figures_interrupts (start ranged).args.set (board ranged) (task ranged) c.if-task-ne0.false ∙ ap (at_task range_at) (sym c.first_interrupt_out-interrupt.ensures)
+  interrupts = figures_interrupts (start ranged).args.set (board ranged) (task ranged) c.if-broken.false ∙ ap (at_task range_at) (sym c.first_interrupt_out-interrupt.ensures)
 
   few_interrupts : c.first_interrupt_out-interrupt.result ≤ 1 + most_interrupts
   few_interrupts =
       let set : TaskSet = (start ranged).args.set in
       omega (arith, first_within (interrupt_row set.header.processors) 1 (interrupts_in set), c.first_interrupt_out-interrupt.ensures, length-take set.interrupts.count set.interrupts.each, (start ranged).requires.1)
 
-returns-then-interrupt-eq0 : tie.Need-returns-then-interrupt-eq0
-returns-then-interrupt-eq0 c = sym (interrupts c.before ∙ at_none range_at c.first_interrupt_out-interrupt.result c.if-interrupt-eq0.true)
+returns-then-kept : tie.Need-returns-then-kept
+returns-then-kept c = sym (interrupts c.before ∙ at_none range_at c.first_interrupt_out-interrupt.result c.if-kept.true)
 
 overflow_add-result : tie.Need-overflow_add-result
 overflow_add-result c = omega (arith, few_interrupts c.before)
@@ -68,7 +68,7 @@ overflow_cast-result-2 : tie.Need-overflow_cast-result-2
 overflow_cast-result-2 c = omega (arith, few_interrupts c.before)
 
 returns : tie.Need-returns
-returns c = sym (interrupts c.before ∙ at_some range_at c.first_interrupt_out-interrupt.result c.if-interrupt-eq0.false)
+returns c = sym (interrupts c.before ∙ at_some range_at c.first_interrupt_out-interrupt.result c.if-kept.false)
 
 pub figures_spec : {M : Type 1} → statement M
 figures_spec =
@@ -78,9 +78,9 @@ figures_spec =
     returns-then-breaks_board
     (λ c κs. search rules)
     overflow_cast-result
-    returns-then-task-ne0
+    returns-then-broken
     first_interrupt_out-interrupt-requires
-    returns-then-interrupt-eq0
+    returns-then-kept
     overflow_add-result
     overflow_cast-result-2
     returns)

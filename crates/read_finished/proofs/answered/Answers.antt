@@ -14,4 +14,4 @@ pub returns-in-Refused : goal.returns-in-Refused
 returns-in-Refused c =
     let r = c.in-Refused.refusal in
     let zeroed : TaskSet → ReadAnswer = λ set. record { outcome = Refused r; set = set } in
-    ap zeroed c.zero.ensures ∙ sym (ap (λ (o : Outcome). answer o c.args.set) c.in-Refused.is)
+    ap zeroed c.zero-none.ensures ∙ sym (ap (λ (o : Outcome). answer o c.args.set) c.in-Refused.is)

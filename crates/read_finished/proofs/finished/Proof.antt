@@ -29,11 +29,11 @@ overflow_add-place c = omega (arith, few-lines c.before.before.before)
 overflow_cast-place : tie.Need-overflow_cast-place
 overflow_cast-place c = omega (arith, few-lines c.before.before.before)
 
-returns-then-set-eq0 : tie.Need-returns-then-set-eq0
-returns-then-set-eq0 c =
+returns-then-empty : tie.Need-returns-then-empty
+returns-then-empty c =
     let told = c.before.before.before in
     let lines = told.before in
-    c.answered-then-set-eq0.ensures ∙ ended_none lines.requires.1.1 lines.interrupt_lines-rest.ensures told.in-Done.is c.if-set-eq0.true
+    c.answered-then-empty.ensures ∙ ended_none lines.requires.1.1 lines.interrupt_lines-rest.ensures told.in-Done.is c.if-empty.true
 
 -- there is room for the tasks, and for the interrupts, of which there were none
 few : (s : tie.Start) → (s.args.tasks.count ≤ most_tasks) × (s.args.tasks.interrupts.count ≡ 0)
@@ -53,7 +53,7 @@ returns c =
     let set : TaskSet = set_with lines.args.tasks lines.interrupt_lines-rest.result.interrupts in
     c.answered-2.ensures
     ∙ (ap (λ (o : Outcome). answer o set) c.figures.ensures
-    ∙ ended_all lines.requires.1.1 lines.interrupt_lines-rest.ensures told.in-Done.is c.if-set-eq0.false)
+    ∙ ended_all lines.requires.1.1 lines.interrupt_lines-rest.ensures told.in-Done.is c.if-empty.false)
 
 pub finished_spec : {M : Type 1} → statement M
 finished_spec =
@@ -67,7 +67,7 @@ finished_spec =
     overflow_add-place
     overflow_cast-place
     (λ c κs. search rules)
-    returns-then-set-eq0
+    returns-then-empty
     figures-requires
     (λ c κs. search rules)
     returns)

@@ -37,20 +37,20 @@ loop-i-preserved c =
     let whole : at.args.slot ≤ get_or at.args.reserves.now at.loop-i.i 0 = omega (arith, c.if-reserve-slot.false) in
     ticks_same at.requires.0.0 at.loop-i.invariant c.loop-i-test.true whole refl
 
-returns-then-idle-ne0 : tie.Need-returns-then-idle-ne0 invariant-loop-i decreases-loop-i
-returns-then-idle-ne0 c =
+returns-then-has_idle : tie.Need-returns-then-has_idle invariant-loop-i decreases-loop-i
+returns-then-has_idle c =
     let at = c.before.before in
-    let some : 1 ≤ at.args.idle = omega (arith, c.if-idle-ne0.true) in
+    let some : 1 ≤ at.args.idle = omega (arith, c.if-has_idle.true) in
     behind_idle at.requires.0.0 at.requires.1 at.loop-i.invariant c.loop-i-test.false at.requires.0.1 some
 
 -- where there are no idle positions, the ring is there and begins again
-again : (c : tie.Else-idle-ne0 invariant-loop-i decreases-loop-i) →
+again : (c : tie.Else-has_idle invariant-loop-i decreases-loop-i) →
     let a = c.args in
     let rs = take a.n a.reserves.now in
     (0 < ring_length a.slot rs) × (stand_at a.slot rs (record { 0 = 0 }) ≡ stand_after a.slot rs a.server)
 again c =
     let at = c.before.before in
-    let none : idle_positions at.args.slot (take at.args.n at.args.reserves.now) ≡ 0 = omega (arith, c.if-idle-ne0.false, at.requires.0.1) in
+    let none : idle_positions at.args.slot (take at.args.n at.args.reserves.now) ≡ 0 = omega (arith, c.if-has_idle.false, at.requires.0.1) in
     behind_again at.requires.0.0 at.args.server at.requires.1 at.loop-i.invariant c.loop-i-test.false none
 
 stand_at-requires : tie.Need-stand_at-requires invariant-loop-i decreases-loop-i
@@ -73,6 +73,6 @@ stand_after_spec =
     (λ c. search rules)
     (λ c. search rules)
     loop-i-preserved
-    returns-then-idle-ne0
+    returns-then-has_idle
     stand_at-requires
     returns)

@@ -6,13 +6,13 @@ use Rattle.taskrows_code.proofs.out_of_range.Goals as goal
 pub returns-then-cost-lt1 : goal.returns-then-cost-lt1
 returns-then-cost-lt1 c = simp (lt-leb _ _ c.if-cost-lt1.true)
 
-pub returns-then-deadline-cost : goal.returns-then-deadline-cost
-returns-then-deadline-cost c = simp (le-leb _ _ c.if-cost-lt1.false, lt-leb _ _ c.if-deadline-cost.true)
+pub returns-then-over : goal.returns-then-over
+returns-then-over c = simp (le-leb _ _ c.if-cost-lt1.false, lt-leb _ _ c.if-over.true)
 
 pub returns-then-period-deadline : goal.returns-then-period-deadline
-returns-then-period-deadline c = simp (le-leb _ _ c.if-cost-lt1.false, le-leb _ _ c.if-deadline-cost.false, lt-leb _ _ c.if-period-deadline.true)
+returns-then-period-deadline c = simp (le-leb _ _ c.if-cost-lt1.false, le-leb _ _ c.if-over.false, lt-leb _ _ c.if-period-deadline.true)
 
 pub returns : goal.returns
 returns c =
-    simp (le-leb _ _ c.if-cost-lt1.false, le-leb _ _ c.if-deadline-cost.false, le-leb _ _ c.if-period-deadline.false)
+    simp (le-leb _ _ c.if-cost-lt1.false, le-leb _ _ c.if-over.false, le-leb _ _ c.if-period-deadline.false)
     (below_not_most 1000000 c.args.period)

@@ -40,12 +40,12 @@ first_out_of_range-task-requires c κs =
 ranged : (c : tie.After-first_out_of_range-task) → not (eqb c.first_out_of_range-task.result 0) ≡ some range_row (members c.args.set)
 ranged c = ap (λ (n : ℕ). not (eqb n 0)) c.first_out_of_range-task.ensures ∙ first_some range_row 0 (members c.args.set)
 
-returns-then-task-ne0 : tie.Need-returns-then-task-ne0
-returns-then-task-ne0 c =
+returns-then-broken : tie.Need-returns-then-broken
+returns-then-broken c =
     let two = c.before.before in
     let one = two.before.before.before in
     let set = one.args.set in
-    let out : some range_row (members set) ≡ true = sym (ranged c.before) ∙ ap not (ne_eqb _ _ c.if-task-ne0.true) in
+    let out : some range_row (members set) ≡ true = sym (ranged c.before) ∙ ap not (ne_eqb _ _ c.if-broken.true) in
     sym (writer_rows set (carried one) (board two) out refl)
 
 first_interrupt_out-interrupt-requires : tie.Need-first_interrupt_out-interrupt-requires
@@ -60,7 +60,7 @@ returns c =
     let two = three.before.before.before in
     let one = two.before.before.before in
     let set = one.args.set in
-    let in_range : some range_row (members set) ≡ false = sym (ranged three.before.before) ∙ ap not (eq-eqb _ _ three.if-task-ne0.false) in
+    let in_range : some range_row (members set) ≡ false = sym (ranged three.before.before) ∙ ap not (eq-eqb _ _ three.if-broken.false) in
     ap (λ (n : ℕ). not (eqb n 0)) c.first_interrupt_out-interrupt.ensures
     ∙ first_some (interrupt_row set.header.processors) 0 (interrupts_in set)
     ∙ sym (writer_rows set (carried one) (board two) in_range refl)
@@ -74,6 +74,6 @@ writer_asks_spec =
     (λ c κs. search rules)
     returns-then-breaks_board
     first_out_of_range-task-requires
-    returns-then-task-ne0
+    returns-then-broken
     first_interrupt_out-interrupt-requires
     returns)
