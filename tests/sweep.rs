@@ -262,11 +262,22 @@ fn not_opened() {
     folder.same([&shut[..], &odd[..], &["empty", "*"]].concat().join("\n"));
 }
 
-// Bytes of any kind in a name, a path that begins at the root, links, and what is no plain file but can be read.
+// A path is UTF-8 text, as the programs have it: a file of another name is there, and counts as one that can't be opened.
+fn no_text() {
+    let mut folder = Folder::of_each("text");
+    let good = oracle::file(&two_tasks()).into_bytes();
+    for name in [&b"\xFF\x80"[..], b"\xE4", b"good.tasks\xC3", b"\x80good.tasks", b"\xC0\xAF", b"\xED\xA0\x80", b"\xF4\x90\x80\x80"] {
+        folder.put(name, &good);
+        folder.answers.remove(name);
+        folder.same([name, &b"\ngood.tasks\n"[..], name].concat());
+    }
+}
+
+// Any other bytes in a name, a path that begins at the root, links, and what is no plain file but can be read.
 fn opened() {
     let mut folder = Folder::of_each("opened");
     let good = oracle::file(&two_tasks()).into_bytes();
-    let plain = [&b"a b"[..], b" ", b"-", b"--progress", b"\xFF\x80", b"\r", b"\t", b"a\\nb", b"'\"", b"$HOME", b"#", "\u{e4}".as_bytes(), b"x"];
+    let plain = [&b"a b"[..], b" ", b"-", b"--progress", b"\r", b"\t", b"a\\nb", b"'\"", b"$HOME", b"#", "\u{e4}".as_bytes(), b"x"];
     for name in plain {
         folder.put(name, &good);
     }
@@ -602,6 +613,7 @@ fn main() {
         ("sweep, a last name with its LF and without", last_names),
         ("sweep, each number", each_number),
         ("sweep, names that are not opened or not read", not_opened),
+        ("sweep, names that are no text", no_text),
         ("sweep, names that are opened", opened),
         ("sweep, a file that may not be read", unreadable_file),
         ("sweep, names of 255 bytes and more", long_names),
