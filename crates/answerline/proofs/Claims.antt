@@ -8,9 +8,9 @@ use Rattle.framewrite.specs.Line.{fields, line_of}
 use Rattle.planlines.specs.Line.{refusal_text}
 use Rattle.decimaltext.specs.Text.{digits_in, decimal_text}
 use Rattle.wordline.specs.Words.{piece, left, said}
-use Rattle.answerwords.specs.Answers.{standLine, verdictLine}
+use Rattle.answerwords.specs.Answers.{stand_line, verdict_line}
 use Rattle.answerline.specs.Claims as claims
 
 pub ReadsSo : claims.ReadsSo
-unfolding standLine verdictLine said piece left decimal_text digits_in refusal_text line_of fields hex digit_of kind_of widths_of
+unfolding stand_line verdict_line said piece left decimal_text digits_in refusal_text line_of fields hex digit_of kind_of widths_of
 ReadsSo = (refl, refl, refl, refl, refl, refl, refl)

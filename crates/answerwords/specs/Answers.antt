@@ -8,34 +8,34 @@ use Rattle.verdict.specs.declared.answer.Verdict.TheVariants.{Yes, No}
 use Rattle.wordline.specs.Words.{said}
 
 -- the words, with a `#` for each number
-abbrev pub idleWords : List ℕ
-idleWords = bytes_of "processor # is idle at tick #, # ticks left\n"
+abbrev pub idle_words : List ℕ
+idle_words = bytes_of "processor # is idle at tick #, # ticks left\n"
 
-abbrev pub runsWords : List ℕ
-runsWords = bytes_of "server # runs on processor # at tick #, # ticks left\n"
+abbrev pub runs_words : List ℕ
+runs_words = bytes_of "server # runs on processor # at tick #, # ticks left\n"
 
-abbrev pub yesWords : List ℕ
-yesWords = bytes_of "server # passes with reserve #: closest at length #, demand #, supply #, ticks to spare #\n"
+abbrev pub yes_words : List ℕ
+yes_words = bytes_of "server # passes with reserve #: closest at length #, demand #, supply #, ticks to spare #\n"
 
-abbrev pub noWords : List ℕ
-noWords = bytes_of "server # does not pass with reserve #: at length # demand # exceeds supply #\n"
+abbrev pub no_words : List ℕ
+no_words = bytes_of "server # does not pass with reserve #: at length # demand # exceeds supply #\n"
 
 -- who stands on processor p at tick x, and the ticks left; server 0 is idle
-unfoldable pub standLine : (server left p x : ℕ) → List ℕ
-standLine server left p x =
+unfoldable pub stand_line : (server left p x : ℕ) → List ℕ
+stand_line server left p x =
     cond
     (eqb server 0)
-    (said idleWords (p ∷ x ∷ left ∷ []))
-    (said runsWords (server ∷ p ∷ x ∷ left ∷ []))
+    (said idle_words (p ∷ x ∷ left ∷ []))
+    (said runs_words (server ∷ p ∷ x ∷ left ∷ []))
 
 -- the supply less the demand, 0 where the demand is above it
-abbrev pub ticksToSpare : Reading → ℕ
-ticksToSpare reading = reading.supply - reading.demand
+abbrev pub ticks_to_spare : Reading → ℕ
+ticks_to_spare reading = reading.supply - reading.demand
 
 -- whether server q passes with reserve R; then the length that the verdict carries, the demand and the supply there, and
 -- where it passes the ticks to spare
-unfoldable pub verdictLine : Verdict → (q R : ℕ) → List ℕ
-verdictLine (Yes reading) q R =
-    said yesWords (q ∷ R ∷ reading.length ∷ reading.demand ∷ reading.supply ∷ ticksToSpare reading ∷ [])
-verdictLine (No reading) q R =
-    said noWords (q ∷ R ∷ reading.length ∷ reading.demand ∷ reading.supply ∷ [])
+unfoldable pub verdict_line : Verdict → (q R : ℕ) → List ℕ
+verdict_line (Yes reading) q R =
+    said yes_words (q ∷ R ∷ reading.length ∷ reading.demand ∷ reading.supply ∷ ticks_to_spare reading ∷ [])
+verdict_line (No reading) q R =
+    said no_words (q ∷ R ∷ reading.length ∷ reading.demand ∷ reading.supply ∷ [])

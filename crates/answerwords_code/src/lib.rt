@@ -3,7 +3,7 @@
 
 ghost use Rattle.std.specs.Prelude.{◌≡◌};
 ghost use Rattle.wordline.specs.Lined.{Lined};
-ghost use Rattle.answerwords.specs.Answers.{ticksToSpare, verdictLine};
+ghost use Rattle.answerwords.specs.Answers.{ticks_to_spare, verdict_line};
 
 use refusals::Written;
 use verdict::answer::{Reading, Verdict};
@@ -11,7 +11,7 @@ use wordline::fit_words;
 
 // The supply less the demand; 0 where the demand is above it.
 fn ticks_to_spare(reading: Reading) -> u64
-    ensures { result ≡ ticksToSpare reading }
+    ensures { result ≡ ticks_to_spare reading }
 {
     let lacking = reading.supply < reading.demand;
     if lacking {
@@ -21,7 +21,7 @@ fn ticks_to_spare(reading: Reading) -> u64
 }
 
 pub fn fit_verdict(verdict: Verdict, server: u64, reserve: u64, out: &mut [u8]) -> Written
-    ensures { Lined out.old (verdictLine verdict server reserve) result out.new }
+    ensures { Lined out.old (verdict_line verdict server reserve) result out.new }
 {
     match verdict {
         Verdict::Yes(closest) => {

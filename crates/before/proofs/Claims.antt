@@ -42,7 +42,7 @@ use Rattle.switchfile.specs.OfFile.{switched, listed}
 use Rattle.before.specs.Earlier.{Earlier, before04, before05, before07, before08}
 use Rattle.before.specs.Reading.{had_set, had_read_outcome, had_read}
 use Rattle.before.specs.Planning.{had_plan}
-use Rattle.before.specs.Answers.{hadPlanned, hadFiled, hadAnswered, hadSwitched, hadListed, hadWhoIn, hadPassIn}
+use Rattle.before.specs.Answers.{had_planned, had_filed, had_answered, had_switched, had_listed, had_who_in, had_pass_in}
 use Rattle.before.specs.Claims as claims
 use Rattle.before.proofs.ReadingLaws.{read_unruled, read_uncached, had_uncached, read_now, read_same}
 use Rattle.before.proofs.PlanningLaws.{set_as_before}
@@ -77,27 +77,27 @@ module _ (P : TaskSet → Type 0) (zeros : P zero_set) (e : Earlier) (text : Lis
   unless_has Done file has = has
   unless_has (Refused r) file has = zeros
 
-  filed_has : P (hadFiled e text).set
-  unfolding hadFiled hadPlanned
+  filed_has : P (had_filed e text).set
+  unfolding had_filed had_planned
   filed_has = unless_has (had_read e text).outcome _ (unless_has (had_plan e (had_read e text).set).outcome _ read_has)
 
 -- a file that is read as before is answered as before, where its set is
 module _ (e : Earlier) (text : List ℕ) (read : read_of text ≡ had_read e text)
-    (planned : claims.SetAsBefore e (had_read e text).set) (asked : claims.SetAsBefore e (hadFiled e text).set) where
-  planned_same : planned_set (had_read e text).set ≡ hadPlanned e (had_read e text).set
-  unfolding planned_set hadPlanned
+    (planned : claims.SetAsBefore e (had_read e text).set) (asked : claims.SetAsBefore e (had_filed e text).set) where
+  planned_same : planned_set (had_read e text).set ≡ had_planned e (had_read e text).set
+  unfolding planned_set had_planned
   planned_same =
       ap (λ (a : PlanAnswer). unless refused_file a.outcome (record { outcome = Done; set = (had_read e text).set; plan = a.plan }))
       planned.plan
 
-  filed_same : filed_of text ≡ hadFiled e text
-  unfolding filed_of hadFiled
+  filed_same : filed_of text ≡ had_filed e text
+  unfolding filed_of had_filed
   filed_same =
       ap (λ (a : ReadAnswer). unless refused_file a.outcome (planned_set a.set)) read
       ∙ ap (λ (file : FileAnswer). unless refused_file (had_read e text).outcome file) planned_same
 
   file_as_before : claims.FileAsBefore e text
-  unfolding answered hadAnswered switched hadSwitched listed hadListed who_in hadWhoIn pass_in hadPassIn
+  unfolding answered had_answered switched had_switched listed had_listed who_in had_who_in pass_in had_pass_in
   file_as_before =
       record {
         read = read;
@@ -105,8 +105,8 @@ module _ (e : Earlier) (text : List ℕ) (read : read_of text ≡ had_read e tex
         printed = ap printed filed_same;
         switches = ap (λ (file : FileAnswer). unless refusal_text file.outcome (plan_switches file.plan)) filed_same;
         list = λ buffer. ap (λ (file : FileAnswer). unless Written.Refused file.outcome (fitted buffer (plan_switches file.plan))) filed_same;
-        who = λ p x. ap (who_of_file p x) filed_same ∙ ap (unless refused_who (hadFiled e text).outcome) (asked.who (hadFiled e text).plan p x);
-        pass = λ q R. ap (pass_of_file q R) filed_same ∙ ap (unless refused_pass (hadFiled e text).outcome) (asked.pass (hadFiled e text).plan q R);
+        who = λ p x. ap (who_of_file p x) filed_same ∙ ap (unless refused_who (had_filed e text).outcome) (asked.who (had_filed e text).plan p x);
+        pass = λ q R. ap (pass_of_file q R) filed_same ∙ ap (unless refused_pass (had_filed e text).outcome) (asked.pass (had_filed e text).plan q R);
       }
 
 -- so is a file of whose set, or of the all-zero set, something holds for which sets are planned as before
@@ -115,7 +115,7 @@ module _ (P : TaskSet → Type 0) (e : Earlier) (by : (set : TaskSet) → P set 
   file_by text lines read =
       file_as_before e text read
       (by (had_read e text).set (read_has P zeros e text lines))
-      (by (hadFiled e text).set (filed_has P zeros e text lines))
+      (by (had_filed e text).set (filed_has P zeros e text lines))
 
 -- what a set had: before Req 05 no rule, before Req 07 no cache costs of tasks either, before Req 08 no interrupts, and before Req 04 no
 -- 05 line

@@ -20,26 +20,26 @@ use Rattle.before.specs.Reading.{had_read}
 use Rattle.before.specs.Planning.{had_plan, had_who, had_pass}
 
 -- a file's set and plan, or its refusal
-unfoldable pub hadPlanned : Earlier → TaskSet → FileAnswer
-hadPlanned e set = unless refused_file (had_plan e set).outcome (record { outcome = Done; set = set; plan = (had_plan e set).plan })
+unfoldable pub had_planned : Earlier → TaskSet → FileAnswer
+had_planned e set = unless refused_file (had_plan e set).outcome (record { outcome = Done; set = set; plan = (had_plan e set).plan })
 
-unfoldable pub hadFiled : Earlier → List ℕ → FileAnswer
-hadFiled e text = unless refused_file (had_read e text).outcome (hadPlanned e (had_read e text).set)
+unfoldable pub had_filed : Earlier → List ℕ → FileAnswer
+had_filed e text = unless refused_file (had_read e text).outcome (had_planned e (had_read e text).set)
 
 -- the bytes that `rota` printed
-unfoldable pub hadAnswered : Earlier → List ℕ → List ℕ
-hadAnswered e text = printed (hadFiled e text)
+unfoldable pub had_answered : Earlier → List ℕ → List ℕ
+had_answered e text = printed (had_filed e text)
 
 -- the bytes that `switches` printed, and the list in a lent buffer
-unfoldable pub hadSwitched : Earlier → List ℕ → List ℕ
-hadSwitched e text = unless refusal_text (hadFiled e text).outcome (plan_switches (hadFiled e text).plan)
+unfoldable pub had_switched : Earlier → List ℕ → List ℕ
+had_switched e text = unless refusal_text (had_filed e text).outcome (plan_switches (had_filed e text).plan)
 
-unfoldable pub hadListed : Earlier → (text buffer : List ℕ) → Written
-hadListed e text buffer = unless Refused (hadFiled e text).outcome (fitted buffer (plan_switches (hadFiled e text).plan))
+unfoldable pub had_listed : Earlier → (text buffer : List ℕ) → Written
+had_listed e text buffer = unless Refused (had_filed e text).outcome (fitted buffer (plan_switches (had_filed e text).plan))
 
 -- the two questions of a file
-unfoldable pub hadWhoIn : Earlier → List ℕ → (p : ℕ) → Tick → WhoAnswer
-hadWhoIn e text p x = unless refused_who (hadFiled e text).outcome (had_who e (hadFiled e text).set (hadFiled e text).plan p x)
+unfoldable pub had_who_in : Earlier → List ℕ → (p : ℕ) → Tick → WhoAnswer
+had_who_in e text p x = unless refused_who (had_filed e text).outcome (had_who e (had_filed e text).set (had_filed e text).plan p x)
 
-unfoldable pub hadPassIn : Earlier → List ℕ → (q R : ℕ) → PassAnswer
-hadPassIn e text q R = unless refused_pass (hadFiled e text).outcome (had_pass e (hadFiled e text).set (hadFiled e text).plan q R)
+unfoldable pub had_pass_in : Earlier → List ℕ → (q R : ℕ) → PassAnswer
+had_pass_in e text q R = unless refused_pass (had_filed e text).outcome (had_pass e (had_filed e text).set (had_filed e text).plan q R)

@@ -24,7 +24,7 @@ use Rattle.switchfile.specs.OfFile.{switched, listed}
 use Rattle.before.specs.Earlier.{Earlier, before04, before05, before07, before08}
 use Rattle.before.specs.Reading.{had_read}
 use Rattle.before.specs.Planning.{had_plan, had_who, had_pass}
-use Rattle.before.specs.Answers.{hadFiled, hadAnswered, hadSwitched, hadListed, hadWhoIn, hadPassIn}
+use Rattle.before.specs.Answers.{had_filed, had_answered, had_switched, had_listed, had_who_in, had_pass_in}
 
 -- no line of the file is a 06 line, or a 05 line, or a 07 line, or an 03 line
 abbrev pub NoRuleLine : List ℕ → Type 0
@@ -42,12 +42,12 @@ NoCachedLine text = (k : ℕ) → 1 ≤ k → formed Frame.Cached (from text k) 
 -- the file is read, planned, printed, listed and asked of as it was then, refused or not
 pub record FileAsBefore (e : Earlier) (text : List ℕ) : Type 0 where
   pub read : read_of text ≡ had_read e text
-  pub filed : filed_of text ≡ hadFiled e text
-  pub printed : answered text ≡ hadAnswered e text
-  pub switches : switched text ≡ hadSwitched e text
-  pub list : (buffer : List ℕ) → listed text buffer ≡ hadListed e text buffer
-  pub who : (p : ℕ) (x : Tick) → who_in text p x ≡ hadWhoIn e text p x
-  pub pass : (q R : ℕ) → pass_in text q R ≡ hadPassIn e text q R
+  pub filed : filed_of text ≡ had_filed e text
+  pub printed : answered text ≡ had_answered e text
+  pub switches : switched text ≡ had_switched e text
+  pub list : (buffer : List ℕ) → listed text buffer ≡ had_listed e text buffer
+  pub who : (p : ℕ) (x : Tick) → who_in text p x ≡ had_who_in e text p x
+  pub pass : (q R : ℕ) → pass_in text q R ≡ had_pass_in e text q R
 
 -- Every file without a 06 line gets the answer that it had before Req 05, byte for byte; without an 03 line either, before Req 07; without
 -- a 07 line either, before Req 08; without a 05 line either, before Req 04.

@@ -18,7 +18,8 @@ pub fn append(high: u64, byte: u8) -> Number
     if byte < 48 {
         return Number::Wrong;
     }
-    if 57 < byte {
+    let above = 57 < byte;
+    if above {
         return Number::Wrong;
     }
     let digit = (byte - 48) as u64;
@@ -31,7 +32,8 @@ pub fn append(high: u64, byte: u8) -> Number
 pub fn decimal(text: &[u8]) -> Number
     ensures { result ≡ decimal_of text.now }
 {
-    if text.len() == 0 {
+    let empty = text.len() == 0;
+    if empty {
         return Number::Wrong;
     }
     let mut value: u64 = 0;

@@ -24,7 +24,8 @@ pub fn supply_at(slot: u64, gap: u64, t: u64) -> u64
 {
     let rest = t % slot;
     let whole = t / slot * (slot - gap);
-    if rest <= gap {
+    let broken = rest <= gap;
+    if broken {
         return whole;
     }
     whole + (rest - gap)

@@ -67,7 +67,7 @@ set_in text = (filed_of text).set
 abbrev pub plan_in : (text : List ℕ) → Plan
 plan_in text = (filed_of text).plan
 
--- A file's set has room for mostTasks tasks, as its type says; also where the file is refused.
+-- A file's set has room for most_tasks tasks, as its type says; also where the file is refused.
 abbrev pub FileFull : Type 0
 FileFull = (text : List ℕ) → length (set_in text).tasks ≡ most_tasks
 

@@ -2,15 +2,16 @@
 #![tactic(auto)]
 
 ghost use Rattle.wordline.specs.Lined.{Lined};
-ghost use Rattle.answerwords.specs.Answers.{standLine};
+ghost use Rattle.answerwords.specs.Answers.{stand_line};
 
 use refusals::Written;
 use wordline::fit_words;
 
 pub fn fit_stand(server: u64, left: u64, processor: u64, tick: u64, out: &mut [u8]) -> Written
-    ensures { Lined out.old (standLine server left processor tick) result out.new }
+    ensures { Lined out.old (stand_line server left processor tick) result out.new }
 {
-    if server == 0 {
+    let idle = server == 0;
+    if idle {
         let numbers = [processor, tick, left];
         return fit_words(
             b"processor # is idle at tick #, # ticks left\n",

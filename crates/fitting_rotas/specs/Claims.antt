@@ -14,7 +14,7 @@ use Rattle.alonerow.specs.Alone.{alone_row}
 use Rattle.rotas.specs.Rota.{Standing}
 use Rattle.fitting_rotas.specs.Rota.{rota_of}
 
--- a set of no more than mostTasks tasks and mostInterrupts interrupts whose rows 5 to 9 are clear may be charged
+-- a set of no more than most_tasks tasks and most_interrupts interrupts whose rows 5 to 9 are clear may be charged
 abbrev pub ClearCharged : Type 0
 ClearCharged =
     (set : TaskSet) → set.count ≤ most_tasks → set.interrupts.count ≤ most_interrupts → RowsClear set → Chargeable set

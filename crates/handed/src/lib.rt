@@ -37,7 +37,8 @@ pub fn optional_from(numbers: &[u64], at: usize) -> Optional
     requires { at ≤ most_numbers }
     ensures { result ≡ optional_from numbers.now at }
 {
-    if number_at(numbers, at) == 0 {
+    let absent = number_at(numbers, at) == 0;
+    if absent {
         return Optional::Absent;
     }
     Optional::Given((number_at(numbers, at + 1) % HALF) as u16)

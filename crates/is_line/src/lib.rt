@@ -39,7 +39,8 @@ pub fn is_line(text: &[u8], at: usize, frame: Frame) -> bool
         return false;
     }
     let end = at + n;
-    if text[end] != b'\n' {
+    let open = text[end] != b'\n';
+    if open {
         return false;
     }
     all_legal(text, at, n)

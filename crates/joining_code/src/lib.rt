@@ -55,9 +55,10 @@ pub fn server_for(
         let own = kept_at(work, jobs, cache, soonest, at);
         let room = room_in(own, horizon);
         if worth_asking(fit, found, room, held) {
-            if may_take(
+            let takes = may_take(
                 header, figures, placement, i, q, own, share, interrupts, horizon,
-            ) {
+            );
+            if takes {
                 found = q;
                 held = room;
             }

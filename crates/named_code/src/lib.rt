@@ -35,7 +35,8 @@ pub fn is_allowed_to(header: Header, cache: u64, reserve: u64) -> bool
 pub fn is_server(plan: Plan, server: u64) -> bool
     ensures { result ≡ is_server plan server }
 {
-    if server < 1 {
+    let before_first = server < 1;
+    if before_first {
         return false;
     }
     server <= plan.servers

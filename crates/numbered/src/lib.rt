@@ -21,7 +21,8 @@ pub fn put_plan(answer: &mut [u64], plan: Plan) -> u64
     ensures value { result ≡ status_of (told_of Done (plan_numbers plan) answer.old) }
     ensures answer_after { answer.new ≡ leaves_numbers (told_of Done (plan_numbers plan) answer.old) (plan_numbers plan) answer.old }
 {
-    if answer.len() < NUMBERS {
+    let short = answer.len() < NUMBERS;
+    if short {
         return code(Refusal::Room);
     }
     let figures = [plan.whole, plan.ring, plan.servers, plan.slot, plan.idle];

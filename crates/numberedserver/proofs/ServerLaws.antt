@@ -13,7 +13,7 @@ use Rattle.plan.specs.declared.server.Server.{Server}
 use Rattle.handed.specs.Handed.{per_server}
 use Rattle.numberedserver.specs.Server.{place_numbers, server_numbers}
 
--- the places of a server are mostTasks numbers, a server is perServer
+-- the places of a server are most_tasks numbers, a server is per_server
 pub places_length : (places : List ℕ) → length (place_numbers places) ≡ most_tasks
 unfolding place_numbers
 places_length places = up_length _ most_tasks

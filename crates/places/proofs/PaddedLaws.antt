@@ -11,7 +11,7 @@ use Rattle.tasks.specs.Set.{most_tasks}
 use Rattle.places.specs.Padded.{pad_with, padded, up_to}
 
 module _ {A : Type 0} (filler : A) where
-  -- there are mostTasks places
+  -- there are most_tasks places
   pub pad_length : (xs : List A) → length xs ≤ most_tasks → length (pad_with filler xs) ≡ most_tasks
   pad_length xs h = length-append xs (replicate (most_tasks - length xs) filler) ∙ omega (arith, length-replicate {A = A} (most_tasks - length xs) filler)
 

@@ -1,4 +1,4 @@
--- A list in mostTasks places, the unused room at a filler: the form in which answers carry a list. For numbers the filler is zero.
+-- A list in most_tasks places, the unused room at a filler: the form in which answers carry a list. For numbers the filler is zero.
 -- Document 01: "Unused room is zero in every answer and is not compared." (RULES 6.6)
 use Rattle.std.specs.Prelude.{ℕ, zero, suc, ◌-◌, List, [], ◌∷◌, ◌++◌, length, replicate}
 use Rattle.tasks.specs.Set.{most_tasks}

@@ -258,7 +258,7 @@ pub record FittingPlan (set : TaskSet) (plan : Plan) : Type 0 where
   pub needs : Needs set plan
 
 -- Whoever placed the tasks: the plan of any fitting placement is all of this, where row 11 and rows 5 to 9 are clear. A set has
--- room for mostTasks tasks, by its type.
+-- room for most_tasks tasks, by its type.
 abbrev pub PlanFitting : Type 0
 PlanFitting =
     (set : TaskSet) (placement : List ℕ) → length set.tasks ≡ most_tasks → Clear set → Fitting (set_board set) (set_figures set) placement →

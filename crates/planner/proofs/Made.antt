@@ -53,11 +53,11 @@ module _ (set : TaskSet) (full : length set.tasks ≡ most_tasks) (clear : Clear
   pub rows_clear : RowsClear set
   rows_clear = charged_clear set clear.charged
 
-  -- at most mostTasks tasks
+  -- at most most_tasks tasks
   pub count_most : set.count ≤ most_tasks
   count_most = (count_within set (ask_count set clear.carried)).1
 
-  -- and mostInterrupts interrupts
+  -- and most_interrupts interrupts
   pub interrupts_most : set.interrupts.count ≤ most_interrupts
   interrupts_most = interrupts_within set (ask_count set clear.carried)
 
@@ -102,7 +102,7 @@ module _ (set : TaskSet) (full : length set.tasks ≡ most_tasks) (clear : Clear
   unfolding set_reserves reserves_with set_placement
   set_count = reserves_count (set_board set) (set_figures set) (placement_of (set_board set) (set_figures set))
 
-  -- there are at most mostTasks servers
+  -- there are at most most_tasks servers
   pub set_few : servers_in (set_placement set) ≤ most_tasks
   unfolding set_placement
   set_few = omega (arith, servers_few (set_board set) (set_figures set), few_figures)

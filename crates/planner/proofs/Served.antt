@@ -34,7 +34,7 @@ module _ (b : Board) (figures : List Figures) (few : length figures ≤ most_tas
   abbrev caches : List ℕ
   caches = caches_of figures (placement_of b figures)
 
-  -- there are at most mostTasks servers
+  -- there are at most most_tasks servers
   pub count_few : servers_in placement ≤ most_tasks
   count_few = omega (arith, servers_few b figures)
 

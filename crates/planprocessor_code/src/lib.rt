@@ -18,7 +18,8 @@ pub fn is_processor(plan: Plan, processor: u64) -> bool
     requires { plan.ring + plan.whole ≤ most_tasks }
     ensures { result ≡ is_processor plan processor }
 {
-    if processor < 1 {
+    let before_first = processor < 1;
+    if before_first {
         return false;
     }
     processor <= plan.ring + plan.whole

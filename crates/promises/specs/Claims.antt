@@ -35,7 +35,7 @@ abbrev pub AcceptedStands : Type 0
 AcceptedStands = (set : TaskSet) → Accepted set → Standing (rota_of set (set_placement set))
 
 -- and a plan that the planner makes of a set, its own or one handed in, prints this rota.
--- A set has room for mostTasks tasks, by its type.
+-- A set has room for most_tasks tasks, by its type.
 abbrev pub PlanIsRota : Type 0
 PlanIsRota =
     (set : TaskSet) (plan : Plan) → length set.tasks ≡ most_tasks → makes set plan ≡ true →

@@ -3,7 +3,7 @@ use Rattle.std.specs.Prelude.{ℕ, ◌≤◌, ◌≡◌, ◌↔◌, Bool}
 use Rattle.search.specs.Search.{NoneIn}
 use Rattle.slack.specs.Least.{least_up_to, Least}
 
--- leastUpTo answers t exactly when t is the smallest in 1..n with the smallest value, and 0 exactly when none in 1..n has p
+-- least_up_to answers t exactly when t is the smallest in 1..n with the smallest value, and 0 exactly when none in 1..n has p
 abbrev pub LeastMeans : Type 0
 LeastMeans =
     (p : ℕ → Bool) (v : ℕ → ℕ) (n : ℕ)

@@ -22,7 +22,7 @@ use Rattle.filed_claims.specs.Claims.{FileAccepted, plan_in}
 use Rattle.switchlist.specs.Write.{plan_switches, write_switches}
 use Rattle.switchfile.specs.OfFile.{switched, listed}
 
--- ---- a plan that is handed in with its set. A set has room for mostTasks tasks, by its type.
+-- ---- a plan that is handed in with its set. A set has room for most_tasks tasks, by its type.
 
 -- Refusals: ASK and ROOM as for the plan writer, exactly.
 abbrev pub SwitchesWritten : Type 0

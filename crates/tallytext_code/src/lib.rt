@@ -51,7 +51,8 @@ fn met_values(tally: Tally) -> [u64; FIGURES]
 pub fn fit_tally(tally: Tally, out: &mut [u8]) -> Written
     ensures { Fits out.old (tally_text tally) result out.new }
 {
-    if out.len() < BYTES {
+    let short = out.len() < BYTES;
+    if short {
         return Written::Refused(Refusal::Room);
     }
     let first = [tally.accepted];

@@ -11,10 +11,12 @@ use tasks::set::TaskSet;
 pub fn breaks_count(set: TaskSet) -> bool
     ensures { result ≡ count_row set }
 {
-    if set.count == 0 {
+    let none = set.count == 0;
+    if none {
         return true;
     }
-    if TaskSet::MOST_TASKS < set.count {
+    let too_many = TaskSet::MOST_TASKS < set.count;
+    if too_many {
         return true;
     }
     let interrupts = set.interrupts;

@@ -10,13 +10,15 @@ use tasks::set::{Header, Interrupt, Task, TaskSet};
 pub fn breaks_board(header: Header) -> bool
     ensures { result ≡ board_row header }
 {
-    if header.processors < 1 {
+    let no_processor = header.processors < 1;
+    if no_processor {
         return true;
     }
     if TaskSet::MOST_PROCESSORS < header.processors {
         return true;
     }
-    if header.slot == 0 {
+    let no_slot = header.slot == 0;
+    if no_slot {
         return true;
     }
     TaskSet::LAST_RULE < header.rule_number()

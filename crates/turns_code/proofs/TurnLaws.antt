@@ -123,7 +123,7 @@ each_set f n t v h =
         get_or-set_other (each f n) t i v 0 (λ e. d (sym e)) ∙ each_at f 0 n i l ∙ sym (cond_eqb_not v (f i) d) ∙ sym (each_at g 0 n i l))
         (eq_or_ne t i)
 
--- the same in mostTasks places
+-- the same in most_tasks places
 padded_set : (f : ℕ → ℕ) (n t v : ℕ) → t < n → set (padded (each f n)) t v ≡ padded (each (λ (i : ℕ). cond (eqb t i) v (f i)) n)
 padded_set f n t v h =
     set-append_left (each f n) (replicate (most_tasks - length (each f n)) 0) t v (omega (arith, each_length f n)) ∙

@@ -15,7 +15,8 @@ pub fn whole_server(reserves: &[u64], n: usize, slot: u64, k: u64) -> u64
     while i < n {
         let reserve = reserves[i];
         if slot <= reserve {
-            if more == 0 {
+            let here = more == 0;
+            if here {
                 return i as u64 + 1;
             }
             more -= 1;

@@ -10,5 +10,6 @@ pub fn ceiling(a: u64, b: u64) -> u64
     ensures { result ≡ ceiling_of a b }
 {
     let q = a / b;
-    if a % b == 0 { q } else { q + 1 }
+    let whole = a % b == 0;
+    if whole { q } else { q + 1 }
 }

@@ -3,7 +3,7 @@
 use Rattle.doespass.specs.declared.PassAnswer.{PassAnswer}
 use Rattle.planlines.specs.Line.{refusal_text}
 use Rattle.taskplan.proofs.FileLaws.{when_done, when_refused}
-use Rattle.answerwords.specs.Answers.{verdictLine}
+use Rattle.answerwords.specs.Answers.{verdict_line}
 use Rattle.wordline.proofs.LineLaws.{lined_as}
 use Rattle.answerline.proofs.LineLaws.{refusal_lined}
 use Rattle.answerline.proofs.pass_line.Goals as goal
@@ -12,11 +12,11 @@ pub returns-in-Done : goal.returns-in-Done
 returns-in-Done c =
     let a = c.args in
     lined_as c.fit_verdict.ensures
-    (when_done refusal_text (λ (w : PassAnswer). w.outcome) (λ (w : PassAnswer). verdictLine w.verdict a.server a.reserve) c.pass_in-pass.ensures c.in-Done.is)
+    (when_done refusal_text (λ (w : PassAnswer). w.outcome) (λ (w : PassAnswer). verdict_line w.verdict a.server a.reserve) c.pass_in-pass.ensures c.in-Done.is)
 
 pub returns-in-Refused : goal.returns-in-Refused
 returns-in-Refused c =
     let a = c.args in
     let refusal = c.in-Refused in
     lined_as (refusal_lined refusal.refusal c.fit_refusal.ensures)
-    (when_refused refusal_text (λ (w : PassAnswer). w.outcome) (λ (w : PassAnswer). verdictLine w.verdict a.server a.reserve) c.pass_in-pass.ensures refusal.is)
+    (when_refused refusal_text (λ (w : PassAnswer). w.outcome) (λ (w : PassAnswer). verdict_line w.verdict a.server a.reserve) c.pass_in-pass.ensures refusal.is)

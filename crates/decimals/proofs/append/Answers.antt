@@ -8,8 +8,8 @@ use Rattle.decimals.proofs.append.Goals as goal
 pub returns-then-byte-lt48 : goal.returns-then-byte-lt48
 returns-then-byte-lt48 c = sym (below_digits _ _ [] (omega arith))
 
-pub returns-then-byte-gt57 : goal.returns-then-byte-gt57
-returns-then-byte-gt57 c = sym (above_digits _ _ [] (omega arith))
+pub returns-then-above : goal.returns-then-above
+returns-then-above c = sym (above_digits _ _ [] (omega arith))
 
 pub returns-then-digit-high : goal.returns-then-digit-high
 returns-then-digit-high c = sym (digit_large _ _ [] (omega arith) (omega arith) (omega arith))

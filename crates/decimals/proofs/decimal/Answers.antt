@@ -5,8 +5,8 @@ use native.Mathlib.Omega.{arith}
 use Rattle.decimals.proofs.DecimalLaws.{decimal_of_lem, decimal_none, read_out, next_of, next_wrong}
 use Rattle.decimals.proofs.decimal.Goals as goal
 
-pub returns-then-text-eq0 : goal.returns-then-text-eq0
-returns-then-text-eq0 c = sym (decimal_none _ c.if-text-eq0.true)
+pub returns-then-empty : goal.returns-then-empty
+returns-then-empty c = sym (decimal_none _ c.if-empty.true)
 
 pub loop-i-init : goal.loop-i-init
 loop-i-init c = (omega arith, omega arith, sym (decimal_of_lem _ (omega arith)))

@@ -9,9 +9,9 @@ use Rattle.demand_code.proofs.supply_at.Goals as goal
 pub overflow_mul-whole : goal.overflow_mul-whole
 overflow_mul-whole c = omega (arith, slots_within c.args.slot c.args.gap c.args.t)
 
-pub returns-then-rest-gap : goal.returns-then-rest-gap
+pub returns-then-broken : goal.returns-then-broken
 unfolding supply_past
-returns-then-rest-gap c = omega arith
+returns-then-broken c = omega arith
 
 pub overflow_add-result : goal.overflow_add-result
 unfolding supply_past

@@ -17,9 +17,9 @@ fit_words-requires-2 c = search rules
 pub returns : goal.returns
 returns c =
     let a = c.args in
-    lined_as c.fit_words-2.ensures (runs_line a.server a.left a.processor a.tick c.if-server-eq0.false)
+    lined_as c.fit_words-2.ensures (runs_line a.server a.left a.processor a.tick c.if-idle.false)
 
-pub returns-then-server-eq0 : goal.returns-then-server-eq0
-returns-then-server-eq0 c =
+pub returns-then-idle : goal.returns-then-idle
+returns-then-idle c =
     let a = c.args in
-    lined_as c.fit_words.ensures (idle_line a.server a.left a.processor a.tick c.if-server-eq0.true)
+    lined_as c.fit_words.ensures (idle_line a.server a.left a.processor a.tick c.if-idle.true)

@@ -2,8 +2,8 @@
 use borrow.Author.Tests.{eq-eqb, ne_eqb}
 use Rattle.handed.proofs.optional_from.Goals as goal
 
-pub returns-then-number_at-eq0 : goal.returns-then-number_at-eq0
-returns-then-number_at-eq0 c = rw (← c.number_at.ensures, eq-eqb _ _ c.if-number_at-eq0.true)
+pub returns-then-absent : goal.returns-then-absent
+returns-then-absent c = rw (← c.number_at-absent.ensures, eq-eqb _ _ c.if-absent.true)
 
 pub returns : goal.returns
-returns c = rw (c.number_at-2.ensures, ← c.number_at.ensures, ne_eqb _ _ c.if-number_at-eq0.false)
+returns c = rw (c.number_at.ensures, ← c.number_at-absent.ensures, ne_eqb _ _ c.if-absent.false)

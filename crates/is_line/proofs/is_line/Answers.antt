@@ -19,10 +19,10 @@ returns-then-text-at c =
     let short : length a.text.now - a.at ≤ c.length-n.result = omega (arith, c.if-text-at.true) in
     sym (not_long a.frame a.text.now a.at _ c.length-n.ensures short)
 
-pub returns-then-text-end-ne10 : goal.returns-then-text-end-ne10
-returns-then-text-end-ne10 c =
+pub returns-then-open : goal.returns-then-open
+returns-then-open c =
     let a = c.args in
-    sym (not_ended a.frame a.text.now a.at _ c.length-n.ensures c.if-text-end-ne10.true)
+    sym (not_ended a.frame a.text.now a.at _ c.length-n.ensures c.if-open.true)
 
 pub returns : goal.returns
 returns c =
@@ -33,5 +33,5 @@ returns c =
     ∙ sym
     (rest_legal a.frame a.text.now a.at _ size.ensures
     long
-    c.if-text-end-ne10.false
+    c.if-open.false
     (sym c.is_kind.ensures ∙ not-false _ c.if-not-is_kind.false-raw))

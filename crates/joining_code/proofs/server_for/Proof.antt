@@ -90,8 +90,8 @@ room_in-room-requires c κs =
       omega (arith, ap (λ (s : Share). s.cache) own, costs.0, costs.1),
     )
 
-may_take-requires : tie.Need-may_take-requires invariant-loop-q decreases-loop-q
-may_take-requires c κs =
+may_take-takes-requires : tie.Need-may_take-takes-requires invariant-loop-q decreases-loop-q
+may_take-takes-requires c κs =
     let own = c.before.before.before in
     let at = own.before in
     let s = start at in
@@ -105,23 +105,23 @@ module _ (c : tie.After-room_in-room invariant-loop-q decreases-loop-q) where
   own_room : c.room_in-room.result ≡ room turn (q turn + 1)
   own_room = c.room_in-room.ensures ∙ ap (λ (s : Share). (start turn).args.horizon - (s.work + s.cache * s.jobs)) c.kept_at-own.ensures ∙ room_is (coming turn) (q turn) (below turn)
 
-loop-q-smaller-then-may_take : tie.Need-loop-q-smaller-then-may_take invariant-loop-q decreases-loop-q
-loop-q-smaller-then-may_take c = less (turn c.before.before.before.before)
+loop-q-smaller-then-takes : tie.Need-loop-q-smaller-then-takes invariant-loop-q decreases-loop-q
+loop-q-smaller-then-takes c = less (turn c.before.before.before.before)
 
-loop-q-preserved-then-may_take : tie.Need-loop-q-preserved-then-may_take invariant-loop-q decreases-loop-q
-loop-q-preserved-then-may_take c =
+loop-q-preserved-then-takes : tie.Need-loop-q-preserved-then-takes invariant-loop-q decreases-loop-q
+loop-q-preserved-then-takes c =
     let at = c.before.before.before.before in (
-      walk_moves (walked (turn at)) (own_room at) (sym c.worth_asking.ensures ∙ c.if-worth_asking.true) (sym c.may_take.ensures ∙ c.if-may_take.true),
+      walk_moves (walked (turn at)) (own_room at) (sym c.worth_asking.ensures ∙ c.if-worth_asking.true) (sym c.may_take-takes.ensures ∙ c.if-takes.true),
       further (turn at),
     )
 
-loop-q-smaller-else-may_take : tie.Need-loop-q-smaller-else-may_take invariant-loop-q decreases-loop-q
-loop-q-smaller-else-may_take c = less (turn c.before.before.before.before)
+loop-q-smaller-else-takes : tie.Need-loop-q-smaller-else-takes invariant-loop-q decreases-loop-q
+loop-q-smaller-else-takes c = less (turn c.before.before.before.before)
 
-loop-q-preserved-else-may_take : tie.Need-loop-q-preserved-else-may_take invariant-loop-q decreases-loop-q
-loop-q-preserved-else-may_take c =
+loop-q-preserved-else-takes : tie.Need-loop-q-preserved-else-takes invariant-loop-q decreases-loop-q
+loop-q-preserved-else-takes c =
     let at = c.before.before.before.before in
-    (walk_refused (walked (turn at)) (sym c.may_take.ensures ∙ c.if-may_take.false), further (turn at))
+    (walk_refused (walked (turn at)) (sym c.may_take-takes.ensures ∙ c.if-takes.false), further (turn at))
 
 loop-q-smaller : tie.Need-loop-q-smaller invariant-loop-q decreases-loop-q
 loop-q-smaller c = less (turn c.before.before)
@@ -152,11 +152,11 @@ server_for_spec =
     kept_at-own-requires
     room_in-room-requires
     (λ c κs. search rules)
-    may_take-requires
-    loop-q-smaller-then-may_take
-    loop-q-preserved-then-may_take
-    loop-q-smaller-else-may_take
-    loop-q-preserved-else-may_take
+    may_take-takes-requires
+    loop-q-smaller-then-takes
+    loop-q-preserved-then-takes
+    loop-q-smaller-else-takes
+    loop-q-preserved-else-takes
     loop-q-smaller
     loop-q-preserved
     (λ c. search rules)

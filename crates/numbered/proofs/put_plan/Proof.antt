@@ -14,8 +14,8 @@ use Rattle.numbered.proofs.put_plan.Tie as tie
 full : (s : tie.Start) → length s.args.plan.placement ≡ most_tasks
 full s = s.well_formed.1.0.1.1.1.1.1.1.1.1.0.1.0.1
 
-returns-then-answer-lt-NUMBERS : tie.Need-returns-then-answer-lt-NUMBERS
-returns-then-answer-lt-NUMBERS c =
+returns-then-short : tie.Need-returns-then-short
+returns-then-short c =
     let s = c.before.before.before in
     told_room (plan_numbers s.args.plan) s.args.answer.now (omega (arith, plan_length s.args.plan (full s))) c.code.ensures
 
@@ -30,15 +30,15 @@ returns c =
     let figures = servers.before.before.before.before in
     let test = figures.before.before.before in
     let s = test.before.before in
-    told_stored (plan_numbers s.args.plan) s.args.answer.now (omega (arith, test.if-answer-lt-NUMBERS.false, plan_length s.args.plan (full s)))
-    (plan_stored s.args.plan (full s) s.args.answer.now test.if-answer-lt-NUMBERS.false figures.put_figures.ensures servers.put_servers.ensures placement.put_figures-2.ensures first.put_first.ensures)
+    told_stored (plan_numbers s.args.plan) s.args.answer.now (omega (arith, test.if-short.false, plan_length s.args.plan (full s)))
+    (plan_stored s.args.plan (full s) s.args.answer.now test.if-short.false figures.put_figures.ensures servers.put_servers.ensures placement.put_figures-2.ensures first.put_first.ensures)
 
 pub put_plan_spec : {M : Type 1} → statement M
 put_plan_spec =
     tie.close
     (tie.spec
     (λ c κs. search rules)
-    returns-then-answer-lt-NUMBERS
+    returns-then-short
     (λ c. search rules)
     (λ c κs. search rules)
     (λ c κs. search rules)

@@ -23,23 +23,23 @@ use Rattle.readings.proofs.verdict.Tie as tie
 abbrev start : tie.After-gain_of-gain → tie.Start
 start c = c.before.before.before
 
-abbrev loadsAt : tie.After-gain_of-gain → List Load
-loadsAt c = loads_of (start c).args.loads.now (start c).args.n
+abbrev loads_at_gain : tie.After-gain_of-gain → List Load
+loads_at_gain c = loads_of (start c).args.loads.now (start c).args.n
 
 -- what is asked, with the gain
 abbrev asking : tie.After-gain_of-gain → ℕ → ℕ
 asking c = gaining c.gain_of-gain.result (asked (start c).args.loads.now (start c).args.n)
 
 -- the gain is the loads' own
-own : (c : tie.After-gain_of-gain) → Gains c.gain_of-gain.result (loadsAt c) (start c).args.horizon
+own : (c : tie.After-gain_of-gain) → Gains c.gain_of-gain.result (loads_at_gain c) (start c).args.horizon
 own c =
     let m = (start c).requires.1.1.1 in
-    own_gains _ (loadsAt c) c.gain_of-gain.ensures (record { masked_small = omega (arith, m.masked_small); due = m.due })
+    own_gains _ (loads_at_gain c) c.gain_of-gain.ensures (record { masked_small = omega (arith, m.masked_small); due = m.due })
 
 -- so the verdict on it is that with their gain
 masked : (c : tie.After-gain_of-gain) →
     let a = (start c).args in
-    verdict_of (asking c) a.horizon a.slot a.loss a.reserve ≡ verdict_of (gaining (gain_of a.masked (loadsAt c)) (asked a.loads.now a.n)) a.horizon a.slot a.loss a.reserve
+    verdict_of (asking c) a.horizon a.slot a.loss a.reserve ≡ verdict_of (gaining (gain_of a.masked (loads_at_gain c)) (asked a.loads.now a.n)) a.horizon a.slot a.loss a.reserve
 masked c =
     let a = (start c).args in
     ap (λ (g : ℕ → ℕ). verdict_of g a.horizon a.slot a.loss a.reserve) (ap (λ (k : Gain). gaining k (asked a.loads.now a.n)) c.gain_of-gain.ensures)

@@ -7,12 +7,12 @@ use Rattle.wholes.proofs.CeilingLaws.{quotient_below}
 use Rattle.wholes_code.proofs.ceiling.Goals as goal
 
 pub overflow_add-result : goal.overflow_add-result
-overflow_add-result c = omega (arith, quotient_below c.args.a c.args.b c.requires c.if-a-b-eq0.false)
+overflow_add-result c = omega (arith, quotient_below c.args.a c.args.b c.requires c.if-whole.false)
 
-pub returns-then-a-b-eq0 : goal.returns-then-a-b-eq0
+pub returns-then-whole : goal.returns-then-whole
 unfolding ceiling_of
-returns-then-a-b-eq0 c = simp (eq-eqb _ _ c.if-a-b-eq0.true) (omega arith)
+returns-then-whole c = simp (eq-eqb _ _ c.if-whole.true) (omega arith)
 
-pub returns-else-a-b-eq0 : goal.returns-else-a-b-eq0
+pub returns-else-whole : goal.returns-else-whole
 unfolding ceiling_of
-returns-else-a-b-eq0 c = simp (ne_eqb _ _ c.if-a-b-eq0.false)
+returns-else-whole c = simp (ne_eqb _ _ c.if-whole.false)
