@@ -127,13 +127,14 @@ fn by_table(steps: &[Step], depths: &[Option<u64>]) -> Option<usize> {
     (1..steps.len()).find(behind)
 }
 
-// A large frame is taken page by page in a loop, down to a place reckoned before it: how much the loop takes in all.
+// A large frame is taken in a loop, a page at most at a time, down to a place reckoned before it: how much the loop takes in all.
 fn probed(steps: &[Step]) -> Option<u64> {
     let text: Vec<String> = steps.get(..6)?.iter().map(|s| format!("{} {}", s.name, s.operands.join(","))).collect();
-    let whole = text[1].strip_prefix("sub ")?.strip_suffix(",%r11").and_then(constant)?;
+    let taken = |text: &str, register: &str| text.strip_prefix("sub ")?.strip_suffix(register).and_then(constant);
+    let (whole, each) = (taken(&text[1], ",%r11")?, taken(&text[2], ",%rsp")?);
     let again = format!("jne {:x}", steps[2].at);
-    let pages = ["mov %rsp,%r11", &text[1], "sub $0x1000,%rsp", "movq $0x0,(%rsp)", "cmp %r11,%rsp", &again];
-    (text == pages && whole > 0 && whole % 0x1000 == 0).then_some(whole)
+    let loops = ["mov %rsp,%r11", &text[1], &text[2], "movq $0x0,(%rsp)", "cmp %r11,%rsp", &again];
+    (text == loops && whole > 0 && 0 < each && each <= 0x1000 && whole % each == 0).then_some(whole)
 }
 
 // Whether the last of these steps jumps to the sum of a table's address and what was read from it.
