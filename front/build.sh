@@ -48,11 +48,19 @@ side_by_side() {
   ' /proc/meminfo
 }
 
-# Proves a crate and those below it, side by side, and then links it. rt runs a program once it is linked, here on no input, and what it
-# prints is dropped: it is built where rt says that it runs it.
+# Whether each library below a crate has been built once. What has changed of it since, rt sees by itself.
+all_built() {
+  local below
+  while read -r below; do
+    [ "$below" = "$1" ] || [ -e "$here/crates/$below/out/rlib/$below.rlib" ] || return 1
+  done < <(crates_of "$1")
+}
+
+# Proves a crate and those below it, side by side where these have yet to be built, and then links it. rt runs a program once it is linked,
+# here on no input, and what it prints is dropped: it is built where rt says that it runs it.
 build_one() {
   cd "$here/crates/$1" || return
-  rt all check --jobs "$(side_by_side)" || return
+  all_built "$1" || rt all check --jobs "$(side_by_side)" || return
   if [ -f src/main.rt ]; then
     rt run 2>&1 >/dev/null | awk -v line="rt: running out/$1;" '{ print } index($0, line) == 1 { runs = 1 } END { exit !runs }'
     return "${PIPESTATUS[1]}"
