@@ -48,11 +48,12 @@ side_by_side() {
   ' /proc/meminfo
 }
 
-# Whether each library below a crate has been built once. What has changed of it since, rt sees by itself.
+# Whether each library below a crate has been built once. What has changed of it since, rt sees by itself. What rt ci builds has no stamp,
+# and is not taken.
 all_built() {
   local below
   while read -r below; do
-    [ "$below" = "$1" ] || [ -e "$here/crates/$below/out/rlib/$below.rlib" ] || return 1
+    [ "$below" = "$1" ] || [ -e "$here/crates/$below/out/rlib/stamp" ] || return 1
   done < <(crates_of "$1")
 }
 
