@@ -13,6 +13,7 @@ use taking_code::alone;
 use tasks::set::Header;
 
 // The place of the first task that fails alone, from 1; 0 for none. Without interrupts none does, and none is looked at.
+#[inline(never)]
 pub fn first_alone(
     header: Header,
     figures: &[u64],

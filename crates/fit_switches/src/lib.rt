@@ -17,6 +17,7 @@ use turncount::switch_count;
 use walk::put_turn;
 
 // The list of a plan that is checked already.
+#[inline(never)]
 pub fn fit_switches(set: TaskSet, plan: Plan, out: &mut [u8]) -> Written
     requires { makes set plan ≡ true }
     ensures { Fits out.old (plan_switches plan) result out.new }

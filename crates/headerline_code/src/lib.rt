@@ -52,7 +52,10 @@ pub fn header_line(text: &[u8]) -> HeaderLine
         return HeaderLine::Refused(Refusal::Line(1));
     };
     match frame {
-        Frame::Header => HeaderLine::Header(header_at(text)),
+        Frame::Header => {
+            let header = header_at(text);
+            HeaderLine::Header(header)
+        }
         Frame::Task | Frame::Cached | Frame::Masked | Frame::Rule | Frame::Interrupt => {
             HeaderLine::Refused(Refusal::Order(1))
         }

@@ -27,6 +27,7 @@ pub enum Text {
 }
 
 // The text of the plan that a set's servers are laid out to.
+#[inline(never)]
 pub fn fit_laid(text: Text, set: TaskSet, servers: Servers, out: &mut [u8]) -> Written
     requires { (plan_outcome set ≡ Done) × (servers ≡ servers_of (set_board set) (set_figures set)) }
     ensures { Fits out.old (text_of text set (plan_made set)) result out.new }

@@ -85,6 +85,7 @@ fn first_reserves(
 }
 
 // The plan of so many tasks, placed and sized. The records of the servers are written in their place, so that the plan stands once.
+#[inline(never)]
 pub fn lay_out(served: Servers, tasks: usize, slot: u64) -> Plan
     requires { Layable served tasks slot }
     ensures { result ≡ laid_out slot (take served.count served.cache) (take tasks served.placement) (take served.count served.reserve) }
@@ -97,24 +98,15 @@ pub fn lay_out(served: Servers, tasks: usize, slot: u64) -> Plan
     let ring = ring_processors(&reserve, n, slot);
     let idle = ring * slot - ring_ticks(&reserve, n, slot);
     let first = first_reserves(&reserve, n, slot, (ring + whole) as usize);
-    let places = [0u8; TaskSet::MOST_TASKS];
-    let start = Position(0);
-    let none = Server {
-        count: 0,
-        places,
-        reserve: 0,
-        start,
-        cache: 0,
-    };
     let mut plan = Plan {
         whole,
         ring,
         servers: served.count,
         slot,
         idle,
-        server: [none; TaskSet::MOST_TASKS],
         placement,
         first,
+        ..Plan::zero()
     };
     let mut i: usize = 0;
     while i < n {

@@ -19,6 +19,7 @@ use sizing::Servers;
 use tasks::set::TaskSet;
 
 // Does a server pass, by the record that the set's plan would have of it.
+#[inline(never)]
 pub fn pass_served(set: TaskSet, servers: Servers, server: u64, reserve: u64) -> PassAnswer
     requires { (plan_outcome set ≡ Done) × (servers ≡ servers_of (set_board set) (set_figures set)) }
     ensures { result ≡ does_pass set (plan_made set) server reserve }

@@ -16,6 +16,7 @@ use refusals::{Refusal, Written};
 use tasks::set::TaskSet;
 
 // The text of a plan.
+#[inline(never)]
 pub fn fit_plan(set: TaskSet, plan: Plan, out: &mut [u8]) -> Written
     requires { CountsFit set plan }
     ensures { Fits out.old (plan_text set plan) result out.new }

@@ -15,6 +15,7 @@ use served_code::{ROOM, charge_server};
 use tasks::set::{Header, TaskSet};
 
 // The smallest allowed reserve with which server q passes, by its own cache cost, loss and horizon.
+#[inline(never)]
 pub fn reserve_of(
     header: Header,
     cache: u64,

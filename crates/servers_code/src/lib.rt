@@ -2,7 +2,8 @@
 // What they mean stands in servers/specs/Placement.antt.
 #![tactic(auto)]
 
-ghost use Rattle.std.specs.Prelude.{◌≡◌};
+ghost use Rattle.std.specs.Prelude.{◌≡◌, true};
+ghost use Rattle.packing.specs.declared.Order.{Order};
 ghost use Rattle.loads.specs.Figures.{figures_to};
 ghost use Rattle.members.specs.Server.{board_of, Filed, Bounded};
 ghost use Rattle.servers.specs.Placement.{placement_of, placed};
@@ -14,7 +15,19 @@ use servers::placement::Placed;
 use tasks::set::Header;
 use turns_code::{fit_of, order_of};
 
-// By the rule of the header. In file order the tasks are placed as they stand.
+// In file order, and in no other, the tasks are placed as they stand.
+fn as_they_stand(order: Order) -> bool
+    ensures file_order { (result ≡ true) → (order ≡ Order.File) }
+    ensures no_other { (order ≡ Order.File) → (result ≡ true) }
+{
+    match order {
+        Order::File => true,
+        Order::Falling => false,
+        Order::Rising => false,
+    }
+}
+
+// By the rule of the header.
 pub fn place(header: Header, figures: &[u64], n: usize, interrupts: &[u64], horizon: u64) -> Placed
     requires filed { Filed header figures.now n horizon }
     requires bounded { Bounded header interrupts.now horizon }
@@ -23,10 +36,9 @@ pub fn place(header: Header, figures: &[u64], n: usize, interrupts: &[u64], hori
     let rule = header.rule_number();
     let fit = fit_of(rule);
     let order = order_of(rule);
-    match order {
-        Order::File => placed_in(header, figures, n, interrupts, horizon, fit),
-        Order::Falling | Order::Rising => placed_in_turn(
-            header, figures, n, interrupts, horizon, order, fit,
-        ),
+    let stand = as_they_stand(order);
+    if stand {
+        return placed_in(header, figures, n, interrupts, horizon, fit);
     }
+    placed_in_turn(header, figures, n, interrupts, horizon, order, fit)
 }

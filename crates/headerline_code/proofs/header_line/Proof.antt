@@ -43,14 +43,14 @@ is-formed : (c : tie.In-Frame) → formed c.in-Frame.frame c.args.text.now ≡ t
 is-formed c =
     kind_formed c.in-Frame.frame c.args.text.now (sym c.kind_at-found.ensures ∙ c.in-Frame.is)
 
-header_at-requires : tie.Need-header_at-requires
-header_at-requires c κs = ap (λ (f : Frame). formed f c.args.text.now) (sym c.in-Header.is) ∙ is-formed c.before
+header_at-header-requires : tie.Need-header_at-header-requires
+header_at-header-requires c κs = ap (λ (f : Frame). formed f c.args.text.now) (sym c.in-Header.is) ∙ is-formed c.before
 
 returns-in-Header : tie.Need-returns-in-Header
 returns-in-Header c =
     let text : List ℕ = c.args.text.now in
     let header : formed Frame.Header text ≡ true = ap (λ (f : Frame). formed f text) (sym c.in-Header.is) ∙ is-formed c.before.before in
-    ap HeaderLine.Header c.header_at.ensures ∙ sym (ap (given text) (first_header text header))
+    ap HeaderLine.Header c.header_at-header.ensures ∙ sym (ap (given text) (first_header text header))
 
 returns-in_default-frame : tie.Need-returns-in_default-frame
 returns-in_default-frame c =
@@ -73,7 +73,7 @@ header_line_spec =
     (λ c. search rules)
     returns-in_default
     (λ c. search rules)
-    header_at-requires
+    header_at-header-requires
     returns-in-Header
     returns-in-Task
     returns-in_default-frame)

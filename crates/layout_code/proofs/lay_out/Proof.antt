@@ -62,11 +62,13 @@ first_reserves-first-requires c κs =
     (s.requires.laid, omega (arith, (ring t).ring_processors-ring.ensures, (whole t).whole_count-whole.ensures), omega (arith, few t, s.requires.servers_few))
 
 loop-i-init : tie.Need-loop-i-init invariant-loop-i decreases-loop-i
-loop-i-init c = (omega arith, filled_none _, refl)
+loop-i-init c =
+    let none = ap (λ (p : Plan). p.server) c.zero.ensures in
+    (omega arith, rw none (filled_none _), refl)
 
 -- where the loop began
 abbrev began : tie.At-loop-i invariant-loop-i decreases-loop-i → tie.Start invariant-loop-i decreases-loop-i
-began l = start l.before.before.before
+began l = start l.before.before.before.before.before
 
 server_of-requires : tie.Need-server_of-requires invariant-loop-i decreases-loop-i
 server_of-requires c κs =
@@ -94,7 +96,7 @@ loop-i-preserved c =
 returns : tie.Need-returns invariant-loop-i decreases-loop-i
 returns c =
     let l = c.before in
-    let first = l.before in
+    let first = l.before.before.before in
     let t = first.before.before in
     let s = start t in
     l.loop-i.invariant.2
@@ -118,6 +120,7 @@ lay_out_spec =
     (λ c. search rules)
     overflow_add-ring
     first_reserves-first-requires
+    (λ c κs. search rules)
     loop-i-init
     (λ c. search rules)
     (λ c. search rules)

@@ -21,21 +21,21 @@ module _ (c : tie.After-order_of-order) where
   by_fit = c.fit_of-fit.ensures ∙ ap fit_of c.rule_number-rule.ensures
 
 placed_in-requires : tie.Need-placed_in-requires
-placed_in-requires c κs = (start c.before).requires
+placed_in-requires c κs = (start c.before.before).requires
 
 placed_in_turn-requires : tie.Need-placed_in_turn-requires
-placed_in_turn-requires c κs = (start c.before).requires
+placed_in_turn-requires c κs = (start c.before.before).requires
 
-returns-in-File : tie.Need-returns-in-File
-returns-in-File c =
-    let at = c.before.before in
+returns-then-stand : tie.Need-returns-then-stand
+returns-then-stand c =
+    let at = c.before.before.before in
     let s = start at in
-    c.placed_in.ensures ∙
-    ap (placed (figures_to s.args.figures.now s.args.n)) (placed_in_file s.requires.0 s.requires.1 (sym (by_order at) ∙ c.in-File.is) (by_fit at))
+    let file = c.as_they_stand-stand.ensures.0 c.if-stand.true in
+    c.placed_in.ensures ∙ ap (placed (figures_to s.args.figures.now s.args.n)) (placed_in_file s.requires.0 s.requires.1 (sym (by_order at) ∙ file) (by_fit at))
 
-returns-in-Falling : tie.Need-returns-in-Falling
-returns-in-Falling c =
-    let at = c.before.before in
+returns : tie.Need-returns
+returns c =
+    let at = c.before.before.before in
     let s = start at in
     c.placed_in_turn.ensures ∙
     ap (placed (figures_to s.args.figures.now s.args.n)) (placed_in_turn s.requires.0 s.requires.1 (by_order at) (by_fit at))
@@ -47,8 +47,8 @@ place_spec =
     (λ c κs. search rules)
     (λ c κs. search rules)
     (λ c κs. search rules)
-    (λ c. search rules)
+    (λ c κs. search rules)
     placed_in-requires
+    returns-then-stand
     placed_in_turn-requires
-    returns-in-File
-    returns-in-Falling)
+    returns)
