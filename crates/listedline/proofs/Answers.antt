@@ -10,14 +10,14 @@ use Rattle.tasks.specs.declared.set.Task.{Task}
 use Rattle.listedline.specs.declared.TaskLine.{TaskLine}
 use Rattle.listedline.specs.Answer.{task_or, of_task}
 
-pub of-task : (o : Outcome) (t : Task) → of_task (task_or o t) ≡ o
-of-task Done t = refl
-of-task (Refused r) t = refl
+pub of_task_lem : (o : Outcome) (t : Task) → of_task (task_or o t) ≡ o
+of_task_lem Done t = refl
+of_task_lem (Refused r) t = refl
 
-pub task-given : (o : Outcome) (s t : Task) → task_or o s ≡ TaskLine.Task t → (o ≡ Done) × (t ≡ s)
-task-given Done s t e = (refl, cc)
-task-given (Refused r) s t e = clash (cc)
+pub task_given : (o : Outcome) (s t : Task) → task_or o s ≡ TaskLine.Task t → (o ≡ Done) × (t ≡ s)
+task_given Done s t e = (refl, cc)
+task_given (Refused r) s t e = clash (cc)
 
-pub task-refused : (o : Outcome) (s : Task) (r : Refusal) → task_or o s ≡ TaskLine.Refused r → o ≡ Done → ⊥
-task-refused Done s r e d = clash (cc)
-task-refused (Refused q) s r e d = done_refused (sym d)
+pub task_refused : (o : Outcome) (s : Task) (r : Refusal) → task_or o s ≡ TaskLine.Refused r → o ≡ Done → ⊥
+task_refused Done s r e d = clash (cc)
+task_refused (Refused q) s r e d = done_refused (sym d)

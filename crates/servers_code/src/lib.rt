@@ -17,8 +17,8 @@ use turns_code::{fit_of, order_of};
 
 // In file order, and in no other, the tasks are placed as they stand.
 fn as_they_stand(order: Order) -> bool
-    ensures file_order { (result ≡ true) → (order ≡ Order.File) }
-    ensures no_other { (order ≡ Order.File) → (result ≡ true) }
+    ensures no_other { (result ≡ true) → (order ≡ Order.File) }
+    ensures file_order { (order ≡ Order.File) → (result ≡ true) }
 {
     match order {
         Order::File => true,

@@ -32,7 +32,7 @@ use Rattle.taskfile.proofs.OpeningLaws.{taken_opening, among_opening, none_openi
 use Rattle.taskfile.proofs.Standing.{byte_there, taken_some}
 use Rattle.listedline.specs.declared.TaskLine.{TaskLine}
 use Rattle.listedline.specs.Answer.{task_or, of_task}
-use Rattle.listedline.proofs.Answers.{of-task, task-given, task-refused}
+use Rattle.listedline.proofs.Answers.{of_task_lem, task_given, task_refused}
 use Rattle.opening.specs.declared.Opening.{Opening}
 use Rattle.opening.specs.Opening.{opening_of}
 use Rattle.tasklines.specs.Ended.{Ended}
@@ -71,10 +71,10 @@ held_opening text zeroed room clear e =
 
 module _ {text : List ℕ} {k at : ℕ} {set : TaskSet} {ids : List ℕ} (t : Task) (held : Held text k at set ids) (within : at < length text) (other : formed Frame.Interrupt (drop at text) ≡ false) (e : task_or (line_outcome text (k + 1)) (task_at (drop at text)) ≡ TaskLine.Task t) where
   line : line_outcome text (suc k) ≡ Done
-  line = ap (line_outcome text) (sym (add-one k)) ∙ (task-given (line_outcome text (k + 1)) (task_at (drop at text)) t e).0
+  line = ap (line_outcome text) (sym (add-one k)) ∙ (task_given (line_outcome text (k + 1)) (task_at (drop at text)) t e).0
 
   figures : t ≡ task_at (past k text)
-  figures = (task-given (line_outcome text (k + 1)) (task_at (drop at text)) t e).1 ∙ ap task_at (sym held.tasked.taken.rest)
+  figures = (task_given (line_outcome text (k + 1)) (task_at (drop at text)) t e).1 ∙ ap task_at (sym held.tasked.taken.rest)
 
   task : task_formed (past k text) ≡ true
   task =
@@ -103,7 +103,7 @@ module _ {text : List ℕ} {k at : ℕ} {set : TaskSet} {ids : List ℕ} (t : Ta
 
   -- the line is of the kind that the task remembers
   kind : task_frame t ≡ task_kind (drop at text)
-  kind = ap task_frame (task-given (line_outcome text (k + 1)) (task_at (drop at text)) t e).1 ∙ frame_kind (drop at text)
+  kind = ap task_frame (task_given (line_outcome text (k + 1)) (task_at (drop at text)) t e).1 ∙ frame_kind (drop at text)
 
   taken_more : Taken text (suc k) (at + (length_of (task_frame t) + 1))
   taken_more =
@@ -152,10 +152,10 @@ ended_done held over = record { tasked = held.tasked; all = held.all; done = λ 
 -- or before a line that is refused
 pub ended_refused : {text : List ℕ} {k at : ℕ} {set : TaskSet} {ids : List ℕ} {line : TaskLine} {o : Outcome} → Held text k at set ids → (r : Refusal) → line ≡ task_or (line_outcome text (k + 1)) (task_at (drop at text)) → line ≡ TaskLine.Refused r → o ≡ of_task line → Ended text (record { outcome = o; set = set; at = at; lines = k })
 ended_refused {text = text} {k = k} {at = at} {o = o} held r said refused told =
-    let next : o ≡ line_outcome text (k + 1) = told ∙ ap of_task said ∙ of-task (line_outcome text (k + 1)) (task_at (drop at text)) in
+    let next : o ≡ line_outcome text (k + 1) = told ∙ ap of_task said ∙ of_task_lem (line_outcome text (k + 1)) (task_at (drop at text)) in
     record {
       tasked = held.tasked;
       all = held.all;
-      done = λ e. absurd (task-refused (line_outcome text (k + 1)) (task_at (drop at text)) r (sym said ∙ refused) (sym next ∙ e));
+      done = λ e. absurd (task_refused (line_outcome text (k + 1)) (task_at (drop at text)) r (sym said ∙ refused) (sym next ∙ e));
       refused = λ why e. sym next ∙ e;
     }

@@ -22,7 +22,7 @@ use Rattle.taskfile.proofs.AmongLaws.{among_all, all_interrupts}
 use Rattle.taskfile.proofs.Lines.{refused_within, no_task, clear_there, clear_past}
 use Rattle.headerline.specs.declared.HeaderLine.{HeaderLine}
 use Rattle.headerline.specs.Answer.{header_or, of_header}
-use Rattle.headerline.proofs.Answers.{of-header, header_refused}
+use Rattle.headerline.proofs.Answers.{of_header_lem, header_refused}
 use Rattle.tasklines.specs.declared.TaskLines.{TaskLines}
 use Rattle.tasklines.specs.Ended as tasks
 use Rattle.interruptlines.specs.declared.InterruptLines.{InterruptLines}
@@ -61,7 +61,7 @@ reads_next text n set {why = why} e clear next =
 pub first_refused : (text : List ℕ) {line : HeaderLine} {o : Outcome} (r : Refusal) (set : TaskSet) → line ≡ header_or (line_outcome text 1) (header_at text) → line ≡ HeaderLine.Refused r → o ≡ of_header line → answer o set ≡ read_of text
 unfolding till
 first_refused text r set said refused told =
-    ap (λ (o : Outcome). answer o set) (told ∙ ap of_header said ∙ of-header (line_outcome text 1) (header_at text))
+    ap (λ (o : Outcome). answer o set) (told ∙ ap of_header said ∙ of_header_lem (line_outcome text 1) (header_at text))
     ∙ reads_line text 0 set refl (header_refused (line_outcome text 1) (header_at text) r (sym said ∙ refused))
 
 -- and so does one among the tasks

@@ -4,7 +4,7 @@ use mathlib.Core.List.{List}
 use mathlib.Core.Path.{◌≡◌, sym, ◌∙◌}
 use borrow.Author.Rules.{rules}
 use Rattle.refusals.specs.declared.Outcome.TheVariants.{Done}
-use Rattle.headerline.proofs.Answers.{header-given}
+use Rattle.headerline.proofs.Answers.{header_given}
 use Rattle.taskfile.specs.File.{line_outcome, header_at}
 use Rattle.taskread.proofs.Reading.{first_refused, later_refused}
 use Rattle.taskread_code.proofs.read.Statement.{statement}
@@ -22,7 +22,7 @@ first-line : (c : tie.In-Header) →
     (line_outcome text 1 ≡ Done) × (c.in-Header.header ≡ header_at text)
 first-line c =
     let text : List ℕ = c.args.text.now in
-    header-given (line_outcome text 1) (header_at text) c.in-Header.header (sym c.header_line-first.ensures ∙ c.in-Header.is)
+    header_given (line_outcome text 1) (header_at text) c.in-Header.header (sym c.header_line-first.ensures ∙ c.in-Header.is)
 
 opened-requires : tie.Need-opened-requires
 opened-requires c κs = first-line c
