@@ -30,12 +30,10 @@ pub fn first_alone(
     if bare {
         return 0;
     }
-    let mut i: usize = 0;
-    while i < n {
+    for i in 0..n {
         if !alone(header, figures, i, interrupts, horizon) {
             return i + 1;
         }
-        i += 1;
     }
     0
 }

@@ -4,7 +4,7 @@ use Prim.Native.Nat.{ℕ}
 use mathlib.Core.List.{List}
 use native.Mathlib.Omega.{arith}
 use Rattle.refusals.specs.declared.Refusal.{Refusal}
-use Rattle.refusals.specs.declared.Written.{Written}
+use Rattle.refusals.specs.Refused.{Written}
 use Rattle.planlines.specs.Line.{refusal_text}
 use Rattle.planlines.proofs.LineLaws.{refusal_bytes}
 use Rattle.planfit.specs.Fit.{Fits}

@@ -1,9 +1,8 @@
 -- What is promised of the lines of answers: the words of examples.
 -- The proofs stand under the same names in proofs/Claims.
-use Rattle.std.specs.Prelude.{ℕ, ◌≡◌}
+use Rattle.std.specs.Prelude.{ℕ, ◌≡◌, Ok}
 use Rattle.quoted.specs.Quoted.{bytes_of}
 use Rattle.refusals.specs.declared.Refusal.TheVariants.{Ask}
-use Rattle.refusals.specs.declared.Outcome.TheVariants.{Done}
 use Rattle.verdict.specs.declared.answer.Verdict.TheVariants.{Yes, No}
 use Rattle.whoruns.specs.declared.WhoAnswer.{WhoAnswer}
 use Rattle.whoruns.specs.WhoRuns.{refused_who}
@@ -12,13 +11,13 @@ use Rattle.answerline.specs.Lines.{who_line, pass_line}
 
 -- answers: a server with its ticks left (0 for idle), and a verdict
 abbrev pub stands : (server left : ℕ) → WhoAnswer
-stands server left = record { outcome = Done; server = server; left = left }
+stands server left = record { outcome = Ok tt; server = server; left = left }
 
 abbrev pub passes : (length demand supply : ℕ) → PassAnswer
-passes length demand supply = record { outcome = Done; verdict = Yes (record { length = length; demand = demand; supply = supply }) }
+passes length demand supply = record { outcome = Ok tt; verdict = Yes (record { length = length; demand = demand; supply = supply }) }
 
 abbrev pub fails : (length demand supply : ℕ) → PassAnswer
-fails length demand supply = record { outcome = Done; verdict = No (record { length = length; demand = demand; supply = supply }) }
+fails length demand supply = record { outcome = Ok tt; verdict = No (record { length = length; demand = demand; supply = supply }) }
 
 -- the lines of README's examples and of the outside tests, one with ticks to spare, and one with the largest tick
 abbrev pub ReadsSo : Type 0

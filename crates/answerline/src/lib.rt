@@ -10,7 +10,7 @@ use answerwords_code::fit_verdict;
 use askfile_code::{pass_in, who_in};
 use fit_stand::fit_stand;
 use planfit_code::fit_refusal;
-use refusals::{Outcome, Written};
+use refusals::Written;
 use ring::clock::Tick;
 
 // Who runs on a processor at a tick, by the plan of a task file.
@@ -20,8 +20,8 @@ pub fn who_line(text: &[u8], processor: u64, tick: u64, out: &mut [u8]) -> Writt
     let who = who_in(text, processor, Tick(tick));
     let outcome = who.outcome;
     match outcome {
-        Outcome::Done => fit_stand(who.server, who.left, processor, tick, out),
-        Outcome::Refused(refusal) => fit_refusal(refusal, out),
+        Ok(()) => fit_stand(who.server, who.left, processor, tick, out),
+        Err(refusal) => fit_refusal(refusal, out),
     }
 }
 
@@ -33,7 +33,7 @@ pub fn pass_line(text: &[u8], server: u64, reserve: u64, out: &mut [u8]) -> Writ
     let outcome = pass.outcome;
     let verdict = pass.verdict;
     match outcome {
-        Outcome::Done => fit_verdict(verdict, server, reserve, out),
-        Outcome::Refused(refusal) => fit_refusal(refusal, out),
+        Ok(()) => fit_verdict(verdict, server, reserve, out),
+        Err(refusal) => fit_refusal(refusal, out),
     }
 }

@@ -7,7 +7,7 @@ use refusals::Written;
 use shell::argument::{argument, has_argument};
 use shell::failure::tell_failure;
 use shell::front::front;
-use shell::input::{BUFFER, Input, read_input};
+use shell::input::{BUFFER, read_input};
 use std::env::Env;
 
 // The question in the three arguments. One that is missing or too long is empty, and so unclear.
@@ -34,14 +34,14 @@ fn main(rt: HostRuntime) {
     }
     let mut text = [0u8; BUFFER];
     let n = match read_input(&mut rt.stdin(), &mut text) {
-        Input::Bytes(n) => n,
-        Input::Failed(error) => {
+        Ok(n) => n,
+        Err(error) => {
             tell_failure(&rt, "ask: standard input", &error);
             return;
         }
     };
     let mut out = [0u8; BUFFER];
-    let Written::Bytes(k) = answer(question, front(&text, n), &mut out) else {
+    let Ok(k) = answer(question, front(&text, n), &mut out) else {
         let _ = eprintln!(rt; "ask: no room for the answer");
         return;
     };

@@ -10,7 +10,6 @@ use pass_made::refused_pass;
 use pass_served::pass_served;
 use planned::plan_of;
 use planner_code::settle;
-use refusals::Outcome;
 use ring::clock::Tick;
 use taskplan_code::rows_read;
 use taskread_code::read;
@@ -26,8 +25,8 @@ pub fn who_in(text: &[u8], processor: u64, tick: Tick) -> WhoAnswer
     let made = settle(set, rows);
     let outcome = made.outcome;
     match outcome {
-        Outcome::Done => who_made(set, plan_of(set, made.servers), processor, tick),
-        Outcome::Refused(refusal) => refused_who(refusal),
+        Ok(()) => who_made(set, plan_of(set, made.servers), processor, tick),
+        Err(refusal) => refused_who(refusal),
     }
 }
 
@@ -40,7 +39,7 @@ pub fn pass_in(text: &[u8], server: u64, reserve: u64) -> PassAnswer
     let made = settle(set, rows);
     let outcome = made.outcome;
     match outcome {
-        Outcome::Done => pass_served(set, made.servers, server, reserve),
-        Outcome::Refused(refusal) => refused_pass(refusal),
+        Ok(()) => pass_served(set, made.servers, server, reserve),
+        Err(refusal) => refused_pass(refusal),
     }
 }

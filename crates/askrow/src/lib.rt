@@ -16,32 +16,18 @@ fn tasks_overflow(set: TaskSet) -> bool
     requires { set.count ≤ most_tasks }
     ensures { result ≡ some task_overflows (members set) }
 {
-    let count = set.count;
-    let mut i = 0;
-    while i < count {
-        let task = set.tasks[i];
-        if task_overflows(task) {
-            return true;
-        }
-        i += 1;
-    }
-    false
+    set.tasks[..set.count]
+        .iter()
+        .any(|task| task_overflows(*task))
 }
 
 fn interrupts_overflow(interrupts: Interrupts) -> bool
     requires { interrupts.count ≤ most_interrupts }
     ensures { result ≡ some interrupt_overflows (counted interrupts) }
 {
-    let count = interrupts.count;
-    let mut k = 0;
-    while k < count {
-        let interrupt = interrupts.each[k];
-        if interrupt_overflows(interrupt) {
-            return true;
-        }
-        k += 1;
-    }
-    false
+    interrupts.each[..interrupts.count]
+        .iter()
+        .any(|interrupt| interrupt_overflows(*interrupt))
 }
 
 // 11 ASK of a set.

@@ -1,5 +1,6 @@
 -- Laws of questions in words: which question the words ask, by each test, and the line that answers none.
 -- Assumes nothing.
+use Rattle.std.specs.Prelude.{None, Ok, Some}
 use Prim.Native.Nat.{ℕ}
 use mathlib.Core.Path.{◌≡◌, refl, sym, subst}
 use mathlib.Core.List.{List, []}
@@ -10,8 +11,6 @@ use Rattle.laws.proofs.Tests.{same_test}
 use Rattle.laws.proofs.SameLaws.{same_equal, equal_same}
 use Rattle.quoted.specs.Quoted.{bytes_of}
 use Rattle.digits.proofs.Stored.{stored_nil}
-use Rattle.refusals.specs.declared.Written.TheVariants.{Bytes}
-use Rattle.decimals.specs.declared.Number.TheVariants.{Of, Wrong}
 use Rattle.decimals.specs.Decimal.{decimal_of}
 use Rattle.planfit.proofs.FitLaws.{stored_whole}
 use Rattle.wordline.specs.Lined.{Lined}
@@ -25,16 +24,16 @@ same_word a b {r} tells =
 
 -- the question by the two numbers and the word
 module _ (word first second : List ℕ) where
-  pub first_wrong : decimal_of first ≡ Wrong → Unclear ≡ question_of word first second
+  pub first_wrong : decimal_of first ≡ None → Unclear ≡ question_of word first second
   unfolding question_of question_with
   first_wrong e = rw e
 
-  module _ {one : ℕ} (e : decimal_of first ≡ Of one) where
-    pub second_wrong : decimal_of second ≡ Wrong → Unclear ≡ question_of word first second
+  module _ {one : ℕ} (e : decimal_of first ≡ Some one) where
+    pub second_wrong : decimal_of second ≡ None → Unclear ≡ question_of word first second
     unfolding question_of question_with
     second_wrong f = rw (e, f)
 
-    module _ {other : ℕ} (f : decimal_of second ≡ Of other) where
+    module _ {other : ℕ} (f : decimal_of second ≡ Some other) where
       pub asks_who : same word (bytes_of "who") ≡ true → Who one other ≡ question_of word first second
       unfolding question_of question_with
       asks_who p = rw (e, f, p)
@@ -49,5 +48,5 @@ module _ (word first second : List ℕ) where
         asks_neither q = rw (e, f, p, q)
 
 -- nothing fits every buffer, and changes none
-pub nothing_lined : (buffer : List ℕ) → Lined buffer [] (Bytes 0) buffer
+pub nothing_lined : (buffer : List ℕ) → Lined buffer [] (Ok 0) buffer
 nothing_lined buffer = (stored_whole buffer [] 0 refl (omega arith) (sym (stored_nil buffer 0)), omega arith)

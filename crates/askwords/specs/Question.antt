@@ -1,10 +1,8 @@
 -- A question in the words of a command line: `who` with a processor and a tick, or `pass` with a server and a reserve, numbers in decimal;
 -- and the line that answers it. Any other words are unclear. README, "The two questions".
-use Rattle.std.specs.Prelude.{ℕ, List, [], cond}
+use Rattle.std.specs.Prelude.{ℕ, List, [], cond, None, Option, Some}
 use Rattle.laws.specs.Same.{same}
 use Rattle.quoted.specs.Quoted.{bytes_of}
-use Rattle.decimals.specs.declared.Number.{Number}
-use Rattle.decimals.specs.declared.Number.TheVariants.{Of, Wrong}
 use Rattle.decimals.specs.Decimal.{decimal_of}
 use Rattle.askfile.specs.OfFile.{who_in, pass_in}
 use Rattle.answerline.specs.Lines.{who_line, pass_line}
@@ -12,11 +10,11 @@ use Rattle.askwords.specs.declared.Question.{Question}
 use Rattle.askwords.specs.declared.Question.TheVariants.{Who, Pass, Unclear}
 
 -- the question of a word and two numbers
-unfoldable pub question_with : List ℕ → Number → Number → Question
-question_with word (Of one) (Of other) =
+unfoldable pub question_with : List ℕ → Option ℕ → Option ℕ → Question
+question_with word (Some one) (Some other) =
     cond (same word (bytes_of "who")) (Who one other) (cond (same word (bytes_of "pass")) (Pass one other) Unclear)
-question_with word (Of one) Wrong = Unclear
-question_with word Wrong second = Unclear
+question_with word (Some one) None = Unclear
+question_with word None second = Unclear
 
 unfoldable pub question_of : (word first second : List ℕ) → Question
 question_of word first second = question_with word (decimal_of first) (decimal_of second)

@@ -7,7 +7,7 @@ ghost use Rattle.wordline.specs.Lined.{Lined};
 ghost use Rattle.askwords.specs.Question.{question_of, line_for};
 
 use answerline::{pass_line, who_line};
-use decimals::{Number, decimal};
+use decimals::decimal;
 use refusals::Written;
 
 #[derive(Clone, Copy)]
@@ -21,10 +21,10 @@ pub enum Question {
 pub fn asked(word: &[u8], first: &[u8], second: &[u8]) -> Question
     ensures { result ≡ question_of word.now first.now second.now }
 {
-    let Number::Of(one) = decimal(first) else {
+    let Some(one) = decimal(first) else {
         return Question::Unclear;
     };
-    let Number::Of(other) = decimal(second) else {
+    let Some(other) = decimal(second) else {
         return Question::Unclear;
     };
     if check::same(word, b"who") {
@@ -43,6 +43,6 @@ pub fn answer(question: Question, text: &[u8], out: &mut [u8]) -> Written
     match question {
         Question::Who(processor, tick) => who_line(text, processor, tick, out),
         Question::Pass(server, reserve) => pass_line(text, server, reserve, out),
-        Question::Unclear => Written::Bytes(0),
+        Question::Unclear => Ok(0),
     }
 }

@@ -1,13 +1,12 @@
 -- Members that all have the header's cache cost are charged with it, where there is one.
 -- Assumes nothing.
+use Rattle.std.specs.Prelude.{None, Option, ℕ}
 use Prim.Native.Nat.{◌≤◌}
 use native.Mathlib.Omega.{arith}
 use mathlib.Core.List.{List, [], ◌∷◌}
 use mathlib.Core.Path.{◌≡◌, ap}
 use lib.ListN.{length}
 use Rattle.demand.specs.Load.{Every}
-use Rattle.tasks.specs.declared.set.Optional.{Optional}
-use Rattle.tasks.specs.declared.set.Optional.TheVariants.{Absent}
 use Rattle.tasks.specs.declared.set.Header.{Header}
 use Rattle.tasks.specs.declared.set.Task.{Task}
 use Rattle.tasks.specs.Set.{given_or, cache_cost}
@@ -19,10 +18,10 @@ abbrev pub Costs : Header → Figures → Type 0
 Costs h f = f.cache ≡ h.cpmdo
 
 -- a task without a cost of its own has it
-header_cost : (h : Header) (t : Task) → t.cache ≡ Absent → cache_cost h t ≡ h.cpmdo
-header_cost h t none = ap (λ (own : Optional). given_or own h.cpmdo) none
+header_cost : (h : Header) (t : Task) → t.cache ≡ None → cache_cost h t ≡ h.cpmdo
+header_cost h t none = ap (λ (own : Option ℕ). given_or own h.cpmdo) none
 
-pub header_costs : (h : Header) (ts : List Task) → Every (λ (t : Task). t.cache ≡ Absent) ts → Every (λ (t : Task). Costs h (figures_of h t)) ts
+pub header_costs : (h : Header) (ts : List Task) → Every (λ (t : Task). t.cache ≡ None) ts → Every (λ (t : Task). Costs h (figures_of h t)) ts
 header_costs h [] none = tt
 header_costs h (t ∷ ts) none = (header_cost h t none.0, header_costs h ts none.1)
 

@@ -1,12 +1,11 @@
 -- The proofs of what specs/Claims.antt claims.
 -- Assumes nothing.
+use Rattle.std.specs.Prelude.{Err, None, Ok}
 use Prim.Native.Nat.{ℕ}
 use mathlib.Core.List.{List}
 use mathlib.Core.Path.{◌≡◌, refl, ◌∙◌, ap}
-use Rattle.refusals.specs.declared.Outcome.{Outcome}
-use Rattle.refusals.specs.declared.Outcome.TheVariants.{Done, Refused}
-use Rattle.refusals.specs.declared.Written.{Written}
-use Rattle.tasks.specs.declared.set.Optional.TheVariants.{Absent}
+use Rattle.refusals.specs.Refused.{Outcome}
+use Rattle.refusals.specs.Refused.{Written}
 use Rattle.tasks.specs.declared.set.TaskSet.{TaskSet}
 use Rattle.tasks.specs.Set.{zero_set, interrupts_with, set_of}
 use Rattle.taskfile.specs.File.{header_at}
@@ -70,12 +69,12 @@ module _ (P : TaskSet → Type 0) (zeros : P zero_set) (e : Earlier) (text : Lis
   read_has = go (had_read_outcome e text)
     where
       go : (o : Outcome) → P (answer o (had_set e text)).set
-      go Done = lines
-      go (Refused r) = zeros
+      go (Ok _) = lines
+      go (Err r) = zeros
 
   unless_has : (o : Outcome) (file : FileAnswer) → P file.set → P (unless refused_file o file).set
-  unless_has Done file has = has
-  unless_has (Refused r) file has = zeros
+  unless_has (Ok _) file has = has
+  unless_has (Err r) file has = zeros
 
   filed_has : P (had_filed e text).set
   unfolding had_filed had_planned
@@ -87,7 +86,7 @@ module _ (e : Earlier) (text : List ℕ) (read : read_of text ≡ had_read e tex
   planned_same : planned_set (had_read e text).set ≡ had_planned e (had_read e text).set
   unfolding planned_set had_planned
   planned_same =
-      ap (λ (a : PlanAnswer). unless refused_file a.outcome (record { outcome = Done; set = (had_read e text).set; plan = a.plan }))
+      ap (λ (a : PlanAnswer). unless refused_file a.outcome (record { outcome = Ok tt; set = (had_read e text).set; plan = a.plan }))
       planned.plan
 
   filed_same : filed_of text ≡ had_filed e text
@@ -104,7 +103,7 @@ module _ (e : Earlier) (text : List ℕ) (read : read_of text ≡ had_read e tex
         filed = filed_same;
         printed = ap printed filed_same;
         switches = ap (λ (file : FileAnswer). unless refusal_text file.outcome (plan_switches file.plan)) filed_same;
-        list = λ buffer. ap (λ (file : FileAnswer). unless Written.Refused file.outcome (fitted buffer (plan_switches file.plan))) filed_same;
+        list = λ buffer. ap (λ (file : FileAnswer). unless Err file.outcome (fitted buffer (plan_switches file.plan))) filed_same;
         who = λ p x. ap (who_of_file p x) filed_same ∙ ap (unless refused_who (had_filed e text).outcome) (asked.who (had_filed e text).plan p x);
         pass = λ q R. ap (pass_of_file q R) filed_same ∙ ap (unless refused_pass (had_filed e text).outcome) (asked.pass (had_filed e text).plan q R);
       }
@@ -126,7 +125,7 @@ abbrev Uninterrupted : TaskSet → Type 0
 Uninterrupted set = claims.Unruled set × claims.Uncached set × (set.interrupts.count ≡ 0)
 
 abbrev Plain : TaskSet → Type 0
-Plain set = claims.Unruled set × claims.Uncached set × (set.interrupts.count ≡ 0) × (set.header.masked ≡ Absent)
+Plain set = claims.Unruled set × claims.Uncached set × (set.interrupts.count ≡ 0) × (set.header.masked ≡ None)
 
 had_unruled : (text : List ℕ) → claims.Unruled (had_set before05 text)
 unfolding had_set set_of

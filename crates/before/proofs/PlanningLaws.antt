@@ -1,6 +1,7 @@
 -- A set is planned, and asked of, as in an earlier state, where it has no packing rule, its tasks have cache costs as they had then, it has
 -- no interrupts unless there were any, and what loads ask and row 11 are what they were.
 -- Assumes nothing.
+use Rattle.std.specs.Prelude.{Err, Ok, Option}
 use Prim.Native.Nat.{ℕ, ◌+◌, ◌≤◌}
 use native.Mathlib.Omega.{arith}
 use mathlib.Core.List.{List, [], ◌∷◌, ◌++◌, map}
@@ -11,8 +12,7 @@ use lib.ListN.{length, take, length-append}
 use borrow.Author.Tests.{leb-true}
 use Rattle.laws.proofs.Tests.{and_left, and_right}
 use Rattle.refusals.specs.declared.Refusal.TheVariants.{Slot, Tight, Horizon, Full, Ask, Alone}
-use Rattle.refusals.specs.declared.Outcome.{Outcome}
-use Rattle.refusals.specs.declared.Outcome.TheVariants.{Done, Refused}
+use Rattle.refusals.specs.Refused.{Outcome}
 use Rattle.refusals.specs.First.{first_of, when}
 use Rattle.wholes.specs.Multiple.{least_multiple_of}
 use Rattle.demand.specs.Load.{Load, Every}
@@ -23,7 +23,6 @@ use Rattle.masking.specs.Masking.{masked_demand}
 use Rattle.verdict.specs.Verdict.{own_horizon, passing, verdict_of}
 use Rattle.verdict.specs.Reserve.{smallest_reserve}
 use Rattle.verdict.specs.declared.answer.Verdict.{Verdict}
-use Rattle.tasks.specs.declared.set.Optional.{Optional}
 use Rattle.tasks.specs.declared.set.Task.{Task}
 use Rattle.tasks.specs.declared.set.TaskSet.{TaskSet}
 use Rattle.tasks.specs.Set.{members, interrupts_in, zero_task, masked_ticks, given_or, cache_cost, longest_horizon}
@@ -92,7 +91,7 @@ pub record AsNow (Costs : Figures → Type 0) (e : Earlier) (set : TaskSet) : Ty
   pub ask : ask_row set ≡ e.asks set
 
 -- without interrupts no task of a set whose rows are clear fails alone
-fit_alone : (set : TaskSet) → set.interrupts.count ≡ 0 → ask_row set ≡ false → charged_outcome set ≡ Done → first_task (alone_row set) (members set) ≡ 0
+fit_alone : (set : TaskSet) → set.interrupts.count ≡ 0 → ask_row set ≡ false → charged_outcome set ≡ Ok tt → first_task (alone_row set) (members set) ≡ 0
 fit_alone set none carried charged =
     let clear = charged_clear set charged in
     none_alone set
@@ -195,7 +194,7 @@ module _ (Costs : Figures → Type 0) (e : Earlier) (set : TaskSet) (same : AsNo
   first_placed : set_placement set ≡ placed_by First (set_board set) H (set_figures set)
   unfolding set_placement placement_of
   first_placed =
-      ap (λ (rule : Optional). placement_by (given_or rule 0) (set_board set) H (set_figures set)) same.unruled
+      ap (λ (rule : Option ℕ). placement_by (given_or rule 0) (set_board set) H (set_figures set)) same.unruled
       ∙ first_in_file (set_board set) H (set_figures set)
 
   -- a task of such a cost
@@ -293,7 +292,7 @@ module _ (Costs : Figures → Type 0) (e : Earlier) (set : TaskSet) (same : AsNo
   unfolding had_alone
   never_alone none = none_first (had_alone e set) zero_task 1 (members set) (λ j lt. rw none refl)
 
-  alone_same : ask_row set ≡ false → charged_outcome set ≡ Done → first_task (alone_row set) (members set) ≡ first_task (had_alone e set) (members set)
+  alone_same : ask_row set ≡ false → charged_outcome set ≡ Ok tt → first_task (alone_row set) (members set) ≡ first_task (had_alone e set) (members set)
   alone_same carried charged = go e.interrupts refl
     where
       go : (b : Bool) → e.interrupts ≡ b → first_task (alone_row set) (members set) ≡ first_task (had_alone e set) (members set)
@@ -307,8 +306,8 @@ module _ (Costs : Figures → Type 0) (e : Earlier) (set : TaskSet) (same : AsNo
       first_of (when a Ask) (first_of o (first_of (at_task Alone (first_task (alone_row set) (members set))) full)) ≡
       first_of (when a Ask) (first_of o (first_of (at_task Alone (first_task (had_alone e set) (members set))) full))
   rest_same true o carried charged = refl
-  rest_same false (Refused r) carried charged = refl
-  rest_same false Done carried charged = ap (λ (k : ℕ). first_of (at_task Alone k) full) (alone_same carried charged)
+  rest_same false (Err r) carried charged = refl
+  rest_same false (Ok _) carried charged = ap (λ (k : ℕ). first_of (at_task Alone k) full) (alone_same carried charged)
 
   outcome_same : plan_outcome set ≡ had_outcome e set
   unfolding plan_outcome full_row had_outcome

@@ -1,6 +1,7 @@
 -- A text without a 06 line is read as before Req 05, without an 03 line either as before Req 07, without a 07 line either as before Req 08,
 -- and that, without a 05 line, as before Req 04: at each line that decides, the same rows hold. Without an 03 line its tasks have no cache costs of their own.
 -- Assumes nothing.
+use Rattle.std.specs.Prelude.{Err, None, Ok, Option}
 use Prim.Native.Nat.{ℕ, zero, suc, ◌+◌, ◌-◌, ◌≤◌, ◌<◌}
 use native.Mathlib.Omega.{arith}
 use mathlib.Core.List.{List, [], ◌∷◌, ◌++◌, append-nil}
@@ -14,16 +15,13 @@ use Rattle.frames.specs.declared.table.Frame.{Frame}
 use Rattle.frameread.specs.Line.{formed, closed}
 use Rattle.refusals.specs.declared.Refusal.{Refusal}
 use Rattle.refusals.specs.declared.Refusal.TheVariants.{Line, Order, Count, Board, Range}
-use Rattle.refusals.specs.declared.Outcome.{Outcome}
-use Rattle.refusals.specs.declared.Outcome.TheVariants.{Done, Refused}
+use Rattle.refusals.specs.Refused.{Outcome}
 use Rattle.refusals.specs.First.{first_of, when, till}
 use Rattle.laws.proofs.Tests.{true_false, or_left}
 use Rattle.refusals.proofs.FirstLaws.{stays}
 use Rattle.demand.specs.Load.{Every}
 use Rattle.demand.proofs.Demand.{every_snoc}
 use Rattle.tasks.specs.declared.set.Interrupt.{Interrupt}
-use Rattle.tasks.specs.declared.set.Optional.{Optional}
-use Rattle.tasks.specs.declared.set.Optional.TheVariants.{Absent}
 use Rattle.tasks.specs.declared.set.Task.{Task}
 use Rattle.tasks.specs.declared.set.TaskSet.{TaskSet}
 use Rattle.tasks.specs.Set.{most_tasks, most_processors, last_rule, given_or, with_lines, members, interrupts_in, interrupts_with, set_of, zero_task}
@@ -45,27 +43,27 @@ till_same f g zero same = refl
 till_same f g (suc n) same = ap₂ first_of (till_same f g n (λ j lt. same j (omega arith))) (same n (omega arith))
 
 -- so are outcomes whose first that refuses is the same
-till_first : (f g : ℕ → Outcome) (k n : ℕ) (r : Refusal) → till f k ≡ Done → till g k ≡ Done → f (suc k) ≡ Refused r → g (suc k) ≡ Refused r → k < n → till f n ≡ till g n
+till_first : (f g : ℕ → Outcome) (k n : ℕ) (r : Refusal) → till f k ≡ Ok tt → till g k ≡ Ok tt → f (suc k) ≡ Err r → g (suc k) ≡ Err r → k < n → till f n ≡ till g n
 till_first f g k n r clear clear' e e' lt = stays f k n r clear e lt ∙ sym (stays g k n r clear' e' lt)
 
 not_both : (b : Bool) → (b && not b) ≡ false
 not_both true = refl
 not_both false = refl
 
-till_none : (f : ℕ → Outcome) → till f 0 ≡ Done
+till_none : (f : ℕ → Outcome) → till f 0 ≡ Ok tt
 unfolding till
 till_none f = refl
 
-till_one : (f : ℕ → Outcome) → f 1 ≡ Done → till f 1 ≡ Done
+till_one : (f : ℕ → Outcome) → f 1 ≡ Ok tt → till f 1 ≡ Ok tt
 unfolding till
 till_one f e = e
 
 -- row 5 of a header without a rule
-board_same : (h : Header) → h.rule ≡ Absent → board_row h ≡ had_board h
+board_same : (h : Header) → h.rule ≡ None → board_row h ≡ had_board h
 unfolding board_row had_board
 board_same h unruled =
     let m = not (leb 1 h.processors && leb h.processors most_processors) in
-    ap (λ (rule : Optional). m || (eqb h.slot 0 || ltb last_rule (given_or rule 0))) unruled ∙ ap (λ (b : Bool). m || b) (or-false (eqb h.slot 0))
+    ap (λ (rule : Option ℕ). m || (eqb h.slot 0 || ltb last_rule (given_or rule 0))) unruled ∙ ap (λ (b : Bool). m || b) (or-false (eqb h.slot 0))
 
 -- rows 5 and 6 of a set without a rule whose interrupts were known
 pub figures_same : (e : Earlier) (set : TaskSet) → Unruled set → interrupts_in set ≡ known e (interrupts_in set) → figures_outcome set ≡ had_figures e set
@@ -112,7 +110,7 @@ module _ (text : List ℕ) (unruled : NoRuleLine text) where
   rows_unruled n = rw (line_unruled n, order_unruled n) refl
 
   -- the line at which a 06 line may stand is none, so the header has no rule
-  rule_unruled : rule_at text ≡ Absent
+  rule_unruled : rule_at text ≡ None
   unfolding rule_at
   rule_unruled = rw (unruled (rule_line text) (later text)) refl
 
@@ -157,7 +155,7 @@ module _ (text : List ℕ) (unruled : NoRuleLine text) (uncached : NoCachedLine 
 
 module _ (text : List ℕ) (uncached : NoCachedLine text) where
   abbrev Own : Task → Type 0
-  Own t = t.cache ≡ Absent
+  Own t = t.cache ≡ None
 
   -- its tasks stand in 02 lines
   plain_at : (n : ℕ) → Own (task_at (past n text))
@@ -210,7 +208,7 @@ module _ (text : List ℕ) (unruled : NoRuleLine text) (uncached : NoCachedLine 
   lines_now n = lines_uncached text unruled uncached n ∙ till_same (had_line before07 text) (had_line before08 text) n (λ j lt. rows_now j)
 
   -- line 1 is clear now where it was
-  pub clear_now : had_line before08 text 1 ≡ Done → line_outcome text 1 ≡ Done
+  pub clear_now : had_line before08 text 1 ≡ Ok tt → line_outcome text 1 ≡ Ok tt
   clear_now clear = rows_unruled text unruled 0 ∙ (rows_uncached text unruled uncached 0 ∙ (rows_now 0 ∙ clear))
 
   pub read_now : read_of text ≡ had_read before08 text
@@ -228,7 +226,7 @@ header_there (b ∷ bs) f = refl
 module _ (text : List ℕ) (unruled : NoRuleLine text) (uncached : NoCachedLine text) (without : NoMaskedLine text) (uninterrupted : NoInterruptLine text) where
   -- a line is refused, and as before
   abbrev Alike : ℕ → Type 0
-  Alike k = (r : Refusal) × (had_line before08 text k ≡ Refused r) × (had_line before04 text k ≡ Refused r)
+  Alike k = (r : Refusal) × (had_line before08 text k ≡ Err r) × (had_line before04 text k ≡ Err r)
 
   line_same : (n : ℕ) → before08.line text (suc n) ≡ before04.line text (suc n)
   line_same n = rw (without (suc n) (omega arith), or-false (is_plain text (suc n))) refl
@@ -293,9 +291,9 @@ module _ (text : List ℕ) (unruled : NoRuleLine text) (uncached : NoCachedLine 
   lines_same n two = by_tasks (eqb (length (file_tasks text)) 0) refl
     where
       by_first : eqb (length (file_tasks text)) 0 ≡ true → (o : Outcome) → had_line before08 text 1 ≡ o → till (had_line before08 text) n ≡ till (had_line before04 text) n
-      by_first none (Refused r) e =
+      by_first none (Err r) e =
           till_first (had_line before08 text) (had_line before04 text) 0 n r (till_none (had_line before08 text)) (till_none (had_line before04 text)) e (sym first_same ∙ e) (omega arith)
-      by_first none Done e =
+      by_first none (Ok _) e =
           let second = second_same none (clear_header text (clear_now text unruled uncached uninterrupted e)) in
           till_first (had_line before08 text) (had_line before04 text) 1 n second.0
           (till_one (had_line before08 text) e)

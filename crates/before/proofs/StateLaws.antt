@@ -1,6 +1,7 @@
 -- What each earlier state had is what there is now: before Req 05 for sets without a packing rule, before Req 07 without cache costs of
 -- tasks either, before Req 08 without interrupts either, before Req 04 without a 05 line either, where B is 0.
 -- Assumes nothing.
+use Rattle.std.specs.Prelude.{None, Option}
 use Prim.Native.Nat.{ℕ}
 use mathlib.Core.List.{List, [], ◌∷◌}
 use mathlib.Core.Bool.{Bool, ◌||◌, or-false}
@@ -14,8 +15,6 @@ use Rattle.framesizes.specs.Overflow.{line_overflows, some_too_large}
 use Rattle.demand.specs.Load.{Every}
 use Rattle.masking.specs.Masking.{masked_demand}
 use Rattle.masking.proofs.MaskedLaws.{masked_none}
-use Rattle.tasks.specs.declared.set.Optional.{Optional}
-use Rattle.tasks.specs.declared.set.Optional.TheVariants.{Absent}
 use Rattle.tasks.specs.declared.set.Task.{Task}
 use Rattle.tasks.specs.declared.set.TaskSet.{TaskSet}
 use Rattle.tasks.specs.Set.{most_tasks, most_interrupts, members, interrupts_in, given_or}
@@ -29,7 +28,7 @@ use Rattle.before.proofs.CacheLaws.{Costs, header_costs, cache_same}
 use Rattle.before.proofs.PlanningLaws.{AsNow}
 
 -- a task without a cost of its own stands in an 02 line
-plain_at : (t : Task) → t.cache ≡ Absent → task_overflows t ≡ plain_overflows t
+plain_at : (t : Task) → t.cache ≡ None → task_overflows t ≡ plain_overflows t
 unfolding task_overflows plain_overflows line_overflows some_too_large widths_of
 plain_at t none = rw none refl
 
@@ -39,7 +38,7 @@ ask_unruled : (set : TaskSet) → Unruled set → ask_row set ≡ before05.asks 
 unfolding ask_row optional_overflows
 ask_unruled set none =
     ap
-    (λ (rule : Optional).
+    (λ (rule : Option ℕ).
     count_row set ||
     (twice_row (members set) ||
     (header_overflows set.header ||
@@ -54,7 +53,7 @@ ask_uncached set none =
     count_row set ||
     (twice_row (members set) ||
     (header_overflows set.header || (wide || (optional_overflows Frame.Masked set.header.masked || some interrupt_overflows (interrupts_in set))))))
-    (some_same (λ (t : Task). t.cache ≡ Absent) task_overflows plain_overflows plain_at (members set) none)
+    (some_same (λ (t : Task). t.cache ≡ None) task_overflows plain_overflows plain_at (members set) none)
 
 ask_uninterrupted : (set : TaskSet) → set.interrupts.count ≡ 0 → before07.asks set ≡ before08.asks set
 unfolding count_row tasks_miscount some
@@ -72,11 +71,11 @@ ask_uninterrupted set none =
     (or-false (ltb most_tasks set.count))
     (or-false (optional_overflows Frame.Masked set.header.masked))
 
-ask_unmasked : (set : TaskSet) → set.header.masked ≡ Absent → before08.asks set ≡ before04.asks set
+ask_unmasked : (set : TaskSet) → set.header.masked ≡ None → before08.asks set ≡ before04.asks set
 unfolding optional_overflows
 ask_unmasked set none =
     ap
-    (λ (m : Optional). tasks_miscount set || (twice_row (members set) || (header_overflows set.header || (some plain_overflows (members set) || optional_overflows Frame.Masked m))))
+    (λ (m : Option ℕ). tasks_miscount set || (twice_row (members set) || (header_overflows set.header || (some plain_overflows (members set) || optional_overflows Frame.Masked m))))
     none
     ∙ ap
     (λ (b : Bool). tasks_miscount set || (twice_row (members set) || (header_overflows set.header || b)))
@@ -131,7 +130,7 @@ module _ (set : TaskSet) (unruled : Unruled set) where
             ask = as_now07.ask ∙ ask_uninterrupted set none;
           }
 
-      pub as_now04 : set.header.masked ≡ Absent → AsNow (Costs set.header) before04 set
+      pub as_now04 : set.header.masked ≡ None → AsNow (Costs set.header) before04 set
       as_now04 unmasked =
           record {
             unruled = unruled;
@@ -139,6 +138,6 @@ module _ (set : TaskSet) (unruled : Unruled set) where
             cost = cache_same set.header;
             own = λ t costs. costs;
             interrupts = λ e. none;
-            demand = λ ls t. ap (λ (m : Optional). masked_demand (given_or m 0) ls t) unmasked ∙ masked_none ls t;
+            demand = λ ls t. ap (λ (m : Option ℕ). masked_demand (given_or m 0) ls t) unmasked ∙ masked_none ls t;
             ask = as_now08.ask ∙ ask_unmasked set unmasked;
           }

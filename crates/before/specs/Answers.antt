@@ -1,8 +1,6 @@
 -- What the tool, the questions and the switch list answered of a task file before a request.
-use Rattle.std.specs.Prelude.{ℕ, List}
-use Rattle.refusals.specs.declared.Outcome.TheVariants.{Done}
-use Rattle.refusals.specs.declared.Written.{Written}
-use Rattle.refusals.specs.declared.Written.TheVariants.{Refused}
+use Rattle.std.specs.Prelude.{ℕ, List, Err, Ok}
+use Rattle.refusals.specs.Refused.{Written}
 use Rattle.tasks.specs.declared.set.TaskSet.{TaskSet}
 use Rattle.ring.specs.declared.clock.Tick.{Tick}
 use Rattle.planlines.specs.Line.{refusal_text}
@@ -21,7 +19,7 @@ use Rattle.before.specs.Planning.{had_plan, had_who, had_pass}
 
 -- a file's set and plan, or its refusal
 unfoldable pub had_planned : Earlier → TaskSet → FileAnswer
-had_planned e set = unless refused_file (had_plan e set).outcome (record { outcome = Done; set = set; plan = (had_plan e set).plan })
+had_planned e set = unless refused_file (had_plan e set).outcome (record { outcome = Ok tt; set = set; plan = (had_plan e set).plan })
 
 unfoldable pub had_filed : Earlier → List ℕ → FileAnswer
 had_filed e text = unless refused_file (had_read e text).outcome (had_planned e (had_read e text).set)
@@ -35,7 +33,7 @@ unfoldable pub had_switched : Earlier → List ℕ → List ℕ
 had_switched e text = unless refusal_text (had_filed e text).outcome (plan_switches (had_filed e text).plan)
 
 unfoldable pub had_listed : Earlier → (text buffer : List ℕ) → Written
-had_listed e text buffer = unless Refused (had_filed e text).outcome (fitted buffer (plan_switches (had_filed e text).plan))
+had_listed e text buffer = unless Err (had_filed e text).outcome (fitted buffer (plan_switches (had_filed e text).plan))
 
 -- the two questions of a file
 unfoldable pub had_who_in : Earlier → List ℕ → (p : ℕ) → Tick → WhoAnswer

@@ -1,10 +1,8 @@
 -- Old files keep their answers, and so do old sets. Each claim is a type; the proofs stand under the same names in proofs/Claims.antt.
 -- Document 02, Req 04: "without it B is 0"; Req 05: rule 00 "is today's rule and the default"; Req 07: a task of an 02 line takes the
 -- header's cache cost; Req 08 adds lines after the tasks.
-use Rattle.std.specs.Prelude.{ℕ, ◌≤◌, ◌≡◌, List, false}
+use Rattle.std.specs.Prelude.{ℕ, ◌≤◌, ◌≡◌, List, false, None, Option, Some}
 use Rattle.demand.specs.Load.{Every}
-use Rattle.tasks.specs.declared.set.Optional.TheVariants.{Absent, Given}
-use Rattle.tasks.specs.declared.set.Optional.{Optional}
 use Rattle.tasks.specs.declared.set.Task.{Task}
 use Rattle.tasks.specs.declared.set.TaskSet.{TaskSet}
 use Rattle.tasks.specs.Set.{members, with_lines}
@@ -65,11 +63,11 @@ pub record SetAsBefore (e : Earlier) (set : TaskSet) : Type 0 where
 
 -- the set has no packing rule of its own
 abbrev pub Unruled : TaskSet → Type 0
-Unruled set = set.header.rule ≡ Absent
+Unruled set = set.header.rule ≡ None
 
 -- no task of the set has a cache cost of its own
 abbrev pub Uncached : TaskSet → Type 0
-Uncached set = Every (λ (t : Task). t.cache ≡ Absent) (members set)
+Uncached set = Every (λ (t : Task). t.cache ≡ None) (members set)
 
 -- So is every set that a caller hands in without a packing rule; without cache costs of tasks either, as before Req 07; without interrupts
 -- either, as before Req 08; without a 05 line either, as before Req 04.
@@ -77,21 +75,21 @@ pub record SetsAsBefore : Type 0 where
   pub packed : (set : TaskSet) → Unruled set → SetAsBefore before05 set
   pub cached : (set : TaskSet) → Unruled set → Uncached set → SetAsBefore before07 set
   pub interrupts : (set : TaskSet) → Unruled set → Uncached set → set.interrupts.count ≡ 0 → SetAsBefore before08 set
-  pub masked : (set : TaskSet) → Unruled set → Uncached set → set.interrupts.count ≡ 0 → set.header.masked ≡ Absent → SetAsBefore before04 set
+  pub masked : (set : TaskSet) → Unruled set → Uncached set → set.interrupts.count ≡ 0 → set.header.masked ≡ None → SetAsBefore before04 set
 
 -- the set with another 05 line, or none; with another 06 line, or none
-abbrev pub lined : TaskSet → Optional → TaskSet
+abbrev pub lined : TaskSet → Option ℕ → TaskSet
 lined set masked =
     record { header = with_lines set.header masked set.header.rule; count = set.count; tasks = set.tasks; interrupts = set.interrupts }
 
-abbrev pub ruled : TaskSet → Optional → TaskSet
+abbrev pub ruled : TaskSet → Option ℕ → TaskSet
 ruled set rule =
     record { header = with_lines set.header set.header.masked rule; count = set.count; tasks = set.tasks; interrupts = set.interrupts }
 
 -- A 05 line of 0 ticks is planned as no line, though it is another text.
 abbrev pub ZeroAsNone : Type 0
-ZeroAsNone = (set : TaskSet) → plan_of (lined set (Given 0)) ≡ plan_of (lined set Absent)
+ZeroAsNone = (set : TaskSet) → plan_of (lined set (Some 0)) ≡ plan_of (lined set None)
 
 -- So is a 06 line of rule 00.
 abbrev pub ZeroRuleAsNone : Type 0
-ZeroRuleAsNone = (set : TaskSet) → plan_of (ruled set (Given 0)) ≡ plan_of (ruled set Absent)
+ZeroRuleAsNone = (set : TaskSet) → plan_of (ruled set (Some 0)) ≡ plan_of (ruled set None)

@@ -2,7 +2,7 @@
 -- cost servers and tasks are charged with, what a server's loads ask, and row 11. All that follows from these stands once, over such a
 -- state (Reading, Planning, Answers). What no request has touched is cited from where it stands. Before Req 07 an 03 line was LINE, so that
 -- what other rows say of one is never asked, and a task had no cache cost of its own. No state had packing rules: a header had no rule.
-use Rattle.std.specs.Prelude.{ℕ, pred, List, [], ◌∷◌, Bool, true, false, not, cond, ◌&&◌, ◌||◌, length, eqb, ltb}
+use Rattle.std.specs.Prelude.{ℕ, pred, List, [], ◌∷◌, Bool, true, false, not, cond, ◌&&◌, ◌||◌, length, eqb, ltb, None}
 use Rattle.demand.specs.Load.{Load}
 use Rattle.demand.specs.Demand.{demand}
 use Rattle.masking.specs.Masking.{masked_demand}
@@ -10,7 +10,6 @@ use Rattle.tasks.specs.declared.set.Header.{Header}
 use Rattle.tasks.specs.declared.set.Interrupt.{Interrupt}
 use Rattle.tasks.specs.declared.set.Task.{Task}
 use Rattle.tasks.specs.declared.set.TaskSet.{TaskSet}
-use Rattle.tasks.specs.declared.set.Optional.TheVariants.{Absent}
 use Rattle.tasks.specs.Set.{most_tasks, members, interrupts_in, masked_ticks, cache_cost, with_lines}
 use Rattle.tasks.specs.Search.{some}
 use Rattle.frames.specs.declared.table.Frame.{Frame}
@@ -64,7 +63,7 @@ out_of_order text k =
 
 -- the board's figures, with what a 05 line at line 2 gives
 abbrev pub masked_header : List ℕ → Header
-masked_header text = with_lines (header_at text) (masked_at text) Absent
+masked_header text = with_lines (header_at text) (masked_at text) None
 
 -- a figure of a task is too large for its field of an 02 line
 unfoldable pub plain_overflows : Task → Bool

@@ -2,7 +2,7 @@
 -- was its entry loss.
 use Rattle.std.specs.Prelude.{ℕ, ◌+◌, List, [], ◌∷◌, ◌++◌, map, Bool, not, cond, ◌&&◌, ◌||◌, leb, ltb}
 use Rattle.refusals.specs.declared.Refusal.TheVariants.{Slot, Tight, Horizon, Full, Ask, Alone}
-use Rattle.refusals.specs.declared.Outcome.{Outcome}
+use Rattle.refusals.specs.Refused.{Outcome}
 use Rattle.refusals.specs.First.{first_of, when}
 use Rattle.wholes.specs.Multiple.{least_multiple_of}
 use Rattle.charging.specs.Charging.{entry_loss}

@@ -14,15 +14,10 @@ pub fn by_processor(interrupts: Interrupts, m: u8) -> [u64; 4 * TaskSet::MOST_IN
     requires { Timely interrupts }
     ensures { result ≡ interrupt_numbers (by_processor m (counted interrupts)) }
 {
-    let count = interrupts.count;
     let mut numbers = [0u64; 4 * TaskSet::MOST_INTERRUPTS];
     let mut at: usize = 0;
-    let mut p: u8 = 0;
-    while p < m {
-        p += 1;
-        let mut i: usize = 0;
-        while i < count {
-            let interrupt = interrupts.each[i];
+    for p in 1..=m {
+        for interrupt in &interrupts.each[..interrupts.count] {
             if interrupt.processor == p {
                 numbers[at] = p as u64;
                 numbers[at + 1] = interrupt.cost as u64;
@@ -30,7 +25,6 @@ pub fn by_processor(interrupts: Interrupts, m: u8) -> [u64; 4 * TaskSet::MOST_IN
                 numbers[at + 3] = interrupt.period as u64;
                 at += 4;
             }
-            i += 1;
         }
     }
     numbers

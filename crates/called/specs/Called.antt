@@ -1,7 +1,7 @@
 -- What the planner, the check and the questions answer to a set and a plan that are handed in as numbers: a status, and numbers in lent memory.
 -- Document 01, the two questions (RULES 4.1 and 4.2), and "Refusal numbers and their order" (RULES 6).
 use Rattle.std.specs.Prelude.{ℕ, List, [], ◌∷◌}
-use Rattle.refusals.specs.declared.Outcome.{Outcome}
+use Rattle.refusals.specs.Refused.{Outcome}
 use Rattle.verdict.specs.Numbers.{verdict_numbers}
 use Rattle.told.specs.Told.{told_of}
 use Rattle.planner.specs.Planner.{plan_of}

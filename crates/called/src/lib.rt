@@ -16,7 +16,6 @@ use handedset::set_from;
 use numbered::put_plan;
 use plancheck_code::makes_plan;
 use planner_code::make;
-use refusals::Outcome;
 use ring::clock::Tick;
 use tell::tell;
 use told_code::{code, numbers_of};
@@ -32,8 +31,8 @@ pub extern "C" fn handed_plan(set: &[u64], answer: &mut [u64]) -> u64
     let plan = made.plan;
     let outcome = made.outcome;
     match outcome {
-        Outcome::Done => put_plan(answer, plan),
-        Outcome::Refused(refusal) => code(refusal),
+        Ok(()) => put_plan(answer, plan),
+        Err(refusal) => code(refusal),
     }
 }
 

@@ -1,7 +1,7 @@
 -- What the writers answer to a set and a plan that are handed in as numbers: a status, a text in lent bytes, and its length.
 -- Document 01, rows 11 and 12 of the refusals (RULES 6.5).
 use Rattle.std.specs.Prelude.{ℕ, List}
-use Rattle.refusals.specs.declared.Written.{Written}
+use Rattle.refusals.specs.Refused.{Written}
 use Rattle.taskwrite.specs.Write.{write_of}
 use Rattle.planfile.specs.Write.{write_plan}
 use Rattle.switchlist.specs.Write.{write_switches}

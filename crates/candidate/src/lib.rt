@@ -1,34 +1,20 @@
-// What is kept of a server, and whether the server takes a task.
-// What they mean stands in joining/specs/Kept.antt, taking/specs/Takes.antt and joining/specs/Soonest.antt. The server of each task
-// stands in a slice, of which the first i are placed.
+// Whether a server, of which its share is kept, takes a task.
+// What it means stands in taking/specs/Takes.antt and joining/specs/Soonest.antt. The server of each task stands in a slice, of which the
+// first i are placed.
 #![tactic(auto)]
 
-ghost use Rattle.std.specs.Prelude.{◌≡◌, ◌+◌, ◌≤◌, ◌<◌, length, take};
+ghost use Rattle.std.specs.Prelude.{◌≡◌, ◌+◌, ◌≤◌, length, take};
 ghost use Rattle.places.specs.Places.{chosen};
 ghost use Rattle.loads.specs.Figures.{figures_at, figures_to};
 ghost use Rattle.members.specs.Server.{board_of, Filed, Bounded};
 ghost use Rattle.shares.specs.Share.{share_of, share_in};
 ghost use Rattle.taking.specs.Takes.{takes};
-ghost use Rattle.joining.specs.Kept.{kept_at};
 
 use shares::Share;
-use shares_code::{larger, total};
+use shares_code::total;
 use soonest::masked_out;
 use taking_code::takes_task;
 use tasks::set::Header;
-
-// What is kept of the server at a place of the rows.
-pub fn kept_at(work: &[u64], jobs: &[u64], cache: &[u64], soonest: &[u64], at: usize) -> Share
-    requires { (at < length work.now) × (at < length jobs.now) × (at < length cache.now) × (at < length soonest.now) }
-    ensures { result ≡ kept_at work.now jobs.now cache.now soonest.now at }
-{
-    Share {
-        work: work[at],
-        jobs: jobs[at],
-        cache: cache[at],
-        due: soonest[at],
-    }
-}
 
 // Server q, of which `own` is kept, takes task i, which brings `share`. A server that would ask more than the horizon with the task in it,
 // or that B alone keeps the task out of, cannot take it, and its members are not looked at. B is asked first, so that the compiler makes
@@ -53,7 +39,7 @@ pub fn may_take(
 {
     let masked = header.masked_ticks() as u64;
     let apart = masked_out(share.due, own.due, masked);
-    let cost = larger(own.cache, share.cache);
+    let cost = own.cache.max(share.cache);
     let asked = total(own.work + share.work, own.jobs + share.jobs, cost);
     if asked <= horizon {
         if !apart {

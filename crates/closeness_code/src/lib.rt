@@ -41,11 +41,9 @@ fn first_asked(loads: &[u64], n: usize, own: u64) -> u64
     let from = 3 * n;
     let count = (loads.len() - from) / 4;
     let mut first = own;
-    let mut i: usize = 0;
-    while i < count {
+    for i in 0..count {
         let at = from + 4 * i;
         first = sooner(first, loads[at + 2]);
-        i += 1;
     }
     first
 }

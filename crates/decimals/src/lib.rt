@@ -5,45 +5,34 @@
 ghost use Rattle.std.specs.Prelude.{◌≡◌, [], ◌∷◌};
 ghost use Rattle.decimals.specs.Decimal.{number_from, decimal_of};
 
-#[derive(Clone, Copy)]
-pub enum Number {
-    Of(u64),
-    Wrong,
-}
-
 // A number with one digit more behind it.
-pub fn append(high: u64, byte: u8) -> Number
+pub fn append(high: u64, byte: u8) -> Option<u64>
     ensures { result ≡ number_from high (byte ∷ []) }
 {
     if byte < 48 {
-        return Number::Wrong;
+        return None;
     }
     let above = 57 < byte;
     if above {
-        return Number::Wrong;
+        return None;
     }
     let digit = (byte - 48) as u64;
     if (18446744073709551615 - digit) / 10 < high {
-        return Number::Wrong;
+        return None;
     }
-    Number::Of(high * 10 + digit)
+    Some(high * 10 + digit)
 }
 
-pub fn decimal(text: &[u8]) -> Number
+pub fn decimal(text: &[u8]) -> Option<u64>
     ensures { result ≡ decimal_of text.now }
 {
     let empty = text.len() == 0;
     if empty {
-        return Number::Wrong;
+        return None;
     }
     let mut value: u64 = 0;
-    let mut i = 0;
-    while i < text.len() {
-        let Number::Of(next) = append(value, text[i]) else {
-            return Number::Wrong;
-        };
-        value = next;
-        i += 1;
+    for i in 0..text.len() {
+        value = append(value, text[i])?;
     }
-    Number::Of(value)
+    Some(value)
 }

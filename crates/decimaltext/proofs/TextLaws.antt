@@ -1,5 +1,6 @@
 -- Laws of a number's digits in decimal: one digit more, how many there are, that they are read back, and that they are put from the last on.
 -- Assumes nothing.
+use Rattle.std.specs.Prelude.{Some}
 use Prim.Native.Nat.{ℕ, zero, suc, ◌+◌, ◌-◌, ◌*◌, ◌/◌, ◌%◌, ◌^◌, ◌≤◌, ◌<◌}
 use mathlib.Core.Path.{◌≡◌, refl, sym, ◌∙◌, ap, ap₂, subst}
 use mathlib.Core.Bool.{true, ◌&&◌}
@@ -14,7 +15,6 @@ use Rattle.laws.proofs.Tests.{and_both, and_left, and_right}
 use Rattle.laws.proofs.Orders.{le_or_lt}
 use Rattle.digits.specs.Stored.{stored}
 use Rattle.digits.proofs.Stored.{stored_nil, stored_set}
-use Rattle.decimals.specs.declared.Number.TheVariants.{Of}
 use Rattle.decimals.specs.Decimal.{all_digits, value_from, number_from, decimal_of}
 use Rattle.decimals.proofs.DecimalLaws.{decimal_of_lem}
 use Rattle.decimaltext.specs.Text.{digits_in, digits_of, decimal_text}
@@ -107,12 +107,12 @@ digits_read (suc k) (suc m) p =
     let tenth = digits_read k (suc m / 10) (omega arith) in
     (last_digits (digits_in k (suc m / 10)) (suc m) tenth.0, last_value (digits_in k (suc m / 10)) (suc m) tenth.1)
 
-number_read : (text : List ℕ) (n : ℕ) → 0 < length text → all_digits text ≡ true → value_from 0 text ≡ n → n < 2 ^ 64 → decimal_of text ≡ Of n
+number_read : (text : List ℕ) (n : ℕ) → 0 < length text → all_digits text ≡ true → value_from 0 text ≡ n → n < 2 ^ 64 → decimal_of text ≡ Some n
 unfolding number_from
 number_read text n f p e h =
     decimal_of_lem text f ∙ rw (p, e, lt-ltb n (2 ^ 64) h)
 
-pub written_read : (n : ℕ) → n < 2 ^ 64 → decimal_of (decimal_text n) ≡ Of n
+pub written_read : (n : ℕ) → n < 2 ^ 64 → decimal_of (decimal_text n) ≡ Some n
 unfolding decimal_text
 written_read n h =
     let tenth = digits_read (n / 10) (n / 10) (omega arith) in

@@ -1,13 +1,12 @@
 -- What is promised of numbers as text: each is read back, has at most 20 digits and no zero in front.
 -- The proofs stand under the same names in proofs/Claims.
-use Rattle.std.specs.Prelude.{ℕ, ◌^◌, ◌≤◌, ◌<◌, ◌≡◌, length, get_or}
-use Rattle.decimals.specs.declared.Number.TheVariants.{Of}
+use Rattle.std.specs.Prelude.{ℕ, ◌^◌, ◌≤◌, ◌<◌, ◌≡◌, length, get_or, Some}
 use Rattle.decimals.specs.Decimal.{decimal_of}
 use Rattle.decimaltext.specs.Text.{decimal_text}
 
 -- what is written is read back
 abbrev pub WrittenRead : Type 0
-WrittenRead = (n : ℕ) → n < 2 ^ 64 → decimal_of (decimal_text n) ≡ Of n
+WrittenRead = (n : ℕ) → n < 2 ^ 64 → decimal_of (decimal_text n) ≡ Some n
 
 -- a number of 64 bits has 1 to 20 digits
 abbrev pub AtMostTwenty : Type 0

@@ -14,11 +14,9 @@ pub fn demand_at(loads: &[u64], n: usize, t: u64) -> u64
     ensures { result ≡ demand (loads_of loads.now n) t }
 {
     let mut sum: u64 = 0;
-    let mut i: usize = 0;
-    while i < n {
+    for i in 0..n {
         let at = 3 * i;
         sum += term_at(loads[at], loads[at + 1], loads[at + 2], t);
-        i += 1;
     }
     sum
 }

@@ -28,15 +28,7 @@ pub fn all_legal(text: &[u8], at: usize, width: usize) -> bool
     requires { at + width ≤ length text.now }
     ensures { result ≡ all_legal (take width (drop at text.now)) }
 {
-    let mut i = 0;
-    while i < width {
-        let j = at + i;
-        if !is_legal(text[j]) {
-            return false;
-        }
-        i += 1;
-    }
-    true
+    text[at..at + width].iter().all(|b| is_legal(*b))
 }
 
 // The number that `width` legal digits from `at` on stand for.
@@ -47,11 +39,8 @@ pub fn number_at(text: &[u8], at: usize, width: usize) -> u64
     ensures { result ≡ number (take width (drop at text.now)) }
 {
     let mut sum: u64 = 0;
-    let mut i = 0;
-    while i < width {
-        let j = at + i;
-        sum = sum * 16 + value(text[j]);
-        i += 1;
+    for b in &text[at..at + width] {
+        sum = sum * 16 + value(*b);
     }
     sum
 }

@@ -2,7 +2,7 @@
 -- Assumes nothing.
 use Prim.Native.Nat.{ℕ, ◌+◌, ◌-◌, ◌≤◌, ◌<◌}
 use mathlib.Core.Path.{◌≡◌, refl, ◌∙◌, ap}
-use mathlib.Core.Bool.{true, false, ◌&&◌, and-true, or-false}
+use mathlib.Core.Bool.{Bool, true, false, ◌&&◌, and-true, or-false}
 use mathlib.Core.List.{List, [], ◌∷◌, ◌++◌}
 use mathlib.Core.Logic.{◌⊎◌, inl, inr, ⊎_elim}
 use native.Mathlib.Omega.{arith}
@@ -11,6 +11,7 @@ use lib.ListN.{take, drop, take-append-drop}
 use borrow.Author.Tests.{leb-true, le-leb, lt-leb, lt-ltb, le-ltb, ne_eqb}
 use Rattle.laws.proofs.Tests.{and_both, and_left, and_right, or_either}
 use Rattle.laws.proofs.Orders.{le_or_lt}
+use Rattle.std.specs.List.{list_all}
 use Rattle.digits.specs.Digit.{legal, value_of, digit_of, all_legal}
 
 -- the legal bytes
@@ -125,6 +126,8 @@ legal_take n ds p = legal_left (take n ds) (drop n ds) (rw take-append-drop p)
 pub legal_drop : (n : ℕ) (ds : List ℕ) → all_legal ds ≡ true → all_legal (drop n ds) ≡ true
 legal_drop n ds p = legal_right (take n ds) (drop n ds) (rw take-append-drop p)
 
-pub illegal_cons : (b : ℕ) (bs : List ℕ) → legal b ≡ false → all_legal (b ∷ bs) ≡ false
+-- it is legal where each byte is
+pub legal_each : (bs : List ℕ) → all_legal bs ≡ list_all legal bs
 unfolding all_legal
-illegal_cons b bs p = rw p
+legal_each [] = refl
+legal_each (b ∷ bs) = ap (λ (t : Bool). legal b && t) (legal_each bs)

@@ -1,23 +1,23 @@
 -- Laws of numbers and their digits, one for every width: the digits' length, that they are legal, and that the two undo one another.
 -- Assumes nothing.
-use Prim.Native.Nat.{ℕ, zero, suc, ◌+◌, ◌-◌, ◌*◌, ◌/◌, ◌%◌, ◌^◌, ◌≤◌, ◌<◌}
+use Prim.Native.Nat.{ℕ, zero, suc, ◌+◌, ◌*◌, ◌/◌, ◌%◌, ◌^◌, ◌≤◌, ◌<◌}
 use mathlib.Core.Path.{◌≡◌, refl, sym, ◌∙◌, ap, ap₂, subst}
-use mathlib.Core.Bool.{true, false, not}
+use mathlib.Core.Bool.{true, not}
 use mathlib.Core.List.{List, [], ◌∷◌, ◌++◌}
 use mathlib.Core.Logic.{⊎_elim}
-use native.Mathlib.Nat.{add-zero, sub-zero, pow-suc, pow-succ', mod-lt, div-add-mod', div-lt_iff_lt-mul, div-div-eq-div-mul, div-one, add-mul, mul_assoc, pow-le-pow_right, one-le-pow}
+use native.Mathlib.Nat.{pow-suc, pow-succ', mod-lt, div-add-mod', div-lt_iff_lt-mul, div-div-eq-div-mul, div-one, add-mul, mul_assoc, pow-le-pow_right, one-le-pow}
 use native.Mathlib.Numerals.{add-one}
 use native.Mathlib.Omega.{arith}
 use lib.Arith.{digits_lt, digits_div, digits_mod}
 use lib.Dec.{eqb, lit<}
 use lib.ListN.{length, take, drop, get_or, set, length-append}
-use lib.Seq.{drop-cons}
+use lib.Seq.{drop-cons, take-suc, length-take-le}
 use borrow.Author.Tests.{le-leb, lt-leb, eq-eqb, ne_eqb}
 use Rattle.laws.proofs.Orders.{le_or_lt}
 use Rattle.digits.specs.Digit.{legal, value_of, digit_of, all_legal}
 use Rattle.digits.specs.Stored.{stored}
 use Rattle.digits.specs.Number.{number_from, number, hex, too_large}
-use Rattle.digits.proofs.Digits.{value_digit, digit_value, digit_legal, value_below, legal_head, legal_tail, legal_append, legal_cons, illegal_cons}
+use Rattle.digits.proofs.Digits.{value_digit, digit_value, digit_legal, value_below, legal_head, legal_tail, legal_append, legal_cons, legal_drop, legal_take}
 use Rattle.digits.proofs.Stored.{stored_set}
 
 -- the digits at a width are as many as the width
@@ -111,58 +111,28 @@ hex_from h (b ∷ bs) p =
 pub hex_number : (ds : List ℕ) → all_legal ds ≡ true → hex (length ds) (number ds) ≡ ds
 hex_number ds p = hex_from 0 ds p
 
--- the bytes of a part that are left at one place, and at the next
-pub part_start : (text : List ℕ) (at width : ℕ) → take (width - 0) (drop (at + 0) text) ≡ take width (drop at text)
-part_start text at width = ap₂ (λ (n m : ℕ). take n (drop m text)) (sub-zero width) (add-zero at)
+-- each digit of a legal text is legal
+pub legal_at : (ds : List ℕ) (i : ℕ) → all_legal ds ≡ true → i < length ds → legal (get_or ds i 0) ≡ true
+legal_at ds i p h = legal_head (get_or ds i 0) (drop (suc i) ds) (ap all_legal (sym (drop-cons ds i 0 h)) ∙ legal_drop i ds p)
 
-pub part_next : (text : List ℕ) (at width i : ℕ) → i < width → at + width ≤ length text
-    → take (width - i) (drop (at + i) text) ≡ get_or text (at + i) 0 ∷ take (width - (i + 1)) (drop (at + (i + 1)) text)
-part_next text at width i h f =
-    ap₂ take count (drop-cons text (at + i) 0 (omega arith))
-    ∙ ap (λ (n : ℕ). get_or text (at + i) 0 ∷ take (width - (i + 1)) (drop n text)) next
-  where
-    count : width - i ≡ suc (width - (i + 1))
-    count = omega arith
+-- read from its start a number grows by one digit, and stays below 64 bits up to sixteen digits
+module _ (ds : List ℕ) (i : ℕ) (inside : i < length ds) where
+  pub number_next : number (take (i + 1) ds) ≡ number (take i ds) * 16 + value_of (get_or ds i 0)
+  unfolding number_from
+  number_next =
+      ap (λ (n : ℕ). number (take n ds)) (add-one i)
+      ∙ ap number (take-suc ds i 0 inside)
+      ∙ from_append 0 (take i ds) (get_or ds i 0 ∷ [])
 
-    next : suc (at + i) ≡ at + (i + 1)
-    next = omega arith
+  pub number_fits : all_legal ds ≡ true → i < 16 → number (take i ds) * 16 + value_of (get_or ds i 0) < 16 ^ 16
+  number_fits p few =
+      subst (λ (n : ℕ). n < 16 ^ 16) number_next (omega (arith, number_below (take (i + 1) ds) (legal_take (i + 1) ds p), power))
+    where
+      short : length (take (i + 1) ds) ≤ 16
+      short = omega (arith, length-take-le (i + 1) ds (omega arith))
 
-pub part_end : (text : List ℕ) (at width i : ℕ) → width ≤ i → take (width - i) (drop (at + i) text) ≡ []
-part_end text at width i h = ap (λ (n : ℕ). take n (drop (at + i) text)) none
-  where
-    none : width - i ≡ 0
-    none = omega arith
-
--- a part of a text, read digit by digit from its start
-module _ (text : List ℕ) (at width i : ℕ) (inside : i < width) (fits : at + width ≤ length text) where
-  pub legal_stops : legal (get_or text (at + i) 0) ≡ false → all_legal (take (width - i) (drop (at + i) text)) ≡ false
-  legal_stops p = ap all_legal (part_next text at width i inside fits) ∙ illegal_cons _ _ p
-
-  pub legal_goes_on : legal (get_or text (at + i) 0) ≡ true
-      → all_legal (take (width - i) (drop (at + i) text)) ≡ all_legal (take (width - (i + 1)) (drop (at + (i + 1)) text))
-  legal_goes_on p = ap all_legal (part_next text at width i inside fits) ∙ legal_cons _ _ p
-
-  whole : all_legal (take (width - i) (drop (at + i) text)) ≡ true
-      → all_legal (get_or text (at + i) 0 ∷ take (width - (i + 1)) (drop (at + (i + 1)) text)) ≡ true
-  whole p = ap all_legal (sym (part_next text at width i inside fits)) ∙ p
-
-  pub part_legal : all_legal (take (width - i) (drop (at + i) text)) ≡ true → legal (get_or text (at + i) 0) ≡ true
-  part_legal p = legal_head _ _ (whole p)
-
-  pub part_rest : all_legal (take (width - i) (drop (at + i) text)) ≡ true
-      → all_legal (take (width - (i + 1)) (drop (at + (i + 1)) text)) ≡ true
-  part_rest p = legal_tail _ _ (whole p)
-
-  pub part_number : (h : ℕ)
-      → number_from h (take (width - i) (drop (at + i) text)) ≡ number_from (h * 16 + value_of (get_or text (at + i) 0)) (take (width - (i + 1)) (drop (at + (i + 1)) text))
-  part_number h = ap (number_from h) (part_next text at width i inside fits) ∙ from_cons h _ _
-
--- a number grown by one digit stays below its power, and below 64 bits up to sixteen digits
-pub grows : (i h v : ℕ) → h < 16 ^ i → v < 16 → h * 16 + v < 16 ^ (i + 1)
-grows i h v p q = subst (λ (n : ℕ). h * 16 + v < n) (sym (pow-suc 16 i) ∙ ap (λ (n : ℕ). 16 ^ n) (sym (add-one i))) (digits_lt p q)
-
-pub power_fits : (i : ℕ) → i ≤ 16 → 16 ^ i ≤ 16 ^ 16
-power_fits i p = pow-le-pow_right (lit< tt) p
+      power : 16 ^ length (take (i + 1) ds) ≤ 16 ^ 16
+      power = pow-le-pow_right (lit< tt) short
 
 -- the lowest digit set, and the rest yet to be stored, is the whole number stored
 pub digit_stored : (b : List ℕ) (at w v : ℕ) → at + w < length b

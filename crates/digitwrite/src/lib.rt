@@ -23,13 +23,10 @@ pub fn put_number(out: &mut [u8], at: usize, width: usize, value: u64)
     requires { at + width ≤ length out.old }
     ensures { out.new ≡ stored out.old at (hex width value) }
 {
-    let mut left = width;
     let mut rest = value;
-    while 0 < left {
-        left -= 1;
-        let j = at + left;
+    for j in (at..at + width).rev() {
         out[j] = digit(rest % 16);
-        rest = rest / 16;
+        rest /= 16;
     }
 }
 
@@ -38,10 +35,8 @@ pub fn too_large(width: usize, value: u64) -> bool
     ensures { result ≡ too_large width value }
 {
     let mut high = value;
-    let mut passed = 0;
-    while passed < width {
-        high = high / 16;
-        passed += 1;
+    for _ in 0..width {
+        high /= 16;
     }
     high != 0
 }

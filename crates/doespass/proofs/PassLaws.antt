@@ -1,11 +1,11 @@
 -- Laws of the question does a server pass, of a plan that the planner makes of its set, and of another.
 -- Assumes nothing.
+use Rattle.std.specs.Prelude.{Ok}
 use Prim.Native.Nat.{ℕ}
 use mathlib.Core.Path.{◌≡◌}
 use mathlib.Core.Bool.{true, false}
 use lib.ListN.{length}
 use Rattle.refusals.specs.declared.Refusal.TheVariants.{Ask}
-use Rattle.refusals.specs.declared.Outcome.TheVariants.{Done}
 use Rattle.verdict.specs.declared.answer.Verdict.{Verdict}
 use Rattle.members.specs.Server.{verdict_for}
 use Rattle.tasks.specs.declared.set.TaskSet.{TaskSet}
@@ -28,7 +28,7 @@ module _ (set : TaskSet) (own : Server) (R : ℕ) where
   own_barred e = rw e
 
   pub own_there : {v : Verdict} → allowed set.header.slot (server_loss set.header (own_members set own)) R ≡ true
-      → v ≡ verdict_for (set_board set) (own_members set own) R → record { outcome = Done; verdict = v } ≡ own_pass set own R
+      → v ≡ verdict_for (set_board set) (own_members set own) R → record { outcome = Ok tt; verdict = v } ≡ own_pass set own R
   unfolding own_pass
   own_there e g = rw (e, g)
 

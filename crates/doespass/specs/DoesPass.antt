@@ -1,9 +1,8 @@
 -- The question does a server pass with a reserve, about a set and its plan.
 -- Document 01, "From tasks to servers to ring" (RULES 4.2) and row 11 of the refusals (RULES 6.5).
-use Rattle.std.specs.Prelude.{ℕ, cond, ◌&&◌}
+use Rattle.std.specs.Prelude.{ℕ, cond, ◌&&◌, Err, Ok}
 use Rattle.refusals.specs.declared.Refusal.{Refusal}
 use Rattle.refusals.specs.declared.Refusal.TheVariants.{Ask}
-use Rattle.refusals.specs.declared.Outcome.TheVariants.{Done, Refused}
 use Rattle.verdict.specs.declared.answer.Verdict.{Verdict}
 use Rattle.verdict.specs.declared.answer.Verdict.TheVariants.{Yes}
 use Rattle.members.specs.Server.{verdict_for}
@@ -20,10 +19,10 @@ use Rattle.doespass.specs.declared.PassAnswer.{PassAnswer}
 
 -- a refused question has zeros
 abbrev pub refused_pass : Refusal → PassAnswer
-refused_pass r = record { outcome = Refused r; verdict = Yes (record { length = 0; demand = 0; supply = 0 }) }
+refused_pass r = record { outcome = Err r; verdict = Yes (record { length = 0; demand = 0; supply = 0 }) }
 
 abbrev pub pass_answer : Verdict → PassAnswer
-pass_answer verdict = record { outcome = Done; verdict = verdict }
+pass_answer verdict = record { outcome = Ok tt; verdict = verdict }
 
 -- does a server pass with R, by its record
 unfoldable pub own_pass : TaskSet → Server → (R : ℕ) → PassAnswer

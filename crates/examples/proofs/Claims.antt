@@ -1,8 +1,8 @@
 -- Examples A to O and R to T, each row proved: by computing, and what K prints by the law of a refused file.
 -- Assumes nothing.
+use Rattle.std.specs.Prelude.{Err}
 use mathlib.Core.Path.{◌≡◌, refl, ap, ◌∙◌}
 use Rattle.refusals.specs.declared.Refusal.TheVariants.{Horizon}
-use Rattle.refusals.specs.declared.Outcome.TheVariants.{Refused}
 use Rattle.planlines.specs.Line.{refusal_text}
 use Rattle.planfile.specs.Tool.{answered}
 use Rattle.quoted.specs.Quoted.{bytes_of}
@@ -17,7 +17,7 @@ pub rows_refuse : RowsRefuse
 rows_refuse = rows.rows_refuse
 
 -- K's row 9 is computed, its plan is not: the line of refusal 9 follows
-k_refused : rows_in (bytes_of file_k) ≡ Refused Horizon
+k_refused : rows_in (bytes_of file_k) ≡ Err Horizon
 unfolding computing
 k_refused = refl
 

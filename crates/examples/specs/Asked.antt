@@ -3,7 +3,7 @@
 use Rattle.std.specs.Prelude.{ℕ, ◌+◌, ◌-◌, List, ◌≡◌}
 use Prim.Native.String.{String}
 use Rattle.refusals.specs.declared.Refusal.TheVariants.{Full, Alone}
-use Rattle.refusals.specs.declared.Outcome.{Outcome}
+use Rattle.refusals.specs.Refused.{Outcome}
 use Rattle.refusals.specs.First.{first_of, when}
 use Rattle.demand.specs.Passes.{fake}
 use Rattle.tasks.specs.declared.set.TaskSet.{TaskSet}

@@ -1,10 +1,9 @@
 -- Examples A to L of document 01, M of document 02, Req 04, N and O of Req 08, R of Req 05, and S and T of Req 12: lists of what is
 -- asked and what is given, and one statement for each, that every row holds.
 -- It is proved in proofs/Claims.antt.
-use Rattle.std.specs.Prelude.{ℕ, List, [], ◌∷◌, ◌≡◌}
+use Rattle.std.specs.Prelude.{ℕ, List, [], ◌∷◌, ◌≡◌, Err, Ok}
 use Prim.Native.String.{String}
 use Rattle.refusals.specs.declared.Refusal.TheVariants.{Horizon}
-use Rattle.refusals.specs.declared.Outcome.TheVariants.{Done, Refused}
 use Rattle.verdict.specs.declared.answer.Verdict.TheVariants.{Yes, No}
 use Rattle.ring.specs.declared.clock.Tick.{Tick}
 use Rattle.quoted.specs.Quoted.{bytes_of}
@@ -26,13 +25,13 @@ abbrev pub lines : String → Answer
 lines quoted = text (bytes_of quoted)
 
 abbrev pub server : (number left : ℕ) → Answer
-server number left = running (record { outcome = Done; server = number; left = left })
+server number left = running (record { outcome = Ok tt; server = number; left = left })
 
 abbrev pub fails_at : (length demand supply : ℕ) → Answer
-fails_at length demand supply = passed (record { outcome = Done; verdict = No (record { length = length; demand = demand; supply = supply }) })
+fails_at length demand supply = passed (record { outcome = Ok tt; verdict = No (record { length = length; demand = demand; supply = supply }) })
 
 abbrev pub passes_at : (length demand supply : ℕ) → Answer
-passes_at length demand supply = passed (record { outcome = Done; verdict = Yes (record { length = length; demand = demand; supply = supply }) })
+passes_at length demand supply = passed (record { outcome = Ok tt; verdict = Yes (record { length = length; demand = demand; supply = supply }) })
 
 abbrev pub at : ℕ → Tick
 at tick = record { 0 = tick }
@@ -114,10 +113,10 @@ examples =
     ∷ row (prints file_i) (lines "1F0801\n")
     -- J: H is 10,000,000, no refusal 9, nor one of those before it
     ∷ row (lasts file_j) (ticks 10000000)
-    ∷ row (refuses file_j) (outcome Done)
+    ∷ row (refuses file_j) (outcome (Ok tt))
     -- K: H is 11,000,000, refusal 9
     ∷ row (lasts file_k) (ticks 11000000)
-    ∷ row (refuses file_k) (outcome (Refused Horizon))
+    ∷ row (refuses file_k) (outcome (Err Horizon))
     ∷ row (prints file_k) (lines "1F0900\n")
     -- L: in A at tick 0, server 2 is on processor 2 with 2 ticks left; at tick 6 on processor 1 with 6
     ∷ row (runs file_a 2 (at 0)) (server 2 2)

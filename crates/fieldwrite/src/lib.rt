@@ -7,6 +7,7 @@ ghost use Rattle.digits.specs.Stored.{stored};
 ghost use Rattle.fieldwrite.specs.Mark.{mark_width, mark_of};
 
 use digitwrite::put_number;
+use store::store;
 
 // The ring start of a server on a whole processor, and the number that it stands for.
 pub const WHOLE: [u8; MARK_DIGITS] = *b"FFFFFFFF";
@@ -15,26 +16,12 @@ const MARK_DIGITS: usize = 8;
 
 pub const MARK: u64 = 0xFFFF_FFFF;
 
-// Copies a byte string into the buffer.
-pub fn put_bytes(out: &mut [u8], at: usize, bytes: &[u8])
-    requires { at + count bytes.now ≤ count out.old }
-    ensures { out.new ≡ stored out.old at bytes.now }
-{
-    let mut i = 0;
-    while i < bytes.len() {
-        let j = at + i;
-        out[j] = bytes[i];
-        i += 1;
-    }
-}
-
 // Writes the mark of a whole processor.
 fn put_mark(out: &mut [u8], at: usize)
     requires { at + mark_width ≤ count out.old }
     ensures { out.new ≡ stored out.old at mark_of }
 {
-    let mark = WHOLE;
-    put_bytes(out, at, &mark);
+    store(out, at, &WHOLE);
 }
 
 // Writes the value of a field. The greatest number of eight digits is the mark, a fixed byte string.

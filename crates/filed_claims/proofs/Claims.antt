@@ -6,7 +6,7 @@ use mathlib.Core.Bool.{true}
 use mathlib.Core.List.{List, ◌++◌, map}
 use native.Mathlib.Omega.{arith}
 use lib.ListN.{length, take}
-use Rattle.refusals.specs.declared.Outcome.{Outcome}
+use Rattle.refusals.specs.Refused.{Outcome}
 use Rattle.wholes.specs.Multiple.{LeastMultipleOf}
 use Rattle.wholes.proofs.Claims.{multiple_of_means}
 use Rattle.demand.specs.Load.{Load, Sound, Every}

@@ -1,6 +1,7 @@
 -- A file's set has all its places; of an accepted file the planner makes the plan of the set, the tool prints its text, and the
 -- questions are asked of both.
 -- Assumes nothing.
+use Rattle.std.specs.Prelude.{Err, Ok}
 use Prim.Native.Nat.{ℕ, ◌-◌, ◌≤◌}
 use mathlib.Core.Path.{◌≡◌, refl, sym, ap, ◌∙◌}
 use mathlib.Core.List.{List, []}
@@ -10,8 +11,7 @@ use lib.ListN.{length, replicate, length-append, length-replicate}
 use Rattle.refusals.specs.declared.Refusal.{Refusal}
 use Rattle.refusals.specs.declared.Refusal.TheVariants.{Alone}
 use Rattle.refusals.proofs.FirstLaws.{done_refused}
-use Rattle.refusals.specs.declared.Outcome.{Outcome}
-use Rattle.refusals.specs.declared.Outcome.TheVariants.{Done, Refused}
+use Rattle.refusals.specs.Refused.{Outcome}
 use Rattle.tasks.specs.declared.set.Header.{Header}
 use Rattle.tasks.specs.declared.set.Interrupt.{Interrupt}
 use Rattle.tasks.specs.declared.set.Task.{Task}
@@ -48,15 +48,15 @@ made_whole header ts is few =
     length-append ts (replicate (most_tasks - length ts) zero_task) ∙ omega (arith, length-replicate (most_tasks - length ts) zero_task, few)
 
 -- that of an answer, where a read that is done has few tasks
-answer_whole : (o : Outcome) (header : Header) (ts : List Task) (is : List Interrupt) → ((answer o (set_of header ts is)).outcome ≡ Done → length ts ≤ most_tasks) →
+answer_whole : (o : Outcome) (header : Header) (ts : List Task) (is : List Interrupt) → ((answer o (set_of header ts is)).outcome ≡ Ok tt → length ts ≤ most_tasks) →
     Whole (answer o (set_of header ts is)).set
-answer_whole Done header ts is few = made_whole header ts is (few refl)
-answer_whole (Refused r) header ts is few = length-replicate most_tasks zero_task
+answer_whole (Ok _) header ts is few = made_whole header ts is (few refl)
+answer_whole (Err r) header ts is few = length-replicate most_tasks zero_task
 
 -- what reading answers, and how many interrupts a file's set counts
 answer_outcome : (o : Outcome) (set : TaskSet) → (answer o set).outcome ≡ o
-answer_outcome Done set = refl
-answer_outcome (Refused r) set = refl
+answer_outcome (Ok _) set = refl
+answer_outcome (Err r) set = refl
 
 read_outcome_lem : (text : List ℕ) → (read_of text).outcome ≡ read_outcome text
 unfolding read_of
@@ -72,12 +72,12 @@ unfolding read_of file_set
 read_whole text = answer_whole (read_outcome text) (file_header text) (file_tasks text) (file_interrupts text) (λ e. (read_accepted text e).most)
 
 handed_whole : (o : Outcome) (file : FileAnswer) → Whole file.set → Whole (unless refused_file o file).set
-handed_whole Done file w = w
-handed_whole (Refused r) file w = length-replicate most_tasks zero_task
+handed_whole (Ok _) file w = w
+handed_whole (Err r) file w = length-replicate most_tasks zero_task
 
 planned_whole : (set : TaskSet) → Whole set → Whole (planned_set set).set
 unfolding planned_set
-planned_whole set w = handed_whole (plan_of set).outcome (record { outcome = Done; set = set; plan = (plan_of set).plan }) w
+planned_whole set w = handed_whole (plan_of set).outcome (record { outcome = Ok tt; set = set; plan = (plan_of set).plan }) w
 
 -- that of a file
 pub filed_full : FileFull
@@ -87,36 +87,36 @@ filed_full text = handed_whole (read_of text).outcome (planned_set (read_of text
 -- ---- the set that was read
 
 -- where a plan is given of a set that was read, it is the file's
-planned_own : (o : Outcome) (file : FileAnswer) → (unless refused_file o file).outcome ≡ Done → unless refused_file o file ≡ file
-planned_own Done file e = refl
-planned_own (Refused r) file e = done_refused (sym e)
+planned_own : (o : Outcome) (file : FileAnswer) → (unless refused_file o file).outcome ≡ Ok tt → unless refused_file o file ≡ file
+planned_own (Ok _) file e = refl
+planned_own (Err r) file e = done_refused (sym e)
 
 file_own : (text : List ℕ) (o : Outcome) →
-    (unless refused_file (answer o (file_set text)).outcome (planned_set (answer o (file_set text)).set)).outcome ≡ Done →
+    (unless refused_file (answer o (file_set text)).outcome (planned_set (answer o (file_set text)).set)).outcome ≡ Ok tt →
     (unless refused_file (answer o (file_set text)).outcome (planned_set (answer o (file_set text)).set)).set ≡ file_set text
 unfolding planned_set
-file_own text Done e =
-    ap (λ (f : FileAnswer). f.set) (planned_own (plan_of (file_set text)).outcome (record { outcome = Done; set = file_set text; plan = (plan_of (file_set text)).plan }) e)
-file_own text (Refused r) e = done_refused (sym e)
+file_own text (Ok _) e =
+    ap (λ (f : FileAnswer). f.set) (planned_own (plan_of (file_set text)).outcome (record { outcome = Ok tt; set = file_set text; plan = (plan_of (file_set text)).plan }) e)
+file_own text (Err r) e = done_refused (sym e)
 
 -- a refusal by row 13 is the planner's, of the set that was read
-planned_refused : (o : Outcome) (file : FileAnswer) (r : Refusal) → file.outcome ≡ Done → (unless refused_file o file).outcome ≡ Refused r → o ≡ Refused r
-planned_refused Done file r d e = done_refused (sym d ∙ e)
-planned_refused (Refused q) file r d e = e
+planned_refused : (o : Outcome) (file : FileAnswer) (r : Refusal) → file.outcome ≡ Ok tt → (unless refused_file o file).outcome ≡ Err r → o ≡ Err r
+planned_refused (Ok _) file r d e = done_refused (sym d ∙ e)
+planned_refused (Err q) file r d e = e
 
 file_never : (text : List ℕ) (k : ℕ) (o : Outcome) → (read_of text).outcome ≡ o → file_interrupts text ≡ [] → Whole (answer o (file_set text)).set →
-    (unless refused_file (answer o (file_set text)).outcome (planned_set (answer o (file_set text)).set)).outcome ≡ Refused (Alone k) → ⊥
+    (unless refused_file (answer o (file_set text)).outcome (planned_set (answer o (file_set text)).set)).outcome ≡ Err (Alone k) → ⊥
 unfolding planned_set
-file_never text k Done r none whole e =
+file_never text k (Ok _) r none whole e =
     never_alone (file_set text) k whole (count_none text none)
-    (planned_refused (plan_of (file_set text)).outcome (record { outcome = Done; set = file_set text; plan = (plan_of (file_set text)).plan }) (Alone k) refl e)
+    (planned_refused (plan_of (file_set text)).outcome (record { outcome = Ok tt; set = file_set text; plan = (plan_of (file_set text)).plan }) (Alone k) refl e)
   where
     count_none : (text : List ℕ) → file_interrupts text ≡ [] → (file_set text).interrupts.count ≡ 0
     count_none text none = read_count text ∙ ap length none
-file_never text k (Refused q) r none whole e = absurd (omega (arith, (read_refuses text (Alone k) (r ∙ e)).0))
+file_never text k (Err q) r none whole e = absurd (omega (arith, (read_refuses text (Alone k) (r ∙ e)).0))
 
 -- a file without 07 lines is not refused by row 13
-pub filed_never : (text : List ℕ) (k : ℕ) → file_interrupts text ≡ [] → (filed_of text).outcome ≡ Refused (Alone k) → ⊥
+pub filed_never : (text : List ℕ) (k : ℕ) → file_interrupts text ≡ [] → (filed_of text).outcome ≡ Err (Alone k) → ⊥
 unfolding filed_of read_of
 filed_never text k none e = file_never text k (read_outcome text) (read_outcome_lem text) none (read_whole text) e
 

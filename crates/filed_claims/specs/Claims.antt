@@ -1,9 +1,8 @@
 -- What holds of the plan of every accepted task file, each claim as a type: nothing is asked but that the file is accepted. And that
 -- unused room never shows. The proofs stand under the same names in proofs/Claims.antt.
 -- The note's demands 2 and 3; document 02, Req 04, Req 05 and Req 08; document 01, "Demand, supply, and the report's test" (RULES 2) and "From tasks to servers to ring" (RULES 3).
-use Rattle.std.specs.Prelude.{ℕ, ◌+◌, ◌*◌, ◌-◌, ◌≤◌, ◌<◌, ◌≡◌, ◌↔◌, ◌⊎◌, true, cond, List, [], ◌∷◌, ◌++◌, map, eqb, length, get_or, take}
+use Rattle.std.specs.Prelude.{ℕ, ◌+◌, ◌*◌, ◌-◌, ◌≤◌, ◌<◌, ◌≡◌, ◌↔◌, ◌⊎◌, true, cond, List, [], ◌∷◌, ◌++◌, map, eqb, length, get_or, take, Err, Ok}
 use Rattle.refusals.specs.declared.Refusal.TheVariants.{Alone}
-use Rattle.refusals.specs.declared.Outcome.TheVariants.{Done, Refused}
 use Rattle.wholes.specs.Multiple.{LeastMultipleOf}
 use Rattle.demand.specs.Load.{Load, Every}
 use Rattle.demand.specs.Demand.{jobs, demand}
@@ -58,7 +57,7 @@ use Rattle.promises.specs.Claims.{UnrolledRota}
 
 -- a file is accepted: it is read, and the planner gives its set a plan
 abbrev pub FileAccepted : (text : List ℕ) → Type 0
-FileAccepted text = (filed_of text).outcome ≡ Done
+FileAccepted text = (filed_of text).outcome ≡ Ok tt
 
 -- the set and the plan of a file
 abbrev pub set_in : (text : List ℕ) → TaskSet
@@ -213,7 +212,7 @@ FileInterrupts =
 
 -- A file without a 07 line is never refused by 13.
 abbrev pub FileNeverAlone : Type 0
-FileNeverAlone = (text : List ℕ) (k : ℕ) → file_interrupts text ≡ [] → (filed_of text).outcome ≡ Refused (Alone k) → ⊥
+FileNeverAlone = (text : List ℕ) (k : ℕ) → file_interrupts text ≡ [] → (filed_of text).outcome ≡ Err (Alone k) → ⊥
 
 -- ---- the horizon
 
@@ -292,7 +291,7 @@ pub record ClosestAt (set : TaskSet) (plan : Plan) (q R t : ℕ) : Type 0 where
 -- yes with the length t, the demand and the supply there
 abbrev pub yes_at : TaskSet → Plan → (q R t : ℕ) → PassAnswer
 yes_at set plan q R t =
-    record { outcome = Done; verdict = Yes (record { length = t; demand = demand_in set plan q t; supply = supply_in set plan q R t }) }
+    record { outcome = Ok tt; verdict = Yes (record { length = t; demand = demand_in set plan q t; supply = supply_in set plan q R t }) }
 
 -- Asked of a server that passes with an allowed reserve, a file's question names the closest length.
 abbrev pub FileClosest : Type 0

@@ -31,8 +31,8 @@ pub fn fit_switches(set: TaskSet, plan: Plan, out: &mut [u8]) -> Written
     };
     let needed = lines_length(Frame::Switch, switch_count(&row, turn) as usize);
     if out.len() < needed {
-        return Written::Refused(Refusal::Room);
+        return Err(Refusal::Room);
     }
     put_turn(out, &row, turn);
-    Written::Bytes(needed)
+    Ok(needed)
 }

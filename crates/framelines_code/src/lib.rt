@@ -21,11 +21,9 @@ pub fn put_lines(out: &mut [u8], at: usize, frame: Frame, values: &[u64], n: usi
     let fields = row.fields;
     let mut next = at;
     let mut from = 0;
-    let mut done = 0;
-    while done < n {
+    for _ in 0..n {
         next = put_row(out, next, row, &values[from..]);
         from += fields;
-        done += 1;
     }
 }
 

@@ -6,26 +6,23 @@ ghost use Rattle.frames.specs.Table.{most_fields};
 ghost use Rattle.frameread.specs.Line.{formed, field_of, kind_at};
 
 use digitread::number_at;
-use frameread::Found;
 use frames::table::{Frame, KINDS};
 use frames_code::FRAMES;
 use framesizes_code::{field_start, width};
 use is_line::is_line;
 
 // The frame whose line the text from `at` on starts with.
-pub fn kind_at(text: &[u8], at: usize) -> Found
+pub fn kind_at(text: &[u8], at: usize) -> Option<Frame>
     requires { at ≤ count text.now }
     ensures { result ≡ kind_at (drop at text.now) }
 {
-    let mut i = 0;
-    while i < KINDS {
+    for i in 0..KINDS {
         let frame = FRAMES[i];
         if is_line(text, at, frame) {
-            return Found::Frame(frame);
+            return Some(frame);
         }
-        i += 1;
     }
-    Found::Nothing
+    None
 }
 
 // The value of a field of the line at `at`.

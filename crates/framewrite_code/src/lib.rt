@@ -6,10 +6,10 @@ ghost use Rattle.frames.specs.Table.{length_of, fields_in, most_fields, sum};
 ghost use Rattle.framewrite.specs.Line.{fields, row_widths, line_by, line_of};
 ghost use Rattle.digits.specs.Stored.{stored};
 
-use fieldwrite::put_bytes;
 use frames::table::{Frame, Row};
 use frames_code::row_of;
 use put_fields::put_fields;
+use store::store;
 
 // Writes a line with its LF, by its row of the table, and says where it ends. Whoever writes many lines of a frame takes the row once.
 pub fn put_row(out: &mut [u8], at: usize, row: Row, values: &[u64]) -> usize
@@ -19,7 +19,7 @@ pub fn put_row(out: &mut [u8], at: usize, row: Row, values: &[u64]) -> usize
     ensures out_after { out.new ≡ stored out.old at (line_by row values.now) }
 {
     let kind = row.kind;
-    put_bytes(out, at, &kind);
+    store(out, at, &kind);
     let end = put_fields(out, at + 2, row, values);
     out[end] = b'\n';
     end + 1

@@ -1,9 +1,7 @@
 -- The numbers in which a set and a plan are handed in: every field in its order, unused room too.
 -- A number that is missing is 0, and a field of w bits takes the last w bits of its number.
 -- Document 01: "A set or plan may also be built by the caller."
-use Rattle.std.specs.Prelude.{ℕ, ◌+◌, ◌*◌, ◌%◌, ◌^◌, List, cond, get_or, eqb}
-use Rattle.tasks.specs.declared.set.Optional.{Optional}
-use Rattle.tasks.specs.declared.set.Optional.TheVariants.{Absent, Given}
+use Rattle.std.specs.Prelude.{ℕ, ◌+◌, ◌*◌, ◌%◌, ◌^◌, List, cond, get_or, eqb, None, Option, Some}
 use Rattle.tasks.specs.Set.{most_tasks}
 
 -- number i, from 0
@@ -20,8 +18,8 @@ abbrev pub word_at : (numbers : List ℕ) (i : ℕ) → ℕ
 word_at numbers i = number_at numbers i % 2 ^ 32
 
 -- what an optional line or field gives: whether there is one (0 for none), and its figure
-abbrev pub optional_from : (numbers : List ℕ) (at : ℕ) → Optional
-optional_from ns at = cond (eqb (number_at ns at) 0) Absent (Given (half_at ns (at + 1)))
+abbrev pub optional_from : (numbers : List ℕ) (at : ℕ) → Option ℕ
+optional_from ns at = cond (eqb (number_at ns at) 0) None (Some (half_at ns (at + 1)))
 
 -- where the tasks of a set start, and where the count of the interrupts stands
 abbrev pub tasks_at : ℕ

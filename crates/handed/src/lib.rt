@@ -3,15 +3,9 @@
 #![tactic(auto)]
 
 ghost use Rattle.std.specs.Prelude.{◌≡◌, ◌≤◌};
-ghost use Rattle.handed.specs.Handed.{number_at, optional_from, most_numbers};
+ghost use Rattle.handed.specs.Handed.{number_at, byte_at, half_at, word_at, optional_from, most_numbers};
 
-use tasks::set::{Optional, TaskSet};
-
-pub const BYTE: u64 = 256;
-
-pub const HALF: u64 = 65_536;
-
-pub const WORD: u64 = 4_294_967_296;
+use tasks::set::TaskSet;
 
 pub const TASKS: usize = 12;
 
@@ -32,14 +26,33 @@ pub fn number_at(numbers: &[u64], i: usize) -> u64
     if i < numbers.len() { numbers[i] } else { 0 }
 }
 
+// Number i as a field of 8, 16 or 32 bits.
+pub fn byte_at(numbers: &[u64], i: usize) -> u8
+    ensures { result ≡ byte_at numbers.now i }
+{
+    (number_at(numbers, i) % 0x100) as u8
+}
+
+pub fn half_at(numbers: &[u64], i: usize) -> u16
+    ensures { result ≡ half_at numbers.now i }
+{
+    (number_at(numbers, i) % 0x1_0000) as u16
+}
+
+pub fn word_at(numbers: &[u64], i: usize) -> u32
+    ensures { result ≡ word_at numbers.now i }
+{
+    (number_at(numbers, i) % 0x1_0000_0000) as u32
+}
+
 // The figure of an optional line or field, where there is one: two numbers from `at` on.
-pub fn optional_from(numbers: &[u64], at: usize) -> Optional
+pub fn optional_from(numbers: &[u64], at: usize) -> Option<u16>
     requires { at ≤ most_numbers }
     ensures { result ≡ optional_from numbers.now at }
 {
     let absent = number_at(numbers, at) == 0;
     if absent {
-        return Optional::Absent;
+        return None;
     }
-    Optional::Given((number_at(numbers, at + 1) % HALF) as u16)
+    Some(half_at(numbers, at + 1))
 }

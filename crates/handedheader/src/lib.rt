@@ -4,20 +4,20 @@
 ghost use Rattle.std.specs.Prelude.{◌≡◌};
 ghost use Rattle.handedheader.specs.Header.{header_from};
 
-use handed::{BYTE, HALF, WORD, number_at, optional_from};
+use handed::{byte_at, half_at, optional_from, word_at};
 use tasks::set::Header;
 
 pub fn header_from(numbers: &[u64]) -> Header
     ensures { result ≡ header_from numbers.now }
 {
     Header {
-        processors: (number_at(numbers, 1) % BYTE) as u8,
-        slot: (number_at(numbers, 2) % WORD) as u32,
-        relj: (number_at(numbers, 3) % HALF) as u16,
-        relo: (number_at(numbers, 4) % HALF) as u16,
-        ctswo: (number_at(numbers, 5) % HALF) as u16,
-        resd: (number_at(numbers, 6) % HALF) as u16,
-        cpmdo: (number_at(numbers, 7) % HALF) as u16,
+        processors: byte_at(numbers, 1),
+        slot: word_at(numbers, 2),
+        relj: half_at(numbers, 3),
+        relo: half_at(numbers, 4),
+        ctswo: half_at(numbers, 5),
+        resd: half_at(numbers, 6),
+        cpmdo: half_at(numbers, 7),
         masked: optional_from(numbers, 8),
         rule: optional_from(numbers, 10),
     }

@@ -8,51 +8,38 @@ use handed::{FIRST, PLACEMENT, number_at};
 use handedservers::servers_from;
 use plan::plan::Plan;
 use ring::cover::Stand;
+use std::array::from_fn;
 use tasks::set::TaskSet;
 
 fn placement_from(numbers: &[u64]) -> [u64; TaskSet::MOST_TASKS]
     ensures { result ≡ placement_from numbers.now }
 {
-    let mut placement = [0u64; TaskSet::MOST_TASKS];
-    let mut i: usize = 0;
-    while i < TaskSet::MOST_TASKS {
-        placement[i] = number_at(numbers, PLACEMENT + i);
-        i += 1;
-    }
-    placement
+    from_fn(|i| number_at(numbers, PLACEMENT + i))
 }
 
 fn first_from(numbers: &[u64]) -> [Stand; TaskSet::MOST_TASKS]
     ensures { result ≡ first_from numbers.now }
 {
-    let none = Stand { server: 0, left: 0 };
-    let mut first = [none; TaskSet::MOST_TASKS];
-    let mut i: usize = 0;
-    while i < TaskSet::MOST_TASKS {
+    from_fn(|i| {
         let at = FIRST + 2 * i;
-        first[i] = Stand {
+        Stand {
             server: number_at(numbers, at),
             left: number_at(numbers, at + 1),
-        };
-        i += 1;
-    }
-    first
+        }
+    })
 }
 
 pub fn plan_from(numbers: &[u64]) -> Plan
     ensures { result ≡ plan_from numbers.now }
 {
-    let server = servers_from(numbers);
-    let placement = placement_from(numbers);
-    let first = first_from(numbers);
     Plan {
         whole: number_at(numbers, 0),
         ring: number_at(numbers, 1),
         servers: number_at(numbers, 2),
         slot: number_at(numbers, 3),
         idle: number_at(numbers, 4),
-        server,
-        placement,
-        first,
+        server: servers_from(numbers),
+        placement: placement_from(numbers),
+        first: first_from(numbers),
     }
 }

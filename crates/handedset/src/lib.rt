@@ -7,10 +7,11 @@ ghost use Rattle.std.specs.Prelude.{◌≡◌, ◌≤◌};
 ghost use Rattle.handed.specs.Handed.{interrupts_at};
 ghost use Rattle.handedset.specs.Set.{task_from, set_from};
 
-use handed::{BYTE, TASKS, WORD, number_at, optional_from};
+use handed::{TASKS, byte_at, number_at, optional_from, word_at};
 use handedheader::header_from;
 use handedinterrupts::interrupts_from;
-use tasks::set::{Optional, Task, TaskSet};
+use std::array::from_fn;
+use tasks::set::{Task, TaskSet};
 
 // The task whose numbers stand from `at` on.
 fn task_from(numbers: &[u64], at: usize) -> Task
@@ -18,10 +19,10 @@ fn task_from(numbers: &[u64], at: usize) -> Task
     ensures { result ≡ task_from numbers.now at }
 {
     Task {
-        id: (number_at(numbers, at) % BYTE) as u8,
-        cost: (number_at(numbers, at + 1) % WORD) as u32,
-        deadline: (number_at(numbers, at + 2) % WORD) as u32,
-        period: (number_at(numbers, at + 3) % WORD) as u32,
+        id: byte_at(numbers, at),
+        cost: word_at(numbers, at + 1),
+        deadline: word_at(numbers, at + 2),
+        period: word_at(numbers, at + 3),
         cache: optional_from(numbers, at + 4),
     }
 }
@@ -29,25 +30,10 @@ fn task_from(numbers: &[u64], at: usize) -> Task
 pub fn set_from(numbers: &[u64]) -> TaskSet
     ensures { result ≡ set_from numbers.now }
 {
-    let mut tasks = [Task {
-        id: 0,
-        cost: 0,
-        deadline: 0,
-        period: 0,
-        cache: Optional::Absent,
-    }; TaskSet::MOST_TASKS];
-    let mut i: usize = 0;
-    while i < TaskSet::MOST_TASKS {
-        tasks[i] = task_from(numbers, TASKS + 6 * i);
-        i += 1;
-    }
-    let header = header_from(numbers);
-    let count = number_at(numbers, 0) as usize;
-    let interrupts = interrupts_from(numbers);
     TaskSet {
-        header,
-        count,
-        tasks,
-        interrupts,
+        header: header_from(numbers),
+        count: number_at(numbers, 0) as usize,
+        tasks: from_fn(|i| task_from(numbers, TASKS + 6 * i)),
+        interrupts: interrupts_from(numbers),
     }
 }

@@ -6,23 +6,12 @@ ghost use Rattle.std.specs.Prelude.{◌≡◌, true};
 ghost use Rattle.frameread.specs.Line.{formed};
 ghost use Rattle.frames.specs.declared.table.Frame.{Frame};
 ghost use Rattle.taskfile.specs.File.{line_outcome, header_at};
-ghost use Rattle.headerline.specs.Answer.{header_or, of_header};
+ghost use Rattle.lineanswer.specs.Answer.{line_or};
 
-use frameread::Found;
 use frameread_code::{field, kind_at};
 use frames::table::Frame;
-use headerline::HeaderLine;
-use refusals::{Outcome, Refusal};
-use tasks::set::{Header, Optional};
-
-pub fn header_outcome(line: HeaderLine) -> Outcome
-    ensures { result ≡ of_header line }
-{
-    match line {
-        HeaderLine::Header(_) => Outcome::Done,
-        HeaderLine::Refused(refusal) => Outcome::Refused(refusal),
-    }
-}
+use refusals::Refusal;
+use tasks::set::Header;
 
 fn header_at(text: &[u8]) -> Header
     requires { formed Frame.Header text.now ≡ true }
@@ -36,29 +25,29 @@ fn header_at(text: &[u8]) -> Header
         ctswo: field(text, 0, Frame::Header, 4) as u16,
         resd: field(text, 0, Frame::Header, 5) as u16,
         cpmdo: field(text, 0, Frame::Header, 6) as u16,
-        masked: Optional::Absent,
-        rule: Optional::Absent,
+        masked: None,
+        rule: None,
     }
 }
 
-pub fn header_line(text: &[u8]) -> HeaderLine
-    ensures { result ≡ header_or (line_outcome text.now 1) (header_at text.now) }
+pub fn header_line(text: &[u8]) -> Result<Header, Refusal>
+    ensures { result ≡ line_or (line_outcome text.now 1) (header_at text.now) }
 {
     if text.len() == 0 {
-        return HeaderLine::Refused(Refusal::Order(1));
+        return Err(Refusal::Order(1));
     }
     let found = kind_at(text, 0);
-    let Found::Frame(frame) = found else {
-        return HeaderLine::Refused(Refusal::Line(1));
+    let Some(frame) = found else {
+        return Err(Refusal::Line(1));
     };
     match frame {
         Frame::Header => {
             let header = header_at(text);
-            HeaderLine::Header(header)
+            Ok(header)
         }
         Frame::Task | Frame::Cached | Frame::Masked | Frame::Rule | Frame::Interrupt => {
-            HeaderLine::Refused(Refusal::Order(1))
+            Err(Refusal::Order(1))
         }
-        _ => HeaderLine::Refused(Refusal::Line(1)),
+        _ => Err(Refusal::Line(1)),
     }
 }

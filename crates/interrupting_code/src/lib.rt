@@ -17,8 +17,7 @@ fn greatest_at(loads: &[u64], n: usize, t: u64) -> u64
     let mut greatest: u64 = 0;
     let mut processor: u64 = 0;
     let mut sum: u64 = 0;
-    let mut i: usize = 0;
-    while i < count {
+    for i in 0..count {
         let at = from + 4 * i;
         let its = loads[at];
         if processor < its {
@@ -26,11 +25,7 @@ fn greatest_at(loads: &[u64], n: usize, t: u64) -> u64
             sum = 0;
         }
         sum += demand_code::term_at(loads[at + 1], loads[at + 2], loads[at + 3], t);
-        let more = greatest < sum;
-        if more {
-            greatest = sum;
-        }
-        i += 1;
+        greatest = greatest.max(sum);
     }
     greatest
 }

@@ -7,7 +7,6 @@ ghost use Rattle.frames.specs.declared.table.Frame.{Frame};
 ghost use Rattle.taskfile.specs.File.{line_outcome, interrupt_at, interrupts_among};
 ghost use Rattle.taskfile.specs.Taken.{BehindTasks};
 
-use frameread::Found;
 use frameread_code::{field, kind_at};
 use frames::table::Frame;
 use refusals::{Outcome, Refusal};
@@ -36,20 +35,20 @@ pub fn interrupt_row(text: &[u8], at: usize, lines: usize, count: usize) -> Outc
 {
     let line = (lines + 1) as u8;
     let found = kind_at(text, at);
-    let Found::Frame(frame) = found else {
-        return Outcome::Refused(Refusal::Line(line));
+    let Some(frame) = found else {
+        return Err(Refusal::Line(line));
     };
     match frame {
         Frame::Header | Frame::Task | Frame::Cached | Frame::Masked | Frame::Rule => {
-            Outcome::Refused(Refusal::Order(line))
+            Err(Refusal::Order(line))
         }
         Frame::Interrupt => {
             let full = count == TaskSet::MOST_INTERRUPTS;
             if full {
-                return Outcome::Refused(Refusal::Count(line));
+                return Err(Refusal::Count(line));
             }
-            Outcome::Done
+            Ok(())
         }
-        _ => Outcome::Refused(Refusal::Line(line)),
+        _ => Err(Refusal::Line(line)),
     }
 }

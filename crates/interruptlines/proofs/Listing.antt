@@ -1,5 +1,6 @@
 -- How reading the 07 lines goes on: from the line behind the tasks, over each interrupt, to the end of the text or a line that is refused.
 -- Assumes nothing.
+use Rattle.std.specs.Prelude.{Ok}
 use Prim.Native.Nat.{ℕ, suc, ◌+◌, ◌≤◌, ◌<◌}
 use native.Mathlib.Omega.{arith}
 use native.Mathlib.Numerals.{add-one}
@@ -11,8 +12,7 @@ use lib.ListN.{length, drop, length-append, drop_of_length-le}
 use Rattle.frameread.specs.Line.{formed}
 use Rattle.frames.specs.Table.{length_of}
 use Rattle.frames.specs.declared.table.Frame.{Frame}
-use Rattle.refusals.specs.declared.Outcome.{Outcome}
-use Rattle.refusals.specs.declared.Outcome.TheVariants.{Done}
+use Rattle.refusals.specs.Refused.{Outcome}
 use Rattle.refusals.proofs.FirstLaws.{done_refused, till_suc}
 use Rattle.tasks.specs.declared.set.Interrupt.{Interrupt}
 use Rattle.tasks.specs.declared.set.Interrupts.{Interrupts}
@@ -50,8 +50,8 @@ module _ {text : List ℕ} {before k at : ℕ} {is : Interrupts} (listed : Liste
 
   -- ---- an interrupt is taken
 
-  module _ (within : at < length text) (clear : line_outcome text (k + 1) ≡ Done) where
-    line : line_outcome text (suc k) ≡ Done
+  module _ (within : at < length text) (clear : line_outcome text (k + 1) ≡ Ok tt) where
+    line : line_outcome text (suc k) ≡ Ok tt
     line = ap (line_outcome text) (sym (add-one k)) ∙ clear
 
     here : formed Frame.Interrupt (past k text) ≡ true
@@ -105,7 +105,7 @@ module _ {text : List ℕ} {before k at : ℕ} {is : Interrupts} (listed : Liste
   -- ---- no more is taken
 
   -- behind the last line
-  pub ended_done : length text ≤ at → Ended text before (record { outcome = Done; interrupts = is; lines = k })
+  pub ended_done : length text ≤ at → Ended text before (record { outcome = Ok tt; interrupts = is; lines = k })
   ended_done over =
       record {
         some = taken_some taken;
@@ -119,7 +119,7 @@ module _ {text : List ℕ} {before k at : ℕ} {is : Interrupts} (listed : Liste
       }
 
   -- or before one that is refused
-  pub ended_refused : {o : Outcome} → o ≡ line_outcome text (k + 1) → (o ≡ Done → ⊥) → Ended text before (record { outcome = o; interrupts = is; lines = k })
+  pub ended_refused : {o : Outcome} → o ≡ line_outcome text (k + 1) → (o ≡ Ok tt → ⊥) → Ended text before (record { outcome = o; interrupts = is; lines = k })
   ended_refused said refused =
       record {
         some = taken_some taken;

@@ -10,7 +10,6 @@ use frames::table::Frame;
 use framesizes_code::length;
 use interruptline::{interrupt_at, interrupt_row};
 use interruptlines::InterruptLines;
-use refusals::Outcome;
 use tasks::set::Interrupts;
 
 // From `at` on, behind so many lines without an 07 line among them.
@@ -25,7 +24,7 @@ pub fn interrupt_lines(text: &[u8], from: usize, before: usize) -> InterruptLine
     while at < text.len() {
         let count = interrupts.count;
         let outcome = interrupt_row(text, at, lines, count);
-        let Outcome::Done = outcome else {
+        let Ok(()) = outcome else {
             return InterruptLines {
                 outcome,
                 interrupts,
@@ -39,7 +38,7 @@ pub fn interrupt_lines(text: &[u8], from: usize, before: usize) -> InterruptLine
         lines += 1;
     }
     InterruptLines {
-        outcome: Outcome::Done,
+        outcome: Ok(()),
         interrupts,
         lines,
     }

@@ -15,7 +15,7 @@ ghost use Rattle.joining.specs.Join.{join};
 ghost use Rattle.joining.specs.Fits.{fit_by};
 ghost use Rattle.joining.specs.Kept.{Kept};
 
-use candidate::{kept_at, may_take};
+use candidate::may_take;
 use packing::Fit;
 use rooms::{room_in, worth_asking};
 use shares::Share;
@@ -28,10 +28,7 @@ pub fn server_for(
     header: Header,
     figures: &[u64],
     placement: &[u64],
-    work: &[u64],
-    jobs: &[u64],
-    cache: &[u64],
-    soonest: &[u64],
+    kept: &[Share],
     i: usize,
     share: Share,
     lo: u64,
@@ -43,16 +40,14 @@ pub fn server_for(
     requires bounded { Bounded header interrupts.now horizon }
     requires i_in_bounds { (i ≤ length placement.now) × (count ≤ most_tasks) }
     requires share_value { share ≡ share_of header horizon (figures_at figures.now i) }
-    requires kept { Kept header horizon (figures_to figures.now i) (take i placement.now) work.now jobs.now cache.now soonest.now }
+    requires kept { Kept header horizon (figures_to figures.now i) (take i placement.now) kept.now }
     ensures { result ≡ join (fit_by fit (λ q. horizon - total_in header horizon (chosen (figures_to figures.now i) (take i placement.now) q))) (takes (board_of header interrupts.now) (figures_to figures.now i) (take i placement.now) (figures_at figures.now i)) lo count }
 {
     let mut found: u64 = 0;
     let mut held: u64 = 0;
-    let mut q = lo;
-    while q < count {
-        let at = q as usize;
-        q += 1;
-        let own = kept_at(work, jobs, cache, soonest, at);
+    for at in lo..count {
+        let q = at + 1;
+        let own = kept[at as usize];
         let room = room_in(own, horizon);
         if worth_asking(fit, found, room, held) {
             let takes = may_take(

@@ -2,8 +2,7 @@
 // stands on the stack only while a text is written (docs/SPEED.md).
 #![tactic(auto)]
 
-ghost use Rattle.std.specs.Prelude.{◌≡◌};
-ghost use Rattle.refusals.specs.declared.Outcome.TheVariants.{Done};
+ghost use Rattle.std.specs.Prelude.{◌≡◌, Ok};
 ghost use Rattle.sizing.specs.Reserve.{servers_of};
 ghost use Rattle.setfigures.specs.Figures.{set_figures};
 ghost use Rattle.setfigures.specs.Board.{set_board};
@@ -29,7 +28,7 @@ pub enum Text {
 // The text of the plan that a set's servers are laid out to.
 #[inline(never)]
 pub fn fit_laid(text: Text, set: TaskSet, servers: Servers, out: &mut [u8]) -> Written
-    requires { (plan_outcome set ≡ Done) × (servers ≡ servers_of (set_board set) (set_figures set)) }
+    requires { (plan_outcome set ≡ Ok tt) × (servers ≡ servers_of (set_board set) (set_figures set)) }
     ensures { Fits out.old (text_of text set (plan_made set)) result out.new }
 {
     let plan = plan_of(set, servers);

@@ -2,22 +2,12 @@
 // steps/specs/Stepping.antt. The interrupts stand in one slice, four numbers for each, by processor.
 #![tactic(auto)]
 
-ghost use Rattle.std.specs.Prelude.{◌≡◌, max, ◌<◌, ◌≤◌, ◌^◌};
+ghost use Rattle.std.specs.Prelude.{◌≡◌, ◌<◌, ◌≤◌, ◌^◌};
 ghost use Rattle.demand.specs.Demand.{jobs};
 ghost use Rattle.interrupting.specs.Interrupts.{greatest_of_all, interrupts_of};
 ghost use Rattle.interrupting.specs.Interrupted.{Interrupted};
 ghost use Rattle.search.specs.Search.{last_up_to};
 ghost use Rattle.steps.specs.Stepping.{last_of_greater, steps};
-
-// Of two lengths the larger.
-pub fn larger(a: u64, b: u64) -> u64
-    ensures { result ≡ max a b }
-{
-    if a < b {
-        return b;
-    }
-    a
-}
 
 // The last deadline of one load.
 pub fn last_due(deadline: u64, period: u64, hi: u64) -> u64
@@ -60,8 +50,7 @@ pub fn last_of_greatest(loads: &[u64], n: usize, hi: u64) -> u64
     let mut processor: u64 = 0;
     let mut sum: u64 = 0;
     let mut last: u64 = 0;
-    let mut i: usize = 0;
-    while i < count {
+    for i in 0..count {
         let at = from + 4 * i;
         let its = loads[at];
         if processor < its {
@@ -72,10 +61,9 @@ pub fn last_of_greatest(loads: &[u64], n: usize, hi: u64) -> u64
         let d = loads[at + 2];
         let period = loads[at + 3];
         sum += demand_code::term_at(loads[at + 1], d, period, hi);
-        last = larger(last, last_due(d, period, hi));
+        last = last.max(last_due(d, period, hi));
         risen = last_of_greater(greatest, risen, sum, last);
-        greatest = larger(greatest, sum);
-        i += 1;
+        greatest = greatest.max(sum);
     }
     risen
 }

@@ -76,10 +76,8 @@ fn first_reserves(
 {
     let none = Stand { server: 0, left: 0 };
     let mut first = [none; TaskSet::MOST_TASKS];
-    let mut i: usize = 0;
-    while i < processors {
+    for i in 0..processors {
         first[i] = ring_who::first(reserves, n, slot, i as u64 + 1);
-        i += 1;
     }
     first
 }
@@ -108,10 +106,8 @@ pub fn lay_out(served: Servers, tasks: usize, slot: u64) -> Plan
         first,
         ..Plan::zero()
     };
-    let mut i: usize = 0;
-    while i < n {
+    for i in 0..n {
         plan.server[i] = server_of(&placement, tasks, &reserve, &cache, n, slot, i + 1);
-        i += 1;
     }
     plan
 }

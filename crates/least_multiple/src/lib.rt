@@ -6,8 +6,6 @@ ghost use Rattle.std.specs.Prelude.{◌≡◌};
 ghost use Rattle.wholes.specs.Measure.{common_measure};
 ghost use Rattle.wholes.specs.Multiple.{least_multiple, within};
 
-use wholes::Multiple;
-
 // By remainders: the second number falls at each turn.
 pub fn common_measure(a: u64, b: u64) -> u64
     ensures { result ≡ common_measure a b }
@@ -23,17 +21,13 @@ pub fn common_measure(a: u64, b: u64) -> u64
 }
 
 // The quotient is held against the limit before it is multiplied, so that no product wraps.
-pub fn least_multiple(a: u64, b: u64, limit: u64) -> Multiple
+pub fn least_multiple(a: u64, b: u64, limit: u64) -> Option<u64>
     ensures { result ≡ within limit (least_multiple a b) }
 {
     if b == 0 {
-        return Multiple::Within(0);
+        return Some(0);
     }
     let g = common_measure(a, b);
     let q = a / g;
-    if q <= limit / b {
-        Multiple::Within(q * b)
-    } else {
-        Multiple::Past
-    }
+    if q <= limit / b { Some(q * b) } else { None }
 }

@@ -7,25 +7,15 @@ ghost use Rattle.frameread.specs.Line.{formed};
 ghost use Rattle.tasks.specs.Search.{some};
 ghost use Rattle.taskfile.specs.File.{line_outcome, task_formed, task_kind, cache_at, task_at, tasks_among};
 ghost use Rattle.taskfile.specs.Taken.{Tasked, ids_of};
-ghost use Rattle.listedline.specs.Answer.{task_or, of_task};
+ghost use Rattle.lineanswer.specs.Answer.{line_or};
 
 use frameread_code::field;
 use frames::table::Frame;
-use listedline::TaskLine;
-use refusals::{Outcome, Refusal};
-use tasks::set::{Optional, Task, TaskSet};
-
-pub fn task_outcome(line: TaskLine) -> Outcome
-    ensures { result ≡ of_task line }
-{
-    match line {
-        TaskLine::Task(_) => Outcome::Done,
-        TaskLine::Refused(refusal) => Outcome::Refused(refusal),
-    }
-}
+use refusals::Refusal;
+use tasks::set::{Task, TaskSet};
 
 // The cache cost that a line of this kind gives.
-fn cache_at(text: &[u8], at: usize, frame: Frame) -> Optional
+fn cache_at(text: &[u8], at: usize, frame: Frame) -> Option<u16>
     requires at_in_bounds { at ≤ length text.now }
     requires text_value { formed frame (drop at text.now) ≡ true }
     ensures { result ≡ cache_at (drop at text.now) }
@@ -33,9 +23,9 @@ fn cache_at(text: &[u8], at: usize, frame: Frame) -> Optional
     match frame {
         Frame::Cached => {
             let cost = field(text, at, Frame::Cached, 4) as u16;
-            Optional::Given(cost)
+            Some(cost)
         }
-        _ => Optional::Absent,
+        _ => None,
     }
 }
 
@@ -60,32 +50,31 @@ fn task_at(text: &[u8], at: usize, frame: Frame) -> Task
 fn holds_id(ids: &[u8], id: u8) -> bool
     ensures { result ≡ some (λ i. eqb i id) ids.now }
 {
-    let mut i = 0;
-    while i < ids.len() {
-        if ids[i] == id {
-            return true;
-        }
-        i += 1;
-    }
-    false
+    ids.contains(&id)
 }
 
 // A task's line of this kind, behind so many lines whose tasks have these ids, with no 07 line among them.
-pub fn listed_line(text: &[u8], at: usize, frame: Frame, lines: usize, ids: &[u8]) -> TaskLine
+pub fn listed_line(
+    text: &[u8],
+    at: usize,
+    frame: Frame,
+    lines: usize,
+    ids: &[u8],
+) -> Result<Task, Refusal>
     requires tasked { Tasked text.now lines at }
     requires ids_value { ids.now ≡ ids_of (tasks_among text.now lines) }
     requires text_value { task_formed (drop at text.now) ≡ true }
     requires frame_value { frame ≡ task_kind (drop at text.now) }
-    ensures { result ≡ task_or (line_outcome text.now (lines + 1)) (task_at (drop at text.now)) }
+    ensures { result ≡ line_or (line_outcome text.now (lines + 1)) (task_at (drop at text.now)) }
 {
     let place = (lines + 1) as u8;
     let full = ids.len() == TaskSet::MOST_TASKS;
     if full {
-        return TaskLine::Refused(Refusal::Count(place));
+        return Err(Refusal::Count(place));
     }
     let task = task_at(text, at, frame);
     if holds_id(ids, task.id) {
-        return TaskLine::Refused(Refusal::Twice(place));
+        return Err(Refusal::Twice(place));
     }
-    TaskLine::Task(task)
+    Ok(task)
 }

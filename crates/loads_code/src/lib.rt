@@ -21,8 +21,7 @@ pub fn charge(
     requires { Charging header cache figures.now places.now n loads.old }
     ensures { loads.new ≡ stored loads.old 0 (numbers_of (map (charged_in header cache) (members_at figures.now (take n places.now)))) }
 {
-    let mut i: usize = 0;
-    while i < n {
+    for i in 0..n {
         let from = 4 * places[i] as usize;
         let to = 3 * i;
         loads[to] = charging::charged_cost(
@@ -33,6 +32,5 @@ pub fn charge(
         );
         loads[to + 1] = charging::charged_deadline(figures[from + 1], header.relj as u64);
         loads[to + 2] = figures[from + 2];
-        i += 1;
     }
 }

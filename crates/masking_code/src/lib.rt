@@ -15,20 +15,11 @@ pub fn gain_of(loads: &[u64], n: usize, masked: u64) -> Gain
 {
     let mut from: u64 = 0;
     let mut until: u64 = 0;
-    let mut i: usize = 0;
-    while i < n {
+    for i in 0..n {
         let d = loads[3 * i + 1];
         let begins = i == 0;
-        if begins {
-            from = d;
-        }
-        if d < from {
-            from = d;
-        }
-        if until < d {
-            until = d;
-        }
-        i += 1;
+        from = if begins { d } else { from.min(d) };
+        until = until.max(d);
     }
     Gain {
         extra: masked,

@@ -1,6 +1,7 @@
 -- The horizon of loads and interrupts with a slot: what it divides, and how the least common multiple of numbers in a slice grows, one
 -- by one, up to a limit.
 -- Assumes nothing.
+use Rattle.std.specs.Prelude.{None, Some}
 use Prim.Native.Nat.{ℕ, zero, suc, ◌+◌, ◌*◌, ◌/◌, ◌≤◌, ◌<◌, ◌∣◌}
 use native.Mathlib.Omega.{arith}
 use native.Mathlib.Nat.{le_of_suc-le-suc, le_of_dvd}
@@ -8,7 +9,6 @@ use mathlib.Core.Path.{◌≡◌, sym, ap, ap₂, subst, ◌∙◌}
 use mathlib.Core.List.{List, [], ◌∷◌, ◌++◌, map}
 use lib.ListN.{length, get_or}
 use Rattle.wholes.specs.Multiple.{Divide, AllPositive, least_multiple, least_multiple_of, within}
-use Rattle.wholes.specs.declared.Multiple.TheVariants.{Within, Past}
 use Rattle.wholes.proofs.MultipleLaws.{multiple_of_divides, multiple_of_append, multiple_of_pos, first_divides_of, others_divide_of}
 use Rattle.wholes.proofs.WithinLaws.{within_is, past_is, within_value, past_value}
 use Rattle.demand.specs.Load.{Load, Sound, Every, loads_of}
@@ -65,7 +65,7 @@ module _ {numbers : List ℕ} {from stride n first : ℕ} (a : Apart numbers fro
           (others_divide_of first (spaced numbers from stride n) i (omega (arith, spaced_length numbers from stride n)))
 
   -- past the limit after some is past it after all
-  pub stays_past : {k : ℕ} → k ≤ n → limit < up_to k → Past ≡ within limit (up_to n)
+  pub stays_past : {k : ℕ} → k ≤ n → limit < up_to k → None ≡ within limit (up_to n)
   stays_past h l = sym (past_is limit (up_to n) (omega (arith, grows h)))
 
   module _ {m i : ℕ} (e : m ≡ up_to i) (h : i < n) where
@@ -78,23 +78,23 @@ module _ {numbers : List ℕ} {from stride n first : ℕ} (a : Apart numbers fro
         ∙ multiple_of_append first (spaced numbers from stride i) (get_or numbers (from + stride * i) 0 ∷ []))
 
     -- the next multiple is within the limit: one number on
-    pub goes_on : {next : ℕ} → within limit (least_multiple m (get_or numbers (from + stride * i) 0)) ≡ Within next → (next ≡ up_to (i + 1)) × (next ≤ limit)
+    pub goes_on : {next : ℕ} → within limit (least_multiple m (get_or numbers (from + stride * i) 0)) ≡ Some next → (next ≡ up_to (i + 1)) × (next ≤ limit)
     goes_on {next} p =
         let v = within_value limit (least_multiple m (get_or numbers (from + stride * i) 0)) next p in
         (v.0 ∙ step, omega (arith, v.0, v.1))
 
     -- it is past the limit
-    pub stops : within limit (least_multiple m (get_or numbers (from + stride * i) 0)) ≡ Past → Past ≡ within limit (up_to n)
+    pub stops : within limit (least_multiple m (get_or numbers (from + stride * i) 0)) ≡ None → None ≡ within limit (up_to n)
     stops p =
         stays_past {k = i + 1} (omega arith) (omega (arith, step, past_value limit (least_multiple m (get_or numbers (from + stride * i) 0)) p))
 
 -- all numbers are passed
 pub all_passed : (limit first from stride m i n : ℕ) (numbers : List ℕ) → i ≤ n → n ≤ i → m ≡ least_multiple_of first (spaced numbers from stride i) → m ≤ limit →
-    Within m ≡ within limit (least_multiple_of first (spaced numbers from stride n))
+    Some m ≡ within limit (least_multiple_of first (spaced numbers from stride n))
 all_passed limit first from stride m i n numbers h g e l =
     let all : m ≡ least_multiple_of first (spaced numbers from stride n) =
     e ∙ ap (λ (k : ℕ). least_multiple_of first (spaced numbers from stride k)) (let i≡n : i ≡ n = omega arith in i≡n) in
-    ap Within all ∙ sym (within_is limit (least_multiple_of first (spaced numbers from stride n)) (omega arith))
+    ap Some all ∙ sym (within_is limit (least_multiple_of first (spaced numbers from stride n)) (omega arith))
 
 -- ---- loads, then interrupts
 
@@ -135,14 +135,14 @@ module _ {numbers : List ℕ} {n : ℕ} {interrupts : List ℕ} {S : ℕ} (t : T
 
   module _ (limit : ℕ) where
     -- past the limit after the loads is past it after all
-    pub loads_past : within limit of_loads ≡ Past → Past ≡ within limit (own_horizon S (loads_of numbers n) (bounds_of interrupts 0 (length interrupts / 4)))
+    pub loads_past : within limit of_loads ≡ None → None ≡ within limit (own_horizon S (loads_of numbers n) (bounds_of interrupts 0 (length interrupts / 4)))
     loads_past p =
         let more : of_loads ≤ least_multiple_of of_loads bound =
         le_of_dvd (multiple_of_pos of_loads bound loads_some bound_positive) (first_divides_of of_loads bound) in
         sym (past_is limit _ (omega (arith, sym own_is, more, past_value limit of_loads p)))
 
     -- within it, the interrupts' periods go on from there
-    pub loads_within : {own : ℕ} → within limit of_loads ≡ Within own → own ≡ of_loads
+    pub loads_within : {own : ℕ} → within limit of_loads ≡ Some own → own ≡ of_loads
     loads_within {own} p = (within_value limit of_loads own p).0
 
     pub bounds_passed : {own : ℕ} → own ≡ of_loads →

@@ -12,7 +12,6 @@ ghost use Rattle.members.specs.Server.{Timed};
 
 use multiple_of::multiple_of;
 use tasks::set::Header;
-use wholes::Multiple;
 
 // The entry loss of a server of this cache cost.
 pub fn loss(header: Header, cache: u64) -> u64
@@ -23,12 +22,10 @@ pub fn loss(header: Header, cache: u64) -> u64
 }
 
 // The least common multiple of the slot and the periods of the first n loads and of interrupts, or none past the limit.
-pub fn horizon_of(loads: &[u64], n: usize, interrupts: &[u64], slot: u64, limit: u64) -> Multiple
+pub fn horizon_of(loads: &[u64], n: usize, interrupts: &[u64], slot: u64, limit: u64) -> Option<u64>
     requires { Timed loads.now n interrupts.now slot }
     ensures { result ≡ within limit (own_horizon slot (loads_of loads.now n) (bounds_of interrupts.now 0 (length interrupts.now / 4))) }
 {
-    let Multiple::Within(own) = multiple_of(loads, 2, 3, n, slot, limit) else {
-        return Multiple::Past;
-    };
+    let own = multiple_of(loads, 2, 3, n, slot, limit)?;
     multiple_of(interrupts, 3, 4, interrupts.len() / 4, own, limit)
 }

@@ -6,8 +6,6 @@ ghost use Rattle.std.specs.Prelude.{◌≡◌};
 ghost use Rattle.wholes.specs.Multiple.{least_multiple_of, within};
 ghost use Rattle.members.specs.Server.{spaced, Apart};
 
-use wholes::Multiple;
-
 // The least common multiple of a first number and of those of a slice from a place on, so far apart, so many; or none past the limit.
 // Multiples of positive numbers only grow, so the first that is past the limit decides.
 pub fn multiple_of(
@@ -17,22 +15,20 @@ pub fn multiple_of(
     count: usize,
     first: u64,
     limit: u64,
-) -> Multiple
+) -> Option<u64>
     requires { Apart numbers.now from stride count first }
     ensures { result ≡ within limit (least_multiple_of first (spaced numbers.now from stride count)) }
 {
     if limit < first {
-        return Multiple::Past;
+        return None;
     }
     let mut m = first;
-    let mut i = 0;
-    while i < count {
+    for i in 0..count {
         let at = from + stride * i;
-        let Multiple::Within(next) = least_multiple::least_multiple(m, numbers[at], limit) else {
-            return Multiple::Past;
+        let Some(next) = least_multiple::least_multiple(m, numbers[at], limit) else {
+            return None;
         };
         m = next;
-        i += 1;
     }
-    Multiple::Within(m)
+    Some(m)
 }

@@ -5,8 +5,8 @@ ghost use Rattle.std.specs.Prelude.{◌≡◌, ◌+◌, ◌≤◌, length, take,
 ghost use Rattle.names.specs.Names.{longest_name};
 ghost use Rattle.names.specs.Parts.{most_held, index_of, up_to_lF, name_with, cut_of};
 
-use fieldwrite::put_bytes;
 use names::Cut;
+use store::store;
 
 // The most bytes of a name that is opened, and how many are held of a longer one.
 pub const LONGEST_NAME: usize = 255;
@@ -42,7 +42,7 @@ pub fn cut_name(part: &[u8], from: usize, name: &mut [u8], held: usize) -> Cut
             held: MOST_HELD,
         };
     }
-    put_bytes(name, held, &part[from..end]);
+    store(name, held, &part[from..end]);
     Cut {
         end,
         held: held + more,

@@ -11,19 +11,15 @@ ghost use Rattle.numberedparts.specs.Parts.{server_numbers_at, stand_numbers_at}
 use handed::{EACH, FIRST, SERVERS};
 use numberedserver::put_server;
 use plan::plan::Plan;
-use put_figures::put_figures;
-use tasks::set::TaskSet;
+use store::store;
 
 // Puts the numbers of all servers to their place.
 pub fn put_servers(numbers: &mut [u64], plan: Plan)
     requires { servers_at + most_tasks * per_server ≤ length numbers.old }
     ensures { numbers.new ≡ stored numbers.old servers_at (joined (server_numbers_at plan.server) most_tasks) }
 {
-    let mut q: usize = 0;
-    while q < TaskSet::MOST_TASKS {
-        let server = plan.server[q];
-        put_server(numbers, SERVERS + EACH * q, server);
-        q += 1;
+    for (q, server) in plan.server.iter().enumerate() {
+        put_server(numbers, SERVERS + EACH * q, *server);
     }
 }
 
@@ -32,11 +28,7 @@ pub fn put_first(numbers: &mut [u64], plan: Plan)
     requires { first_at + most_tasks * 2 ≤ length numbers.old }
     ensures { numbers.new ≡ stored numbers.old first_at (joined (stand_numbers_at plan.first) most_tasks) }
 {
-    let mut p: usize = 0;
-    while p < TaskSet::MOST_TASKS {
-        let first = plan.first[p];
-        let figures = [first.server, first.left];
-        put_figures(numbers, FIRST + 2 * p, &figures);
-        p += 1;
+    for (p, first) in plan.first.iter().enumerate() {
+        store(numbers, FIRST + 2 * p, &[first.server, first.left]);
     }
 }

@@ -7,20 +7,15 @@ ghost use Rattle.handed.specs.Handed.{per_server};
 ghost use Rattle.numberedserver.specs.Server.{place_numbers, server_numbers};
 
 use plan::server::Server;
-use put_figures::put_figures;
+use std::array::from_fn;
+use store::store;
 use tasks::set::TaskSet;
 
 // The places of a server.
 fn wide_places(server: Server) -> [u64; TaskSet::MOST_TASKS]
     ensures { result ≡ place_numbers server.places }
 {
-    let mut row = [0u64; TaskSet::MOST_TASKS];
-    let mut k: usize = 0;
-    while k < TaskSet::MOST_TASKS {
-        row[k] = server.places[k] as u64;
-        k += 1;
-    }
-    row
+    from_fn(|k| server.places[k] as u64)
 }
 
 // Puts the numbers of a server to a place among numbers.
@@ -29,9 +24,9 @@ pub fn put_server(numbers: &mut [u64], at: usize, server: Server)
     ensures { numbers.new ≡ stored numbers.old at (server_numbers server) }
 {
     let count = [server.count as u64];
-    put_figures(numbers, at, &count);
+    store(numbers, at, &count);
     let places = wide_places(server);
-    put_figures(numbers, at + 1, &places);
+    store(numbers, at + 1, &places);
     let rest = [server.reserve, server.start.0, server.cache];
-    put_figures(numbers, at + 1 + TaskSet::MOST_TASKS, &rest);
+    store(numbers, at + 1 + TaskSet::MOST_TASKS, &rest);
 }

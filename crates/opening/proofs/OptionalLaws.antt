@@ -1,5 +1,6 @@
 -- What stands before the tasks, by the two lines that may be there.
 -- Assumes nothing.
+use Rattle.std.specs.Prelude.{None, Some}
 use Prim.Native.Nat.{ℕ, pred, ◌+◌, ◌≤◌}
 use native.Mathlib.Omega.{arith}
 use native.Mathlib.Nat.{add-zero}
@@ -10,7 +11,6 @@ use lib.ListN.{length, drop}
 use Rattle.frameread.specs.Line.{formed, field_of}
 use Rattle.frames.specs.Table.{length_of}
 use Rattle.frames.specs.declared.table.Frame.{Frame}
-use Rattle.tasks.specs.declared.set.Optional.TheVariants.{Absent, Given}
 use Rattle.tasks.specs.Set.{with_lines}
 use Rattle.taskfile.specs.File.{past, bytes_by, header_at, masked_at, rule_line, rule_at, file_header, opening_lines, opening_bytes}
 use Rattle.taskfile.proofs.OpeningLaws.{past_header, passed_masked}
@@ -18,12 +18,12 @@ use Rattle.opening.specs.declared.OptionalLine.{OptionalLine}
 use Rattle.opening.specs.Opening.{opening_of, optional_of}
 
 -- the line is there
-pub optional_given : (kind : Frame) (rest : List ℕ) (at lines : ℕ) → formed kind rest ≡ true → optional_of kind rest at lines ≡ record { figure = Given (field_of kind 0 rest); at = at + (length_of kind + 1); lines = lines + 1 }
+pub optional_given : (kind : Frame) (rest : List ℕ) (at lines : ℕ) → formed kind rest ≡ true → optional_of kind rest at lines ≡ record { figure = Some (field_of kind 0 rest); at = at + (length_of kind + 1); lines = lines + 1 }
 unfolding optional_of
 optional_given kind rest at lines e = rw e
 
 -- or it is not
-pub optional_none : (kind : Frame) (rest : List ℕ) (at lines : ℕ) → formed kind rest ≡ false → optional_of kind rest at lines ≡ record { figure = Absent; at = at; lines = lines }
+pub optional_none : (kind : Frame) (rest : List ℕ) (at lines : ℕ) → formed kind rest ≡ false → optional_of kind rest at lines ≡ record { figure = None; at = at; lines = lines }
 unfolding optional_of
 optional_none kind rest at lines e = rw (e, add-zero at, add-zero lines)
 

@@ -2,7 +2,7 @@
 // Types, definitions and laws; the code stands in opening_code.
 #![tactic(auto)]
 
-use tasks::set::{Header, Optional};
+use tasks::set::Header;
 
 // The board's figures, the cursor behind the lines, and their number.
 #[derive(Clone, Copy)]
@@ -15,7 +15,7 @@ pub struct Opening {
 // What a line that may be there gives, the cursor behind it, and the number of lines up to there.
 #[derive(Clone, Copy)]
 pub struct OptionalLine {
-    pub figure: Optional,
+    pub figure: Option<u16>,
     pub at: usize,
     pub lines: usize,
 }

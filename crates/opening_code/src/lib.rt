@@ -1,8 +1,7 @@
 // The lines of a task file before its tasks: the 01 line, and behind it a 05 line and a 06 line, where there are such.
 #![tactic(auto)]
 
-ghost use Rattle.std.specs.Prelude.{◌≡◌, ◌≤◌, length as count, drop};
-ghost use Rattle.refusals.specs.declared.Outcome.TheVariants.{Done};
+ghost use Rattle.std.specs.Prelude.{◌≡◌, ◌≤◌, length as count, drop, Ok};
 ghost use Rattle.frames.specs.Table.{width_of};
 ghost use Rattle.frames.specs.declared.table.Frame.{Frame};
 ghost use Rattle.taskfile.specs.File.{line_outcome, header_at};
@@ -13,7 +12,7 @@ use frames::table::Frame;
 use framesizes_code::length;
 use is_line::is_line;
 use opening::{Opening, OptionalLine};
-use tasks::set::{Header, Optional};
+use tasks::set::Header;
 
 // A line of this kind at `at`, behind so many lines, if it is there.
 fn optional_line(text: &[u8], at: usize, lines: usize, kind: Frame) -> OptionalLine
@@ -24,7 +23,7 @@ fn optional_line(text: &[u8], at: usize, lines: usize, kind: Frame) -> OptionalL
 {
     if !is_line(text, at, kind) {
         return OptionalLine {
-            figure: Optional::Absent,
+            figure: None,
             at,
             lines,
         };
@@ -33,7 +32,7 @@ fn optional_line(text: &[u8], at: usize, lines: usize, kind: Frame) -> OptionalL
     let behind = at + (length(kind) + 1);
     let line = lines + 1;
     OptionalLine {
-        figure: Optional::Given(figure),
+        figure: Some(figure),
         at: behind,
         lines: line,
     }
@@ -41,7 +40,7 @@ fn optional_line(text: &[u8], at: usize, lines: usize, kind: Frame) -> OptionalL
 
 // What stands behind line 1, whose figures these are.
 pub fn opened(text: &[u8], header: Header) -> Opening
-    requires { (line_outcome text.now 1 ≡ Done) × (header ≡ header_at text.now) }
+    requires { (line_outcome text.now 1 ≡ Ok tt) × (header ≡ header_at text.now) }
     ensures { result ≡ opening_of text.now }
 {
     let at = length(Frame::Header) + 1;

@@ -1,5 +1,6 @@
 -- Laws of the lines with one figure, 05 and 06, and of the 07 lines.
 -- Assumes nothing.
+use Rattle.std.specs.Prelude.{None, Option, Some}
 use Prim.Native.Nat.{ℕ, ◌+◌, ◌≤◌}
 use mathlib.Core.Path.{◌≡◌, refl, sym, ◌∙◌, ap}
 use mathlib.Core.List.{List, [], ◌∷◌}
@@ -12,31 +13,29 @@ use Rattle.frames.specs.declared.table.Frame.{Frame}
 use Rattle.framewrite.proofs.LineLaws.{line_length}
 use Rattle.digits.proofs.Stored.{stored_nil}
 use Rattle.tasks.specs.declared.set.Interrupt.{Interrupt}
-use Rattle.tasks.specs.declared.set.Optional.{Optional}
-use Rattle.tasks.specs.declared.set.Optional.TheVariants.{Absent, Given}
 use Rattle.tasks.specs.Values.{interrupt_values}
 use Rattle.optionallines.specs.Lines.{optional_line}
 
 module _ (frame : Frame) where
   -- an optional line: nothing where the set has none, else the line of its figure
-  pub optional_none : {figure : Optional} → figure ≡ Absent → optional_line frame figure ≡ []
+  pub optional_none : {figure : Option ℕ} → figure ≡ None → optional_line frame figure ≡ []
   unfolding optional_line
   optional_none e = ap (optional_line frame) e
 
-  pub optional_given : {figure : Optional} {given : ℕ} → figure ≡ Given given → optional_line frame figure ≡ line_of frame (given ∷ [])
+  pub optional_given : {figure : Option ℕ} {given : ℕ} → figure ≡ Some given → optional_line frame figure ≡ line_of frame (given ∷ [])
   unfolding optional_line
   optional_given e = ap (optional_line frame) e
 
   -- its bytes: those of the table's row where it is there, and in any case no more
-  pub optional_bytes : {figure : Optional} {given : ℕ} → figure ≡ Given given → length (optional_line frame figure) ≡ length_of frame + 1
+  pub optional_bytes : {figure : Option ℕ} {given : ℕ} → figure ≡ Some given → length (optional_line frame figure) ≡ length_of frame + 1
   optional_bytes {given = given} e = ap length (optional_given e) ∙ line_length frame (given ∷ [])
 
-  pub optional_most : (figure : Optional) → length (optional_line frame figure) ≤ length_of frame + 1
-  optional_most Absent = omega (arith, ap length (optional_none {figure = Absent} refl))
-  optional_most (Given given) = omega (arith, optional_bytes {figure = Given given} refl)
+  pub optional_most : (figure : Option ℕ) → length (optional_line frame figure) ≤ length_of frame + 1
+  optional_most None = omega (arith, ap length (optional_none {figure = None} refl))
+  optional_most (Some given) = omega (arith, optional_bytes {figure = Some given} refl)
 
   -- a line where there is none changes nothing
-  pub optional_unchanged : (b : List ℕ) (at : ℕ) {figure : Optional} → figure ≡ Absent → b ≡ stored b at (optional_line frame figure)
+  pub optional_unchanged : (b : List ℕ) (at : ℕ) {figure : Option ℕ} → figure ≡ None → b ≡ stored b at (optional_line frame figure)
   optional_unchanged b at e = sym (ap (stored b at) (optional_none e) ∙ stored_nil b at)
 
 -- an interrupt has as many figures as its line has fields

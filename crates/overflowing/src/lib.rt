@@ -8,7 +8,7 @@ ghost use Rattle.taskask.specs.Ask.{header_overflows, task_overflows, optional_o
 use frames::table::Frame;
 use overflows::overflows;
 use taskframe::task_frame;
-use tasks::set::{Header, Interrupt, Optional, Task};
+use tasks::set::{Header, Interrupt, Task};
 use taskvalues::{header_values, interrupt_values, task_values};
 
 // A figure of the header is too large for its field.
@@ -29,11 +29,11 @@ pub fn task_overflows(task: Task) -> bool
 }
 
 // The figure of an optional line of this frame is too large for its field.
-pub fn optional_overflows(frame: Frame, figure: Optional) -> bool
+pub fn optional_overflows(frame: Frame, figure: Option<u16>) -> bool
     requires { fields_in frame ≤ 1 }
     ensures { result ≡ optional_overflows frame figure }
 {
-    let Optional::Given(given) = figure else {
+    let Some(given) = figure else {
         return false;
     };
     let value = [given as u64];

@@ -8,7 +8,6 @@ ghost use Rattle.framesizes.specs.Overflow.{line_overflows};
 use digitwrite::too_large;
 use frames::table::Frame;
 use frames_code::row_of;
-use framesizes_code::width;
 
 // The number of a frame's fields.
 pub fn fields_in(frame: Frame) -> usize
@@ -23,13 +22,9 @@ pub fn overflows(frame: Frame, values: &[u64]) -> bool
     requires { fields_in frame ≤ count values.now }
     ensures { result ≡ line_overflows frame values.now }
 {
-    let n = fields_in(frame);
-    let mut field = 0;
-    while field < n {
-        if too_large(width(frame, field), values[field]) {
-            return true;
-        }
-        field += 1;
-    }
-    false
+    let row = row_of(frame);
+    row.widths[..row.fields]
+        .iter()
+        .zip(values)
+        .any(|(width, value)| too_large(*width as usize, *value))
 }

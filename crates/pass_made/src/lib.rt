@@ -13,7 +13,7 @@ use plan::plan::Plan;
 use plan::server::Server;
 use planserver_code::pass_judged;
 use record_of::record_of;
-use refusals::{Outcome, Refusal};
+use refusals::Refusal;
 use tasks::set::TaskSet;
 use verdict::answer::{Reading, Verdict};
 
@@ -21,7 +21,7 @@ pub fn refused_pass(refusal: Refusal) -> PassAnswer
     ensures { result ≡ refused_pass refusal }
 {
     PassAnswer {
-        outcome: Outcome::Refused(refusal),
+        outcome: Err(refusal),
         verdict: Verdict::Yes(Reading {
             length: 0,
             demand: 0,
@@ -39,7 +39,7 @@ pub fn pass_own(set: TaskSet, own: Server, reserve: u64) -> PassAnswer
         return refused_pass(Refusal::Ask);
     }
     PassAnswer {
-        outcome: Outcome::Done,
+        outcome: Ok(()),
         verdict: pass_judged(set, own, reserve),
     }
 }

@@ -2,8 +2,7 @@
 // What is answered stands in doespass/specs/DoesPass.antt.
 #![tactic(auto)]
 
-ghost use Rattle.std.specs.Prelude.{◌≡◌};
-ghost use Rattle.refusals.specs.declared.Outcome.TheVariants.{Done};
+ghost use Rattle.std.specs.Prelude.{◌≡◌, Ok};
 ghost use Rattle.sizing.specs.Reserve.{servers_of};
 ghost use Rattle.setfigures.specs.Figures.{set_figures};
 ghost use Rattle.setfigures.specs.Board.{set_board};
@@ -21,7 +20,7 @@ use tasks::set::TaskSet;
 // Does a server pass, by the record that the set's plan would have of it.
 #[inline(never)]
 pub fn pass_served(set: TaskSet, servers: Servers, server: u64, reserve: u64) -> PassAnswer
-    requires { (plan_outcome set ≡ Done) × (servers ≡ servers_of (set_board set) (set_figures set)) }
+    requires { (plan_outcome set ≡ Ok tt) × (servers ≡ servers_of (set_board set) (set_figures set)) }
     ensures { result ≡ does_pass set (plan_made set) server reserve }
 {
     let count = servers.count;

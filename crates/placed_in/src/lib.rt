@@ -11,8 +11,9 @@ use joining_code::server_for;
 use packing::Fit;
 use servers::placement::Placed;
 use share_of::share_of;
-use shares_code::larger;
+use shares::Share;
 use soonest::soonest_with;
+use std::array::from_fn;
 use tasks::set::{Header, TaskSet};
 
 // Each task in its turn joins the server that the fit names of those that take it, otherwise it opens a new one. Rooms are in the
@@ -31,32 +32,32 @@ pub fn placed_in(
 {
     let mut count: u64 = 0;
     let mut placement = [0u64; TaskSet::MOST_TASKS];
-    let mut work = [0u64; TaskSet::MOST_TASKS];
-    let mut jobs = [0u64; TaskSet::MOST_TASKS];
-    let mut cache = [0u64; TaskSet::MOST_TASKS];
-    let mut soonest = [0u64; TaskSet::MOST_TASKS];
-    let mut i: usize = 0;
-    while i < n {
+    let mut kept = [Share {
+        work: 0,
+        jobs: 0,
+        cache: 0,
+        due: 0,
+    }; TaskSet::MOST_TASKS];
+    for i in 0..n {
         let share = share_of(header, figures, i, horizon);
         let q = server_for(
-            fit, header, figures, &placement, &work, &jobs, &cache, &soonest, i, share, 0, count,
-            interrupts, horizon,
+            fit, header, figures, &placement, &kept, i, share, 0, count, interrupts, horizon,
         );
         let at = q as usize - 1;
+        prove!(at < TaskSet::MOST_TASKS);
         placement[i] = q;
-        work[at] += share.work;
-        jobs[at] += share.jobs;
-        cache[at] = larger(cache[at], share.cache);
-        soonest[at] = soonest_with(soonest[at], share.due);
-        let another = count < q;
-        if another {
-            count = q;
-        }
-        i += 1;
+        let own = kept[at];
+        kept[at] = Share {
+            work: own.work + share.work,
+            jobs: own.jobs + share.jobs,
+            cache: own.cache.max(share.cache),
+            due: soonest_with(own.due, share.due),
+        };
+        count = count.max(q);
     }
     Placed {
         count,
         placement,
-        cache,
+        cache: from_fn(|at| kept[at].cache),
     }
 }

@@ -15,13 +15,11 @@ pub fn places_of(placement: &[u64], n: usize, q: u64, places: &mut [u8]) -> usiz
     ensures places_after { places.new ≡ stored places.old 0 (places_in (take n placement.now) q) }
 {
     let mut count: usize = 0;
-    let mut i: usize = 0;
-    while i < n {
+    for i in 0..n {
         if placement[i] == q {
             places[count] = i as u8;
             count += 1;
         }
-        i += 1;
     }
     count
 }

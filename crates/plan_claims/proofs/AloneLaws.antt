@@ -1,5 +1,6 @@
 -- A set is refused by row 13 exactly when a task fails alone, row 11 and rows 5 to 9 are clear, and no task before it fails alone.
 -- Assumes nothing.
+use Rattle.std.specs.Prelude.{Ok}
 use Prim.Native.Nat.{ℕ, zero, suc, ◌-◌, ◌≤◌, ◌<◌}
 use mathlib.Core.Path.{◌≡◌, refl, sym, ap, ◌∙◌}
 use mathlib.Core.Bool.{true, false, not}
@@ -8,7 +9,6 @@ use native.Mathlib.Omega.{arith}
 use borrow.Author.Tests.{not-true, not-false}
 use lib.ListN.{length, get_or}
 use Rattle.laws.proofs.Tests.{true_false, never_true}
-use Rattle.refusals.specs.declared.Outcome.TheVariants.{Done}
 use Rattle.refusals.specs.First.{first_of}
 use Rattle.refusals.proofs.FirstLaws.{first_done}
 use Rattle.demand.specs.Load.{Every}
@@ -37,7 +37,7 @@ use Rattle.plan_claims.proofs.ExactLaws.{outcome_of, not_by, by_not}
 -- ---- the rows before it
 
 module _ (set : TaskSet) where
-  rows_clear : ((other : PlannerRow) → turn other < 6 → NotHeld other set) → charged_outcome set ≡ Done
+  rows_clear : ((other : PlannerRow) → turn other < 6 → NotHeld other set) → charged_outcome set ≡ Ok tt
   unfolding charged_outcome figures_outcome
   rows_clear earlier =
       rw (
@@ -52,17 +52,17 @@ module _ (set : TaskSet) where
   earlier_clear earlier = record { carried = earlier ASK (omega arith); charged = rows_clear earlier }
 
   module _ (clear : Clear set) where
-    parts : (first_of (outcome_of BOARD set) (outcome_of RANGE set) ≡ Done) × (first_of (outcome_of SLOT set) (first_of (outcome_of TIGHT set) (outcome_of HORIZON set)) ≡ Done)
+    parts : (first_of (outcome_of BOARD set) (outcome_of RANGE set) ≡ Ok tt) × (first_of (outcome_of SLOT set) (first_of (outcome_of TIGHT set) (outcome_of HORIZON set)) ≡ Ok tt)
     unfolding charged_outcome figures_outcome
     parts = first_done (first_of (outcome_of BOARD set) (outcome_of RANGE set)) (first_of (outcome_of SLOT set) (first_of (outcome_of TIGHT set) (outcome_of HORIZON set))) clear.charged
 
-    figures : (outcome_of BOARD set ≡ Done) × (outcome_of RANGE set ≡ Done)
+    figures : (outcome_of BOARD set ≡ Ok tt) × (outcome_of RANGE set ≡ Ok tt)
     figures = first_done (outcome_of BOARD set) (outcome_of RANGE set) parts.0
 
-    slot : (outcome_of SLOT set ≡ Done) × (first_of (outcome_of TIGHT set) (outcome_of HORIZON set) ≡ Done)
+    slot : (outcome_of SLOT set ≡ Ok tt) × (first_of (outcome_of TIGHT set) (outcome_of HORIZON set) ≡ Ok tt)
     slot = first_done (outcome_of SLOT set) (first_of (outcome_of TIGHT set) (outcome_of HORIZON set)) parts.1
 
-    tight : (outcome_of TIGHT set ≡ Done) × (outcome_of HORIZON set ≡ Done)
+    tight : (outcome_of TIGHT set ≡ Ok tt) × (outcome_of HORIZON set ≡ Ok tt)
     tight = first_done (outcome_of TIGHT set) (outcome_of HORIZON set) slot.1
 
     pub clear_earlier : (other : PlannerRow) → turn other < 6 → NotHeld other set

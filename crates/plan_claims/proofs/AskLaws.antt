@@ -1,13 +1,13 @@
 -- A question that one test decides is refused by row 11 exactly where the test fails, and is done where it passes.
 -- Assumes nothing.
+use Rattle.std.specs.Prelude.{Err, Ok}
 use mathlib.Core.Path.{◌≡◌, refl, sym, ap, ◌∙◌}
 use mathlib.Core.Logic.{◌↔◌, ◌⊎◌, inl, inr, ⊎_elim}
 use mathlib.Core.Bool.{Bool, true, false, cond, ◌&&◌, and-false}
 use Rattle.laws.proofs.Tests.{and_parts, and_both}
 use Rattle.refusals.specs.declared.Refusal.{Refusal}
 use Rattle.refusals.specs.declared.Refusal.TheVariants.{Ask}
-use Rattle.refusals.specs.declared.Outcome.{Outcome}
-use Rattle.refusals.specs.declared.Outcome.TheVariants.{Done, Refused}
+use Rattle.refusals.specs.Refused.{Outcome}
 use Rattle.refusals.specs.Refused.{number_of, place_of}
 use Rattle.refusals.proofs.FirstLaws.{done_refused, refused_same}
 use Rattle.plan_claims.specs.Claims.{AskExactly}
@@ -22,13 +22,13 @@ fails_and a b h = ⊎_elim (λ (e : a ≡ false). rw e) (λ (e : b ≡ false). r
 
 -- what one test decides
 abbrev pub decided : Bool → Outcome
-decided b = cond b Done (Refused Ask)
+decided b = cond b (Ok tt) (Err Ask)
 
-decided_done : (b : Bool) → decided b ≡ Done → b ≡ true
+decided_done : (b : Bool) → decided b ≡ Ok tt → b ≡ true
 decided_done true e = refl
 decided_done false e = done_refused (sym e)
 
-decided_refused : (b : Bool) (r : Refusal) → decided b ≡ Refused r → (b ≡ false) × (r ≡ Ask)
+decided_refused : (b : Bool) (r : Refusal) → decided b ≡ Err r → (b ≡ false) × (r ≡ Ask)
 decided_refused true r e = done_refused e
 decided_refused false r e = (refl, sym (refused_same e))
 
@@ -43,7 +43,7 @@ decides {fails} {holds} b {o} is f h = record {
       (same, ap number_of same, ap place_of same);
 }
   where
-    barred : fails → o ≡ Refused Ask
+    barred : fails → o ≡ Err Ask
     barred w = is ∙ ap decided (f.1 w)
 
 -- two tests and three

@@ -1,5 +1,6 @@
 -- The claims of specs/Claims.antt, proved.
 -- Assumes nothing.
+use Rattle.std.specs.Prelude.{Err, Ok}
 use Prim.Native.Nat.{ℕ}
 use mathlib.Core.Path.{◌≡◌, refl, sym, ap, subst, ◌∙◌}
 use mathlib.Core.Logic.{⊎_elim}
@@ -8,8 +9,7 @@ use mathlib.Core.List.{List}
 use native.Mathlib.Omega.{arith}
 use Rattle.refusals.specs.declared.Refusal.{Refusal}
 use Rattle.refusals.specs.declared.Refusal.TheVariants.{Ask}
-use Rattle.refusals.specs.declared.Outcome.{Outcome}
-use Rattle.refusals.specs.declared.Outcome.TheVariants.{Done, Refused}
+use Rattle.refusals.specs.Refused.{Outcome}
 use Rattle.refusals.proofs.FirstLaws.{done_refused, till_done, done_till, stays, found}
 use Rattle.ring.specs.declared.cover.Stand.{Stand}
 use Rattle.verdict.specs.declared.answer.Verdict.{Verdict}
@@ -42,23 +42,23 @@ use Rattle.plan_claims.proofs.AskLaws.{decided, decides, two_fail, two_hold, thr
 pub plan_exactly : PlanExactly
 plan_exactly row set k = (there, back)
   where
-    there : (plan_of set).outcome ≡ Refused (refusal_of row k) → FirstHolds row set k
+    there : (plan_of set).outcome ≡ Err (refusal_of row k) → FirstHolds row set k
     there e =
         let f = found (outs set) 8 (refusal_of row k) (sym (outcome_is set) ∙ e) in
         let n = refusal_named (row_at f.before) set (refusal_of row k) f.refuses in
         let same : row_at f.before ≡ row = sym (row_back (row_at f.before) n.0) ∙ sym (ap row_of n.1) ∙ row_back row k in
         let place : f.before ≡ turn row = sym (turn_at f.before f.within) ∙ ap turn same in
         record {
-          holds = holds_by row set k (subst (λ (q : PlannerRow). outcome_of q set ≡ Refused (refusal_of row k)) same f.refuses);
-          earlier = λ other h. not_by other set (subst (λ (q : PlannerRow). outcome_of q set ≡ Done) (at_turn other) (till_done (outs set) f.before f.clear (turn other) (omega arith)));
+          holds = holds_by row set k (subst (λ (q : PlannerRow). outcome_of q set ≡ Err (refusal_of row k)) same f.refuses);
+          earlier = λ other h. not_by other set (subst (λ (q : PlannerRow). outcome_of q set ≡ Ok tt) (at_turn other) (till_done (outs set) f.before f.clear (turn other) (omega arith)));
         }
 
-    back : FirstHolds row set k → (plan_of set).outcome ≡ Refused (refusal_of row k)
+    back : FirstHolds row set k → (plan_of set).outcome ≡ Err (refusal_of row k)
     back w =
         outcome_is set
         ∙ stays (outs set) (turn row) 8 (refusal_of row k)
         (done_till (outs set) (turn row) (λ j l. by_not (row_at j) set (w.earlier (row_at j) (omega (arith, turn_at j (omega (arith, turn_below row)))))))
-        (subst (λ (q : PlannerRow). outcome_of q set ≡ Refused (refusal_of row k)) (sym (at_turn row)) (by_holds row set k w.holds))
+        (subst (λ (q : PlannerRow). outcome_of q set ≡ Err (refusal_of row k)) (sym (at_turn row)) (by_holds row set k w.holds))
         (turn_below row)
 
 -- a task that fails alone
@@ -78,11 +78,11 @@ never_alone set k full none e = let w = (plan_exactly ALONE set k).0 e in breaks
 pub plan_done : PlanDone
 plan_done set = (there, back)
   where
-    there : (plan_of set).outcome ≡ Done → (row : PlannerRow) → NotHeld row set
+    there : (plan_of set).outcome ≡ Ok tt → (row : PlannerRow) → NotHeld row set
     there e row =
-        not_by row set (subst (λ (q : PlannerRow). outcome_of q set ≡ Done) (at_turn row) (till_done (outs set) 8 (sym (outcome_is set) ∙ e) (turn row) (turn_below row)))
+        not_by row set (subst (λ (q : PlannerRow). outcome_of q set ≡ Ok tt) (at_turn row) (till_done (outs set) 8 (sym (outcome_is set) ∙ e) (turn row) (turn_below row)))
 
-    back : ((row : PlannerRow) → NotHeld row set) → (plan_of set).outcome ≡ Done
+    back : ((row : PlannerRow) → NotHeld row set) → (plan_of set).outcome ≡ Ok tt
     back f = outcome_is set ∙ done_till (outs set) 8 (λ j l. by_not (row_at j) set (f (row_at j)))
 
 -- no other refusal
@@ -92,12 +92,12 @@ plan_only set r e =
     let n = refusal_named (row_at f.before) set r f.refuses in
     (row_at f.before, n.0, n.1)
 
-refused_zero : (o : Outcome) (p : Plan) (r : Refusal) → (answer o p).outcome ≡ Refused r → (answer o p).plan ≡ zero_plan
-refused_zero Done p r e = done_refused e
-refused_zero (Refused q) p r e = refl
+refused_zero : (o : Outcome) (p : Plan) (r : Refusal) → (answer o p).outcome ≡ Err r → (answer o p).plan ≡ zero_plan
+refused_zero (Ok _) p r e = done_refused e
+refused_zero (Err q) p r e = refl
 
 module _ (set : TaskSet) where
-  done_outcome : (plan_of set).outcome ≡ Done → plan_outcome set ≡ Done
+  done_outcome : (plan_of set).outcome ≡ Ok tt → plan_outcome set ≡ Ok tt
   done_outcome e = sym (plan_outcome_lem set) ∙ e
 
   -- the plan of each outcome
@@ -108,7 +108,7 @@ module _ (set : TaskSet) where
     zero = λ r e. refused_zero (plan_outcome set) (plan_made set) r e;
   }
 
-  own_made : (plan_of set).outcome ≡ Done → makes set (plan_of set).plan ≡ true
+  own_made : (plan_of set).outcome ≡ Ok tt → makes set (plan_of set).plan ≡ true
   unfolding makes
   own_made e = rw (plan_is set (done_outcome e), done_outcome e) (agree_self set.count (plan_made set))
 

@@ -1,5 +1,6 @@
 -- The planner refuses exactly by the first of its rows that holds: each row's own outcome, and the first of them in order.
 -- Assumes nothing.
+use Rattle.std.specs.Prelude.{Err, Ok}
 use Prim.Native.Nat.{ℕ, zero, suc, ◌+◌, ◌-◌, ◌<◌}
 use mathlib.Core.Path.{◌≡◌, refl, ap, subst, ◌∙◌}
 use mathlib.Core.Logic.{inl, inr}
@@ -9,8 +10,7 @@ use native.Mathlib.Omega.{arith}
 use lib.ListN.{get_or}
 use Rattle.refusals.specs.declared.Refusal.{Refusal}
 use Rattle.refusals.specs.declared.Refusal.TheVariants.{Line, Order, Count, Twice, Board, Range, Slot, Tight, Horizon, Full, Ask, Room, Alone}
-use Rattle.refusals.specs.declared.Outcome.{Outcome}
-use Rattle.refusals.specs.declared.Outcome.TheVariants.{Done, Refused}
+use Rattle.refusals.specs.Refused.{Outcome}
 use Rattle.tasks.specs.declared.set.TaskSet.{TaskSet}
 use Rattle.tasks.specs.Set.{most_tasks, members, interrupts_in, zero_task, zero_interrupt}
 use Rattle.refusals.specs.First.{first_of, when, till}
@@ -41,16 +41,16 @@ outcome_of HORIZON set = when (horizon_row set) Horizon
 outcome_of ALONE set = at_task Alone (first_task (alone_row set) (members set))
 outcome_of FULL set = when (full_row set) (Full (needed set))
 
-at_refused : (r : ℕ → Refusal) (n : ℕ) (s : Refusal) → at_task r n ≡ Refused s → s ≡ r n
+at_refused : (r : ℕ → Refusal) (n : ℕ) (s : Refusal) → at_task r n ≡ Err s → s ≡ r n
 at_refused r zero s e = done_refused e
 at_refused r (suc n) s e = cc
 
 module _ {A : Type 0} (z : A) (p : A → Bool) (r : ℕ → Refusal) (ts : List A) where
   -- the first task named is the first that breaks the row
-  breaks_by : ((a b : ℕ) → r a ≡ r b → a ≡ b) → (k : ℕ) → at_task r (first_task p ts) ≡ Refused (r k) → FirstBreaks z p ts k
+  breaks_by : ((a b : ℕ) → r a ≡ r b → a ≡ b) → (k : ℕ) → at_task r (first_task p ts) ≡ Err (r k) → FirstBreaks z p ts k
   breaks_by inj k e = by (first_task p ts) refl e
     where
-      by : (n : ℕ) → first_task p ts ≡ n → at_task r n ≡ Refused (r k) → FirstBreaks z p ts k
+      by : (n : ℕ) → first_task p ts ≡ n → at_task r n ≡ Err (r k) → FirstBreaks z p ts k
       by zero q e' = done_refused e'
       by (suc m) q e' =
           let same : suc m ≡ k = inj (suc m) k (refused_same e') in
@@ -63,7 +63,7 @@ module _ {A : Type 0} (z : A) (p : A → Bool) (r : ℕ → Refusal) (ts : List 
             earlier = λ j h l. f.2.earlier (j - 1) (omega (arith, f.1));
           }
 
-  by_breaks : (k : ℕ) → FirstBreaks z p ts k → at_task r (first_task p ts) ≡ Refused (r k)
+  by_breaks : (k : ℕ) → FirstBreaks z p ts k → at_task r (first_task p ts) ≡ Err (r k)
   by_breaks k f =
       let s : Stops p z ts (k - 1) = record {
         within = omega (arith, f.counted, f.within);
@@ -73,10 +73,10 @@ module _ {A : Type 0} (z : A) (p : A → Bool) (r : ℕ → Refusal) (ts : List 
       let e : first_task p ts ≡ k = omega (arith, stops_first p z 1 (k - 1) ts s, f.counted) in
       ap (at_task r) e ∙ at_some r k (λ (z : k ≡ 0). omega (arith, f.counted))
 
-  none_by : at_task r (first_task p ts) ≡ Done → NoneBreaks z p ts
+  none_by : at_task r (first_task p ts) ≡ Ok tt → NoneBreaks z p ts
   none_by e j h l = first_none p z 0 ts (at_done r (first_task p ts) e) (j - 1) (omega arith)
 
-  by_none : NoneBreaks z p ts → at_task r (first_task p ts) ≡ Done
+  by_none : NoneBreaks z p ts → at_task r (first_task p ts) ≡ Ok tt
   by_none f =
       at_none r (first_task p ts)
       (none_first p z 1 ts (λ j l. subst (λ (i : ℕ). p (get_or ts i z) ≡ false) (let e : j + 1 - 1 ≡ j = omega arith in e) (f (j + 1) (omega arith) (omega arith))))
@@ -92,22 +92,22 @@ module _ (set : TaskSet) (k : ℕ) where
   abbrev first_interrupt : ℕ
   first_interrupt = first_task (interrupt_row set.header.processors) (interrupts_in set)
 
-  by_interrupt : (i : ℕ) → first_interrupt ≡ i → at_task range_at i ≡ Refused (Range k) → (j : ℕ) × (k ≡ most_tasks + j) × FirstInterrupt set j
+  by_interrupt : (i : ℕ) → first_interrupt ≡ i → at_task range_at i ≡ Err (Range k) → (j : ℕ) × (k ≡ most_tasks + j) × FirstInterrupt set j
   by_interrupt zero p e = done_refused e
   by_interrupt (suc i) p e =
       let r : Range (most_tasks + suc i) ≡ Range k = refused_same e in
       let same : k ≡ most_tasks + suc i = cc in
       (suc i, same, breaks_by zero_interrupt (interrupt_row set.header.processors) range_at (interrupts_in set) range_same (suc i) (ap (at_task range_at) p))
 
-  range_holds : (n : ℕ) → first_task range_row (members set) ≡ n → first_of (at_task Range n) (at_task range_at first_interrupt) ≡ Refused (Range k) → RangeAt set k
+  range_holds : (n : ℕ) → first_task range_row (members set) ≡ n → first_of (at_task Range n) (at_task range_at first_interrupt) ≡ Err (Range k) → RangeAt set k
   range_holds zero q e = inr (none_by zero_task range_row Range (members set) (ap (at_task Range) q), by_interrupt first_interrupt refl e)
   range_holds (suc n) q e = inl (breaks_by zero_task range_row Range (members set) (λ a b r. cc) k (ap (at_task Range) q ∙ e))
 
-range_named : (n i : ℕ) (r : Refusal) → first_of (at_task Range n) (at_task range_at i) ≡ Refused r → (k : ℕ) × (r ≡ Range k)
+range_named : (n i : ℕ) (r : Refusal) → first_of (at_task Range n) (at_task range_at i) ≡ Err r → (k : ℕ) × (r ≡ Range k)
 range_named zero i r e = (most_tasks + i, at_refused range_at i r e)
 range_named (suc n) i r e = (suc n, cc)
 
-pub holds_by : (row : PlannerRow) (set : TaskSet) (k : ℕ) → outcome_of row set ≡ Refused (refusal_of row k) → HoldsAt row set k
+pub holds_by : (row : PlannerRow) (set : TaskSet) (k : ℕ) → outcome_of row set ≡ Err (refusal_of row k) → HoldsAt row set k
 holds_by ASK set k e = (when_refused (ask_row set) Ask Ask e).0
 holds_by BOARD set k e = (when_refused (board_row set.header) Board Board e).0
 holds_by RANGE set k e = range_holds set k (first_task range_row (members set)) refl e
@@ -120,7 +120,7 @@ holds_by FULL set k e =
     let q : Full k ≡ Full (needed set) = p.1 in
     (p.0, cc)
 
-pub by_holds : (row : PlannerRow) (set : TaskSet) (k : ℕ) → HoldsAt row set k → outcome_of row set ≡ Refused (refusal_of row k)
+pub by_holds : (row : PlannerRow) (set : TaskSet) (k : ℕ) → HoldsAt row set k → outcome_of row set ≡ Err (refusal_of row k)
 by_holds ASK set k h = rw h
 by_holds BOARD set k h = rw h
 by_holds RANGE set k (inl task) = rw (by_breaks zero_task range_row Range (members set) k task)
@@ -132,7 +132,7 @@ by_holds HORIZON set k h = rw h
 by_holds ALONE set k h = by_breaks zero_task (alone_row set) Alone (members set) k h
 by_holds FULL set k h = rw (h.0, h.1)
 
-pub not_by : (row : PlannerRow) (set : TaskSet) → outcome_of row set ≡ Done → NotHeld row set
+pub not_by : (row : PlannerRow) (set : TaskSet) → outcome_of row set ≡ Ok tt → NotHeld row set
 not_by ASK set e = when_done (ask_row set) Ask e
 not_by BOARD set e = when_done (board_row set.header) Board e
 not_by RANGE set e =
@@ -144,7 +144,7 @@ not_by HORIZON set e = when_done (horizon_row set) Horizon e
 not_by ALONE set e = none_by zero_task (alone_row set) Alone (members set) e
 not_by FULL set e = when_done (full_row set) (Full (needed set)) e
 
-pub by_not : (row : PlannerRow) (set : TaskSet) → NotHeld row set → outcome_of row set ≡ Done
+pub by_not : (row : PlannerRow) (set : TaskSet) → NotHeld row set → outcome_of row set ≡ Ok tt
 by_not ASK set h = rw h
 by_not BOARD set h = rw h
 by_not RANGE set h = rw (by_none zero_task range_row Range (members set) h.0, by_none zero_interrupt (interrupt_row set.header.processors) range_at (interrupts_in set) h.1)
@@ -155,7 +155,7 @@ by_not ALONE set h = by_none zero_task (alone_row set) Alone (members set) h
 by_not FULL set h = rw h
 
 -- a row gives its own refusal only
-pub refusal_named : (row : PlannerRow) (set : TaskSet) (r : Refusal) → outcome_of row set ≡ Refused r → (k : ℕ) × (r ≡ refusal_of row k)
+pub refusal_named : (row : PlannerRow) (set : TaskSet) (r : Refusal) → outcome_of row set ≡ Err r → (k : ℕ) × (r ≡ refusal_of row k)
 refusal_named ASK set r e = (0, (when_refused (ask_row set) Ask r e).1)
 refusal_named BOARD set r e = (0, (when_refused (board_row set.header) Board r e).1)
 refusal_named RANGE set r e = range_named (first_task range_row (members set)) (first_task (interrupt_row set.header.processors) (interrupts_in set)) r e
@@ -234,7 +234,7 @@ turn_at (suc (suc (suc (suc (suc (suc (suc n))))))) h = omega arith
 
 -- the outcomes of the rows by their turns, counted from 1
 abbrev pub outs : TaskSet → ℕ → Outcome
-outs set zero = Done
+outs set zero = Ok tt
 outs set (suc i) = outcome_of (row_at i) set
 
 regroup : (a b c d e f g h : Outcome) →

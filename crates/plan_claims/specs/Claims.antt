@@ -1,11 +1,10 @@
 -- What is promised of planning, of the check of a plan and of the two questions, each promise as a type. The proofs stand
 -- under the same names in proofs/Claims. Document 01, "Refusal numbers and their order" (RULES 6) and "From tasks to servers to ring" (RULES 3);
 -- document 02, Req 08.
-use Rattle.std.specs.Prelude.{ℕ, ◌+◌, ◌-◌, ◌≤◌, ◌<◌, ◌≡◌, ◌↔◌, ◌⊎◌, Bool, true, false, List, [], ◌∷◌, length, get_or, take}
+use Rattle.std.specs.Prelude.{ℕ, ◌+◌, ◌-◌, ◌≤◌, ◌<◌, ◌≡◌, ◌↔◌, ◌⊎◌, Bool, true, false, List, [], ◌∷◌, length, get_or, take, Err, Ok}
 use Rattle.refusals.specs.declared.Refusal.{Refusal}
 use Rattle.refusals.specs.declared.Refusal.TheVariants.{Board, Range, Slot, Tight, Horizon, Full, Ask, Alone}
-use Rattle.refusals.specs.declared.Outcome.{Outcome}
-use Rattle.refusals.specs.declared.Outcome.TheVariants.{Done, Refused}
+use Rattle.refusals.specs.Refused.{Outcome}
 use Rattle.refusals.specs.Refused.{number_of, place_of}
 use Rattle.verdict.specs.declared.answer.Verdict.TheVariants.{Yes}
 use Rattle.verdict.specs.Reserve.{Smallest}
@@ -131,20 +130,20 @@ pub record FirstHolds (row : PlannerRow) (set : TaskSet) (k : ℕ) : Type 0 wher
 -- The planner refuses by a row with a place exactly when that row holds there and no row before it does.
 abbrev pub PlanExactly : Type 0
 PlanExactly =
-    (row : PlannerRow) (set : TaskSet) (k : ℕ) → ((plan_of set).outcome ≡ Refused (refusal_of row k)) ↔ FirstHolds row set k
+    (row : PlannerRow) (set : TaskSet) (k : ℕ) → ((plan_of set).outcome ≡ Err (refusal_of row k)) ↔ FirstHolds row set k
 
 -- It gives a plan exactly when no row holds, and refuses by no other row.
 abbrev pub PlanDone : Type 0
-PlanDone = (set : TaskSet) → ((plan_of set).outcome ≡ Done) ↔ ((row : PlannerRow) → NotHeld row set)
+PlanDone = (set : TaskSet) → ((plan_of set).outcome ≡ Ok tt) ↔ ((row : PlannerRow) → NotHeld row set)
 
 abbrev pub PlanOnly : Type 0
 PlanOnly =
-    (set : TaskSet) (r : Refusal) → (plan_of set).outcome ≡ Refused r → (row : PlannerRow) × (k : ℕ) × (r ≡ refusal_of row k)
+    (set : TaskSet) (r : Refusal) → (plan_of set).outcome ≡ Err r → (row : PlannerRow) × (k : ℕ) × (r ≡ refusal_of row k)
 
 -- The plan is the set's own where the planner is done, and the all-zero plan where it refuses.
 pub record PlanGiven (set : TaskSet) : Type 0 where
-  pub made : (plan_of set).outcome ≡ Done → (plan_of set).plan ≡ plan_made set
-  pub zero : (r : Refusal) → (plan_of set).outcome ≡ Refused r → (plan_of set).plan ≡ zero_plan
+  pub made : (plan_of set).outcome ≡ Ok tt → (plan_of set).plan ≡ plan_made set
+  pub zero : (r : Refusal) → (plan_of set).outcome ≡ Err r → (plan_of set).plan ≡ zero_plan
 
 -- ---- a task that fails alone
 
@@ -168,13 +167,13 @@ pub record FirstAlone (set : TaskSet) (k : ℕ) : Type 0 where
 
 -- A set is refused by 13 with place k exactly then. Whatever the placement would have been: no placement of its tasks fits.
 pub record AloneExactly : Type 0 where
-  pub refused : (set : TaskSet) (k : ℕ) → length set.tasks ≡ most_tasks → ((plan_of set).outcome ≡ Refused (Alone k)) ↔ FirstAlone set k
+  pub refused : (set : TaskSet) (k : ℕ) → length set.tasks ≡ most_tasks → ((plan_of set).outcome ≡ Err (Alone k)) ↔ FirstAlone set k
   pub nowhere : (set : TaskSet) (k : ℕ) → length set.tasks ≡ most_tasks → FirstAlone set k → (placement : List ℕ) →
       Fitting (set_board set) (set_figures set) placement → ⊥
 
 -- A set without interrupts is never refused by 13.
 abbrev pub NeverAlone : Type 0
-NeverAlone = (set : TaskSet) (k : ℕ) → length set.tasks ≡ most_tasks → set.interrupts.count ≡ 0 → (plan_of set).outcome ≡ Refused (Alone k) → ⊥
+NeverAlone = (set : TaskSet) (k : ℕ) → length set.tasks ≡ most_tasks → set.interrupts.count ≡ 0 → (plan_of set).outcome ≡ Err (Alone k) → ⊥
 
 -- ---- the contracts determine the answers
 
@@ -213,8 +212,8 @@ pub record RoomIgnored : Type 0 where
 
 -- The planner makes its own plan, and no plan that differs from it in what is used.
 pub record MakesOwn (set : TaskSet) : Type 0 where
-  pub own : (plan_of set).outcome ≡ Done → makes set (plan_of set).plan ≡ true
-  pub other : (plan : Plan) → makes set plan ≡ true → ((plan_of set).outcome ≡ Done) × SamePlan set.count plan (plan_of set).plan
+  pub own : (plan_of set).outcome ≡ Ok tt → makes set (plan_of set).plan ≡ true
+  pub other : (plan : Plan) → makes set plan ≡ true → ((plan_of set).outcome ≡ Ok tt) × SamePlan set.count plan (plan_of set).plan
 
 -- ---- what a plan of a fitting placement is, and a checked plan
 
@@ -284,12 +283,12 @@ PlanChecked =
 
 -- who runs: the server that the processor serves, or 0; the ticks left, this one included, and so on from tick to tick
 pub record WhoTells (set : TaskSet) (plan : Plan) (p : ℕ) (x : Tick) : Type 0 where
-  pub done : (who_runs set plan p x).outcome ≡ Done
+  pub done : (who_runs set plan p x).outcome ≡ Ok tt
   pub names : (q : ℕ) → ((1 ≤ q) × ((who_runs set plan p x).server ≡ q)) ↔ Serves set.header.slot (reserves_in plan) p q x
   pub idle : ((who_runs set plan p x).server ≡ 0) ↔ ((q : ℕ) → Serves set.header.slot (reserves_in plan) p q x → ⊥)
   pub some : 1 ≤ (who_runs set plan p x).left
   pub on : (j : ℕ) → j < (who_runs set plan p x).left →
-      who_runs set plan p (later x j) ≡ record { outcome = Done; server = (who_runs set plan p x).server; left = (who_runs set plan p x).left - j }
+      who_runs set plan p (later x j) ≡ record { outcome = Ok tt; server = (who_runs set plan p x).server; left = (who_runs set plan p x).left - j }
 
 abbrev pub WhoAnswers : Type 0
 WhoAnswers =
@@ -303,7 +302,7 @@ allowed_in set plan q R = allowed set.header.slot (server_loss set.header (membe
 -- does it pass: yes, with the closest length, exactly when demand never exceeds supply; no exactly with the smallest failing length;
 -- each with the demand and the supply there
 pub record PassTells (set : TaskSet) (plan : Plan) (q R : ℕ) : Type 0 where
-  pub done : (does_pass set plan q R).outcome ≡ Done
+  pub done : (does_pass set plan q R).outcome ≡ Ok tt
   pub tells :
       VerdictTells (server_demand (set_board set) (members_in set plan q)) set.header.slot (server_loss set.header (members_in set plan q)) R
       (does_pass set plan q R).verdict
@@ -316,20 +315,20 @@ PassAnswers =
 -- Both answer 11, and zeros, where the plan is not the planner's of the set, or what is named is not there or not allowed.
 pub record AsksElse : Type 0 where
   pub who : (set : TaskSet) (plan : Plan) (p : ℕ) (x : Tick) →
-      (makes set plan ≡ false) ⊎ (is_processor plan p ≡ false) → who_runs set plan p x ≡ record { outcome = Refused Ask; server = 0; left = 0 }
+      (makes set plan ≡ false) ⊎ (is_processor plan p ≡ false) → who_runs set plan p x ≡ record { outcome = Err Ask; server = 0; left = 0 }
   pub pass : (set : TaskSet) (plan : Plan) (q R : ℕ) →
       (makes set plan ≡ false) ⊎ ((is_server plan q ≡ false) ⊎ (allowed_in set plan q R ≡ false)) →
-      does_pass set plan q R ≡ record { outcome = Refused Ask; verdict = Yes (record { length = 0; demand = 0; supply = 0 }) }
+      does_pass set plan q R ≡ record { outcome = Err Ask; verdict = Yes (record { length = 0; demand = 0; supply = 0 }) }
 
 -- ---- row 11 of the questions, exactly
 
 -- A question is refused by row 11 exactly where something fails, in the enum and by number and place; it is done exactly where
 -- all holds, and no other refusal is given.
 pub record AskExactly (outcome : Outcome) (fails holds : Type 0) : Type 0 where
-  pub refused : (outcome ≡ Refused Ask) ↔ fails
-  pub numbered : ((r : Refusal) × (outcome ≡ Refused r) × (number_of r ≡ 11) × (place_of r ≡ 0)) ↔ fails
-  pub done : (outcome ≡ Done) ↔ holds
-  pub only : (r : Refusal) → outcome ≡ Refused r → (r ≡ Ask) × (number_of r ≡ 11) × (place_of r ≡ 0)
+  pub refused : (outcome ≡ Err Ask) ↔ fails
+  pub numbered : ((r : Refusal) × (outcome ≡ Err r) × (number_of r ≡ 11) × (place_of r ≡ 0)) ↔ fails
+  pub done : (outcome ≡ Ok tt) ↔ holds
+  pub only : (r : Refusal) → outcome ≡ Err r → (r ≡ Ask) × (number_of r ≡ 11) × (place_of r ≡ 0)
 
 -- Who runs: the planner does not make that plan of that set, or the processor is not there.
 abbrev pub WhoExactly : Type 0

@@ -8,6 +8,7 @@ use native.Mathlib.Numerals.{add-one}
 use native.Mathlib.Omega.{arith}
 use lib.ListN.{length, take, drop, get_or, drop_of_length-le}
 use lib.Seq.{drop-cons, get_or-take, length-take-le}
+use lib.Pointwise.{pointwise}
 use Rattle.laws.proofs.Tests.{and_left, and_right, true_false}
 use Rattle.planagree.specs.Agrees.{alike}
 
@@ -64,3 +65,11 @@ module _ {A : Type 0} (t : A → A → Bool) (d : A) (a b : List A) (n : ℕ) (a
       let al : length (take n a) ≤ i = omega (arith, length-take-le n a a-there) in
       let bl : length (take n b) ≤ i = omega (arith, length-take-le n b b_there) in
       e ∙ rw (drop_of_length-le (take n a) al, drop_of_length-le (take n b) bl)
+
+-- the library's comparison of two lists, place by place, finds them alike
+pub pointwise_alike : {A : Type 0} (t : A → A → Bool) (xs ys : List A) → pointwise t xs ys ≡ alike t xs ys
+unfolding alike
+pointwise_alike t [] [] = refl
+pointwise_alike t [] (y ∷ ys) = refl
+pointwise_alike t (x ∷ xs) [] = refl
+pointwise_alike t (x ∷ xs) (y ∷ ys) = ap (λ (b : Bool). t x y && b) (pointwise_alike t xs ys)

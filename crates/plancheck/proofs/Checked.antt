@@ -1,5 +1,6 @@
 -- A plan that the planner makes of a set: what agrees in both.
 -- Assumes nothing.
+use Rattle.std.specs.Prelude.{Err, Ok}
 use Prim.Native.Nat.{ℕ, ◌+◌}
 use mathlib.Core.Path.{◌≡◌, refl, sym, ap, ap₂, ◌∙◌}
 use mathlib.Core.Bool.{Bool, true, false}
@@ -9,8 +10,7 @@ use lib.ListN.{length, take, length-map}
 use Rattle.tasks.specs.Set.{most_tasks}
 use Rattle.laws.proofs.Tests.{and_left, and_right, true_false}
 use Rattle.refusals.specs.declared.Refusal.{Refusal}
-use Rattle.refusals.specs.declared.Outcome.{Outcome}
-use Rattle.refusals.specs.declared.Outcome.TheVariants.{Done, Refused}
+use Rattle.refusals.specs.Refused.{Outcome}
 use Rattle.places.specs.Padded.{padded}
 use Rattle.servers.specs.Placement.{servers_in}
 use Rattle.places.proofs.PaddedLaws.{padded_take}
@@ -34,23 +34,23 @@ use Rattle.setfigures.proofs.FigureLaws.{figures_length}
 use Rattle.planner.proofs.Served.{laid_by}
 use Rattle.planner.proofs.Made.{fits, count_most, few_figures, members, alone, sound, slot_below, set_count, needed_few, made_servers, made_needs, plan_outcome_lem, outcome_clear}
 
-is_done_lem : (o : Outcome) → is_done o ≡ true → o ≡ Done
-is_done_lem Done e = refl
-is_done_lem (Refused r) e = true_false (sym e)
+is_done_lem : (o : Outcome) → is_done o ≡ true → o ≡ Ok tt
+is_done_lem (Ok _) e = refl
+is_done_lem (Err r) e = true_false (sym e)
 
 -- the check by the planner's own answer
 module _ (set : TaskSet) (plan : Plan) where
-  pub makes_refused : {r : Refusal} → (plan_of set).outcome ≡ Refused r → false ≡ makes set plan
+  pub makes_refused : {r : Refusal} → (plan_of set).outcome ≡ Err r → false ≡ makes set plan
   unfolding makes
   makes_refused e = rw (sym (plan_outcome_lem set) ∙ e)
 
   -- done: the comparison with the plan made decides
-  pub makes_by : {b : Bool} {p : Plan} → plan_outcome set ≡ Done → p ≡ plan_made set → b ≡ agrees set.count plan p → b ≡ makes set plan
+  pub makes_by : {b : Bool} {p : Plan} → plan_outcome set ≡ Ok tt → p ≡ plan_made set → b ≡ agrees set.count plan p → b ≡ makes set plan
   unfolding makes
   makes_by e q h = rw (e, ← q) h
 
   -- a plan that is made is made of a set that is not refused
-  pub makes_done : makes set plan ≡ true → plan_outcome set ≡ Done
+  pub makes_done : makes set plan ≡ true → plan_outcome set ≡ Ok tt
   unfolding makes
   makes_done e = is_done_lem (plan_outcome set) (and_left (is_done (plan_outcome set)) (agrees set.count plan (plan_made set)) e)
 

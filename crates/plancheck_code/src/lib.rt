@@ -8,7 +8,6 @@ ghost use Rattle.plancheck.specs.Makes.{makes};
 use plan::plan::Plan;
 use planagree_code::agree;
 use planner_code::make;
-use refusals::Outcome;
 use tasks::set::TaskSet;
 
 pub fn makes_plan(set: TaskSet, plan: Plan) -> bool
@@ -16,7 +15,7 @@ pub fn makes_plan(set: TaskSet, plan: Plan) -> bool
 {
     let made = make(set);
     let outcome = made.outcome;
-    let Outcome::Done = outcome else {
+    let Ok(()) = outcome else {
         return false;
     };
     agree(set.count, plan, made.plan)

@@ -7,8 +7,8 @@ ghost use Rattle.tasks.specs.Set.{most_tasks, most_processors};
 ghost use Rattle.framelines.specs.Figures.{filled};
 ghost use Rattle.planfigures.specs.Figures.{placed_figures, processor_figures};
 
-use put_figures::put_figures;
 use ring::cover::Stand;
+use store::store;
 use tasks::set::TaskSet;
 
 // The figures of the 13 lines, in file order.
@@ -17,13 +17,9 @@ pub fn placed_values(set: TaskSet, placement: &[u64]) -> [u64; 2 * TaskSet::MOST
     ensures { result ≡ filled (2 * most_tasks) (placed_figures set.tasks placement.now) set.count }
 {
     let mut values = [0; 2 * TaskSet::MOST_TASKS];
-    let n = set.count;
-    let mut i = 0;
-    while i < n {
-        let task = set.tasks[i];
+    for (i, task) in set.tasks[..set.count].iter().enumerate() {
         let figures = [task.id as u64, placement[i]];
-        put_figures(&mut values, 2 * i, &figures);
-        i += 1;
+        store(&mut values, 2 * i, &figures);
     }
     values
 }
@@ -37,12 +33,9 @@ pub fn processor_values(
     ensures { result ≡ filled (3 * most_processors) (processor_figures first) n }
 {
     let mut values = [0; 3 * TaskSet::MOST_PROCESSORS as usize];
-    let mut i = 0;
-    while i < n {
-        let stand = first[i];
+    for (i, stand) in first[..n].iter().enumerate() {
         let figures = [i as u64 + 1, stand.server, stand.left];
-        put_figures(&mut values, 3 * i, &figures);
-        i += 1;
+        store(&mut values, 3 * i, &figures);
     }
     values
 }

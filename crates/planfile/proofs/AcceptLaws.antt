@@ -1,5 +1,6 @@
 -- What a plan that the planner makes has: its rows have room for what they count.
 -- Assumes nothing.
+use Rattle.std.specs.Prelude.{Ok}
 use Prim.Native.Nat.{◌≤◌}
 use mathlib.Core.Path.{◌≡◌}
 use mathlib.Core.Bool.{true}
@@ -7,7 +8,6 @@ use native.Mathlib.Nat.{min-le_left}
 use native.Mathlib.Omega.{arith}
 use lib.ListN.{length, length-take, length-map}
 use borrow.Author.Tests.{ltb-false}
-use Rattle.refusals.specs.declared.Outcome.TheVariants.{Done}
 use Rattle.tasks.specs.declared.set.TaskSet.{TaskSet}
 use Rattle.tasks.specs.Set.{members, most_tasks, most_processors}
 use Rattle.taskrows.proofs.BoardLaws.{board_processors}
@@ -29,7 +29,7 @@ use Rattle.rows.proofs.Clears.{charged_clear}
 use Rattle.planner.proofs.Made.{outcome_clear, made_needs}
 use Rattle.plantext.specs.Counts.{CountsFit}
 
-module _ (set : TaskSet) (done : plan_outcome set ≡ Done) where
+module _ (set : TaskSet) (done : plan_outcome set ≡ Ok tt) where
   clear : Clear set
   clear = (outcome_clear set done).0.clear
 

@@ -1,5 +1,6 @@
 -- The claims of specs/Claims.antt, proved.
 -- Assumes nothing.
+use Rattle.std.specs.Prelude.{Err, Ok}
 use Prim.Native.Nat.{ℕ, ◌+◌, ◌≤◌, ◌<◌, max}
 use mathlib.Core.Path.{◌≡◌, refl, sym, ◌∙◌, ap, ap₂}
 use mathlib.Core.List.{List, [], ◌∷◌, ◌++◌, map}
@@ -14,10 +15,8 @@ use Rattle.laws.proofs.Tests.{clash}
 use Rattle.digits.specs.Stored.{stored}
 use Rattle.refusals.specs.declared.Refusal.{Refusal}
 use Rattle.refusals.specs.declared.Refusal.TheVariants.{Room}
-use Rattle.refusals.specs.declared.Outcome.{Outcome}
-use Rattle.refusals.specs.declared.Outcome.TheVariants.{Done, Refused as RefusedBy}
-use Rattle.refusals.specs.declared.Written.{Written}
-use Rattle.refusals.specs.declared.Written.TheVariants.{Bytes, Refused}
+use Rattle.refusals.specs.Refused.{Outcome}
+use Rattle.refusals.specs.Refused.{Written}
 use Rattle.tasks.specs.declared.set.TaskSet.{TaskSet}
 use Rattle.taskread.specs.declared.read.ReadAnswer.{ReadAnswer}
 use Rattle.refusals.specs.Leaves.{leaves}
@@ -59,7 +58,7 @@ determined =
     }
 
 -- a refusal of a text is row 12
-only_room : (t : Bool) (n : ℕ) (r : Refusal) → cond t (Refused Room) (Bytes n) ≡ Refused r → (r ≡ Room) × (t ≡ true)
+only_room : (t : Bool) (n : ℕ) (r : Refusal) → cond t (Err Room) (Ok n) ≡ Err r → (r ≡ Room) × (t ≡ true)
 only_room true n r e = (cc, refl)
 only_room false n r e = clash (cc)
 
@@ -96,10 +95,10 @@ prefix_enough =
       pass = λ n text h q R. ap (pass_of_file q R) (same_filed n text h);
     }
 
-printed_short : (o : Outcome) (set : TaskSet) (plan : Plan) → (o ≡ Done → makes set plan ≡ true) → length (printed (record { outcome = o; set = set; plan = plan })) ≤ longest_text
+printed_short : (o : Outcome) (set : TaskSet) (plan : Plan) → (o ≡ Ok tt → makes set plan ≡ true) → length (printed (record { outcome = o; set = set; plan = plan })) ≤ longest_text
 unfolding sum widths_of
-printed_short Done set plan made = text_short set plan (makes_counted set plan (made refl))
-printed_short (RefusedBy r) set plan made = omega (arith, refusal_bytes r)
+printed_short (Ok _) set plan made = text_short set plan (makes_counted set plan (made refl))
+printed_short (Err r) set plan made = omega (arith, refusal_bytes r)
 
 pub answered_short : AnsweredShort
 unfolding answered

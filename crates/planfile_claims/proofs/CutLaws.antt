@@ -1,5 +1,6 @@
 -- Every line of an accepted plan's text has a figure for each field, and each fits its field.
 -- Assumes nothing.
+use Rattle.std.specs.Prelude.{None, Option, Some}
 use Prim.Native.Nat.{ℕ, zero, suc, ◌+◌, ◌-◌, ◌^◌, ◌≤◌, ◌<◌}
 use mathlib.Core.Path.{◌≡◌, refl, ap, subst}
 use mathlib.Core.List.{List, [], ◌∷◌}
@@ -9,8 +10,6 @@ use lib.Dec.{ltb, lit<}
 use lib.ListN.{length, get_or}
 use Rattle.frames.specs.Table.{widths_of, width_of}
 use Rattle.frames.specs.declared.table.Frame.{Frame}
-use Rattle.tasks.specs.declared.set.Optional.{Optional}
-use Rattle.tasks.specs.declared.set.Optional.TheVariants.{Absent, Given}
 use Rattle.tasks.specs.declared.set.Task.{Task}
 use Rattle.tasks.specs.declared.set.TaskSet.{TaskSet}
 use Rattle.tasks.specs.Set.{most_tasks, members, zero_task}
@@ -48,11 +47,11 @@ in_fields : (frame : Frame) (figures : List ℕ) → Fit figures (widths_of fram
 in_fields frame figures f = record { many = many_fit f; each = each_fit f }
 
 -- a task's id has two digits, whichever line it stands in
-task_id_fits : (id cost deadline period : ℕ) (cache : Optional) →
+task_id_fits : (id cost deadline period : ℕ) (cache : Option ℕ) →
     task_overflows (record { id = id; cost = cost; deadline = deadline; period = period; cache = cache }) ≡ false → id < 16 ^ 2
 unfolding widths_of
-task_id_fits id cost deadline period Absent e = task_fits (record { id = id; cost = cost; deadline = deadline; period = period; cache = Absent }) e 0 (omega arith)
-task_id_fits id cost deadline period (Given own) e = task_fits (record { id = id; cost = cost; deadline = deadline; period = period; cache = Given own }) e 0 (omega arith)
+task_id_fits id cost deadline period None e = task_fits (record { id = id; cost = cost; deadline = deadline; period = period; cache = None }) e 0 (omega arith)
+task_id_fits id cost deadline period (Some own) e = task_fits (record { id = id; cost = cost; deadline = deadline; period = period; cache = Some own }) e 0 (omega arith)
 
 module _ (set : TaskSet) (plan : Plan) (full : length set.tasks ≡ most_tasks) (m : makes set plan ≡ true) where
   of : OfSet set plan

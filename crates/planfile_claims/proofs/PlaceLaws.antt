@@ -1,6 +1,7 @@
 -- The places of the refusals that a file meets: a line among the first 99, a task among 64 or an interrupt among 32 behind them, or at most
 -- as many processors as tasks.
 -- Assumes nothing.
+use Rattle.std.specs.Prelude.{Err}
 use Prim.Native.Nat.{ℕ, zero, suc, ◌+◌, ◌-◌, ◌≤◌, ◌<◌}
 use mathlib.Core.Path.{◌≡◌, sym, ◌∙◌, ap, subst}
 use mathlib.Core.List.{List, []}
@@ -15,7 +16,6 @@ use Rattle.laws.proofs.Tests.{true_false}
 use Rattle.refusals.specs.Refused.{place_of}
 use Rattle.refusals.specs.declared.Refusal.{Refusal}
 use Rattle.refusals.specs.declared.Refusal.TheVariants.{Line, Order, Count, Twice, Board, Range, Slot, Tight, Horizon, Full, Ask, Room, Alone}
-use Rattle.refusals.specs.declared.Outcome.TheVariants.{Refused}
 use Rattle.frameread.specs.Line.{formed, closed}
 use Rattle.tasks.specs.declared.set.TaskSet.{TaskSet}
 use Rattle.tasks.specs.Set.{most_tasks, most_interrupts, members, interrupts_in}
@@ -65,18 +65,18 @@ line_few row text (suc (suc n)) f =
     ]
 
 -- a task out of range is among 64, an interrupt among the 32 behind them
-range_few : (text : List ℕ) (k : ℕ) → (read_of text).outcome ≡ Refused (Range k) → k ≤ 96
+range_few : (text : List ℕ) (k : ℕ) → (read_of text).outcome ≡ Err (Range k) → k ≤ 96
 range_few text k refused =
     elim (dec_lt most_tasks k) [
       | yes behind ↦
           let place : k ≡ most_tasks + (k - most_tasks) = omega (arith, behind) in
-          let f : filed.FirstInterrupt text (k - most_tasks) = (read_exactly_interrupt text (k - most_tasks) (omega (arith, behind))).0 (refused ∙ ap (λ (n : ℕ). Refused (Range n)) place) in
+          let f : filed.FirstInterrupt text (k - most_tasks) = (read_exactly_interrupt text (k - most_tasks) (omega (arith, behind))).0 (refused ∙ ap (λ (n : ℕ). Err (Range n)) place) in
           let e = ends text (λ j one le. f.clear j one) in
           omega (arith, f.within, (shaped_all text e.tasks e.interrupts e.reached.shaped e.ended).1, e.reached.few)
       | no few ↦ omega (arith, few)
     ]
 
-pub read_few : (text : List ℕ) (r : Refusal) → (read_of text).outcome ≡ Refused r → place_of r < 256
+pub read_few : (text : List ℕ) (r : Refusal) → (read_of text).outcome ≡ Err r → place_of r < 256
 read_few text (Line k) e = omega (arith, line_few LINE text k ((read_exactly_line LINE text k).0 e))
 read_few text (Order k) e = omega (arith, line_few ORDER text k ((read_exactly_line ORDER text k).0 e))
 read_few text (Count k) e = omega (arith, line_few COUNT text k ((read_exactly_line COUNT text k).0 e))
@@ -128,8 +128,8 @@ by_row HORIZON set k f = omega arith
 by_row ALONE set k f = omega (arith, f.holds.within, members_few set ALONE k f (omega arith))
 by_row FULL set k f = omega (arith, full_few set k f)
 
-pub plan_few : (set : TaskSet) (r : Refusal) → (plan_of set).outcome ≡ Refused r → place_of r < 256
+pub plan_few : (set : TaskSet) (r : Refusal) → (plan_of set).outcome ≡ Err r → place_of r < 256
 plan_few set r e =
     let only = plan_only set r e in
     subst (λ (q : Refusal). place_of q < 256) (sym only.2)
-    (by_row only.0 set only.1 ((plan_exactly only.0 set only.1).0 (e ∙ ap Refused only.2)))
+    (by_row only.0 set only.1 ((plan_exactly only.0 set only.1).0 (e ∙ ap Err only.2)))

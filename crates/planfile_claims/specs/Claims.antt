@@ -1,11 +1,9 @@
 -- What is promised of the texts and of the whole tool, each claim as a type. The proofs stand under the same names in proofs/.
 -- Document 01, "Lines of hexadecimal" (RULES 5), rows 11 and 12 of the refusals (RULES 6.5) and "How tight each promise is".
-use Rattle.std.specs.Prelude.{ℕ, ◌+◌, ◌^◌, ◌≤◌, ◌<◌, List, ◌++◌, map, Bool, true, false, ◌↔◌, ◌⊎◌, ◌≡◌, length, take, drop, get_or}
+use Rattle.std.specs.Prelude.{ℕ, ◌+◌, ◌^◌, ◌≤◌, ◌<◌, List, ◌++◌, map, Bool, true, false, ◌↔◌, ◌⊎◌, ◌≡◌, length, take, drop, get_or, Err, Ok}
 use Rattle.refusals.specs.declared.Refusal.{Refusal}
 use Rattle.refusals.specs.declared.Refusal.TheVariants.{Ask, Room}
-use Rattle.refusals.specs.declared.Outcome.TheVariants.{Refused as RefusedBy}
-use Rattle.refusals.specs.declared.Written.{Written}
-use Rattle.refusals.specs.declared.Written.TheVariants.{Bytes, Refused}
+use Rattle.refusals.specs.Refused.{Written}
 use Rattle.ring.specs.declared.clock.Tick.{Tick}
 use Rattle.tasks.specs.declared.set.TaskSet.{TaskSet}
 use Rattle.tasks.specs.Set.{most_tasks}
@@ -49,25 +47,25 @@ pub record Determined : Type 0 where
 -- An accepted write changes the text's bytes at the buffer's start and no others; row 12 is given exactly when the buffer is shorter than the text.
 pub record TextExact : Type 0 where
   pub bytes : (buffer text : List ℕ) → length text ≤ length buffer →
-      (fitted buffer text ≡ Bytes (length text)) × (leaves (fitted buffer text) buffer text ≡ text ++ drop (length text) buffer)
-  pub room : (buffer text : List ℕ) → length buffer < length text → fitted buffer text ≡ Refused Room
-  pub room_only : (buffer text : List ℕ) (r : Refusal) → fitted buffer text ≡ Refused r → (r ≡ Room) × (length buffer < length text)
+      (fitted buffer text ≡ Ok (length text)) × (leaves (fitted buffer text) buffer text ≡ text ++ drop (length text) buffer)
+  pub room : (buffer text : List ℕ) → length buffer < length text → fitted buffer text ≡ Err Room
+  pub room_only : (buffer text : List ℕ) (r : Refusal) → fitted buffer text ≡ Err r → (r ≡ Room) × (length buffer < length text)
 
 -- Writing a text of a plan: row 11 exactly where the planner does not make that plan of that set; row 12 exactly where it does and the
 -- buffer is shorter than the text. A number of bytes exactly where neither holds, and it is the text's length. No other refusal is given.
 pub record RowsExactly (made : Bool) (buffer text : List ℕ) (answer : Written) : Type 0 where
-  pub ask : (answer ≡ Refused Ask) ↔ (made ≡ false)
-  pub room : (answer ≡ Refused Room) ↔ ((made ≡ true) × (length buffer < length text))
-  pub bytes : (n : ℕ) → (answer ≡ Bytes n) ↔ ((made ≡ true) × ((length text ≤ length buffer) × (n ≡ length text)))
-  pub others : (r : Refusal) → answer ≡ Refused r → (r ≡ Ask) ⊎ (r ≡ Room)
+  pub ask : (answer ≡ Err Ask) ↔ (made ≡ false)
+  pub room : (answer ≡ Err Room) ↔ ((made ≡ true) × (length buffer < length text))
+  pub bytes : (n : ℕ) → (answer ≡ Ok n) ↔ ((made ≡ true) × ((length text ≤ length buffer) × (n ≡ length text)))
+  pub others : (r : Refusal) → answer ≡ Err r → (r ≡ Ask) ⊎ (r ≡ Room)
 
 abbrev pub WriteExactly : Type 0
 WriteExactly = (set : TaskSet) (plan : Plan) (buffer : List ℕ) → RowsExactly (makes set plan) buffer (plan_text set plan) (write_plan set plan buffer)
 
 -- A refused write stores nothing.
 pub record RefusedStoresNothing : Type 0 where
-  pub write : (set : TaskSet) (plan : Plan) (buffer : List ℕ) (r : Refusal) {left : List ℕ} → Writes set plan buffer (Refused r) left → left ≡ buffer
-  pub answer : (text buffer : List ℕ) (r : Refusal) {left : List ℕ} → Fits buffer (answered text) (Refused r) left → left ≡ buffer
+  pub write : (set : TaskSet) (plan : Plan) (buffer : List ℕ) (r : Refusal) {left : List ℕ} → Writes set plan buffer (Err r) left → left ≡ buffer
+  pub answer : (text buffer : List ℕ) (r : Refusal) {left : List ℕ} → Fits buffer (answered text) (Err r) left → left ≡ buffer
 
 -- The tool and the questions look no further into a file than the reader.
 pub record PrefixEnough : Type 0 where
@@ -163,4 +161,4 @@ NothingCutOff = (set : TaskSet) (plan : Plan) → length set.tasks ≡ most_task
 
 -- The place of a refusal that a file meets, by reading it or by planning it, fits its field.
 abbrev pub PlacesFit : Type 0
-PlacesFit = (text : List ℕ) (r : Refusal) → (filed_of text).outcome ≡ RefusedBy r → place_of r < 16 ^ width_of Frame.Refused 1
+PlacesFit = (text : List ℕ) (r : Refusal) → (filed_of text).outcome ≡ Err r → place_of r < 16 ^ width_of Frame.Refused 1

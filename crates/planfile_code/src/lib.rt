@@ -8,7 +8,7 @@ ghost use Rattle.planfile.specs.Tool.{answered};
 use laidtext::{Text, fit_laid};
 use planfit_code::fit_refusal;
 use planner_code::settle;
-use refusals::{Outcome, Written};
+use refusals::Written;
 use taskplan_code::rows_read;
 use taskread_code::read;
 
@@ -21,7 +21,7 @@ pub fn answer(text: &[u8], out: &mut [u8]) -> Written
     let made = settle(set, rows);
     let outcome = made.outcome;
     match outcome {
-        Outcome::Done => fit_laid(Text::Plan, set, made.servers, out),
-        Outcome::Refused(refusal) => fit_refusal(refusal, out),
+        Ok(()) => fit_laid(Text::Plan, set, made.servers, out),
+        Err(refusal) => fit_refusal(refusal, out),
     }
 }

@@ -1,5 +1,6 @@
 -- Laws of a text into a lent buffer: the answer and the buffer where it fits, and where it does not.
 -- Assumes nothing.
+use Rattle.std.specs.Prelude.{Err, Ok}
 use Prim.Native.Nat.{ℕ, ◌≤◌, ◌<◌}
 use mathlib.Core.Path.{◌≡◌, refl, sym, ◌∙◌, ap, subst}
 use mathlib.Core.List.{List}
@@ -8,17 +9,16 @@ use lib.ListN.{length}
 use borrow.Author.Tests.{lt-ltb, le-ltb}
 use Rattle.digits.specs.Stored.{stored}
 use Rattle.refusals.specs.declared.Refusal.TheVariants.{Ask, Room}
-use Rattle.refusals.specs.declared.Written.{Written}
-use Rattle.refusals.specs.declared.Written.TheVariants.{Bytes, Refused}
+use Rattle.refusals.specs.Refused.{Written}
 use Rattle.refusals.specs.Leaves.{leaves}
 use Rattle.planfit.specs.Fit.{fitted, write_of, Fits}
 
 module _ (buffer text : List ℕ) where
-  pub fitted_room : length buffer < length text → fitted buffer text ≡ Refused Room
+  pub fitted_room : length buffer < length text → fitted buffer text ≡ Err Room
   unfolding fitted
   fitted_room h = rw (lt-ltb (length buffer) (length text) h)
 
-  pub fitted_bytes : length text ≤ length buffer → fitted buffer text ≡ Bytes (length text)
+  pub fitted_bytes : length text ≤ length buffer → fitted buffer text ≡ Ok (length text)
   unfolding fitted
   fitted_bytes h = rw (le-ltb (length buffer) (length text) h)
 
@@ -27,12 +27,12 @@ module _ (buffer text : List ℕ) where
   fits w left e f = record { answered = sym e; holds = f ∙ sym (ap (λ (v : Written). leaves v buffer text) e) }
 
   -- the text does not fit, and nothing is stored
-  pub no_room : length buffer < length text → Fits buffer text (Refused Room) buffer
-  no_room h = fits (Refused Room) buffer (fitted_room h) refl
+  pub no_room : length buffer < length text → Fits buffer text (Err Room) buffer
+  no_room h = fits (Err Room) buffer (fitted_room h) refl
 
   -- the text fits, and is stored
-  pub stored_whole : {left : List ℕ} (n : ℕ) → n ≡ length text → n ≤ length buffer → left ≡ stored buffer 0 text → Fits buffer text (Bytes n) left
-  stored_whole {left} n e h f = fits (Bytes n) left (fitted_bytes (subst (λ (k : ℕ). k ≤ length buffer) e h) ∙ ap Bytes (sym e)) f
+  pub stored_whole : {left : List ℕ} (n : ℕ) → n ≡ length text → n ≤ length buffer → left ≡ stored buffer 0 text → Fits buffer text (Ok n) left
+  stored_whole {left} n e h f = fits (Ok n) left (fitted_bytes (subst (λ (k : ℕ). k ≤ length buffer) e h) ∙ ap Ok (sym e)) f
 
 -- a text by another name
 pub fits_as : {buffer text other : List ℕ} {w : Written} {left : List ℕ} → text ≡ other → Fits buffer text w left → Fits buffer other w left
@@ -45,6 +45,6 @@ module _ {made : Bool} (buffer text : List ℕ) where
   unfolding write_of
   write_fits m f = (rw m f.answered, rw m f.holds)
 
-  pub write_asks : made ≡ false → (Refused Ask ≡ write_of made buffer text) × (buffer ≡ leaves (write_of made buffer text) buffer text)
+  pub write_asks : made ≡ false → (Err Ask ≡ write_of made buffer text) × (buffer ≡ leaves (write_of made buffer text) buffer text)
   unfolding write_of
   write_asks m = (rw m, rw m)

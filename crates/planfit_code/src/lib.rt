@@ -23,10 +23,10 @@ pub fn fit_plan(set: TaskSet, plan: Plan, out: &mut [u8]) -> Written
 {
     let needed = text_length(set, plan);
     if out.len() < needed {
-        return Written::Refused(Refusal::Room);
+        return Err(Refusal::Room);
     }
     put_text(out, set, plan);
-    Written::Bytes(needed)
+    Ok(needed)
 }
 
 // The line of a refusal.
@@ -35,8 +35,8 @@ pub fn fit_refusal(refusal: Refusal, out: &mut [u8]) -> Written
 {
     let size = length(Frame::Refused) + 1;
     if out.len() < size {
-        return Written::Refused(Refusal::Room);
+        return Err(Refusal::Room);
     }
     put_refusal(out, refusal);
-    Written::Bytes(size)
+    Ok(size)
 }

@@ -1,7 +1,7 @@
 // From placed and sized servers on: row 10, and the plan. What it means stands in settling/specs/Settled.antt and planner/specs/Planner.antt.
 #![tactic(auto)]
 
-ghost use Rattle.std.specs.Prelude.{◌≡◌, take};
+ghost use Rattle.std.specs.Prelude.{◌≡◌, take, Err};
 ghost use Rattle.refusals.specs.First.{when};
 ghost use Rattle.reserves.specs.Slotted.{SlottedFirst};
 ghost use Rattle.reserves.specs.Reserves.{processors_of};
@@ -35,17 +35,17 @@ fn processors_of(served: Servers, slot: u64) -> u64
 }
 
 pub fn refused(refusal: Refusal) -> PlanAnswer
-    ensures { result ≡ answer (Outcome.Refused refusal) zero_plan }
+    ensures { result ≡ answer (Err refusal) zero_plan }
 {
     PlanAnswer {
         plan: Plan::zero(),
-        outcome: Outcome::Refused(refusal),
+        outcome: Err(refusal),
     }
 }
 
 // A set that a row refuses has no servers.
 pub fn unsettled(refusal: Refusal) -> Settled
-    ensures { result ≡ settled (Outcome.Refused refusal) no_servers }
+    ensures { result ≡ settled (Err refusal) no_servers }
 {
     let none = [0u64; TaskSet::MOST_TASKS];
     let servers = Servers {
@@ -54,7 +54,7 @@ pub fn unsettled(refusal: Refusal) -> Settled
         cache: none,
         reserve: none,
     };
-    let outcome = Outcome::Refused(refusal);
+    let outcome = Err(refusal);
     Settled { servers, outcome }
 }
 
@@ -67,9 +67,9 @@ pub fn board_of(set: TaskSet, served: Servers) -> Outcome
     let slot = header.slot as u64;
     let processors = processors_of(served, slot);
     if (header.processors as u64) < processors {
-        return Outcome::Refused(Refusal::Full(processors as u8));
+        return Err(Refusal::Full(processors as u8));
     }
-    Outcome::Done
+    Ok(())
 }
 
 // The plan of a set for which row 11, rows 5 to 9 and row 13 are clear, by its servers.

@@ -1,5 +1,6 @@
 -- The plan of a set whose rows are clear, and the planner's answer by the first row that holds.
 -- Assumes nothing.
+use Rattle.std.specs.Prelude.{Err, Ok}
 use Prim.Native.Nat.{ℕ, ◌+◌, ◌^◌, ◌≤◌, ◌<◌}
 use mathlib.Core.Path.{◌≡◌, refl, sym, ap, ap₂, ◌∙◌}
 use mathlib.Core.Bool.{true, false}
@@ -9,8 +10,7 @@ use borrow.Author.Tests.{lt-ltb, le-ltb}
 use lib.ListN.{length, take}
 use Rattle.refusals.specs.declared.Refusal.{Refusal}
 use Rattle.refusals.specs.declared.Refusal.TheVariants.{Full, Ask, Alone}
-use Rattle.refusals.specs.declared.Outcome.{Outcome}
-use Rattle.refusals.specs.declared.Outcome.TheVariants.{Done, Refused}
+use Rattle.refusals.specs.Refused.{Outcome}
 use Rattle.demand.specs.Load.{Every}
 use Rattle.loads.specs.Charge.{Member}
 use Rattle.loads.specs.Figures.{Figures, figures_to}
@@ -174,8 +174,8 @@ full_clear set e h = le-ltb set.header.processors (needed set) (omega (arith, e)
 -- ---- the planner's answer
 
 answer_outcome : (o : Outcome) (p : Plan) → (answer o p).outcome ≡ o
-answer_outcome Done p = refl
-answer_outcome (Refused r) p = refl
+answer_outcome (Ok _) p = refl
+answer_outcome (Err r) p = refl
 
 module _ (set : TaskSet) where
   pub plan_outcome_lem : (plan_of set).outcome ≡ plan_outcome set
@@ -183,7 +183,7 @@ module _ (set : TaskSet) where
   plan_outcome_lem = answer_outcome (plan_outcome set) (plan_made set)
 
   -- done: the plan is the set's
-  pub plan_is : plan_outcome set ≡ Done → (plan_of set).plan ≡ plan_made set
+  pub plan_is : plan_outcome set ≡ Ok tt → (plan_of set).plan ≡ plan_made set
   unfolding plan_of
   plan_is e = rw e
 
@@ -197,7 +197,7 @@ module _ (set : TaskSet) where
   after_charged = first_of (at_task Alone alone_first) after_alone
 
   -- done: every row is clear
-  pub outcome_clear : plan_outcome set ≡ Done → Placeable set × (full_row set ≡ false)
+  pub outcome_clear : plan_outcome set ≡ Ok tt → Placeable set × (full_row set ≡ false)
   unfolding plan_outcome
   outcome_clear e =
       let p = first_done (when (ask_row set) Ask) (first_of (charged_outcome set) after_charged) e in
@@ -207,26 +207,26 @@ module _ (set : TaskSet) where
       (record { clear = clear; alone = at_done Alone alone_first r.0 }, when_done (full_row set) (Full (needed set)) r.1)
 
   -- row 11 holds
-  pub plan_ask : ask_row set ≡ true → answer (Refused Ask) zero_plan ≡ plan_of set
+  pub plan_ask : ask_row set ≡ true → answer (Err Ask) zero_plan ≡ plan_of set
   unfolding plan_of plan_outcome
   plan_ask a = rw a
 
   -- row 11 is clear and one of rows 5 to 9 holds
-  pub plan_charged : {r : Refusal} → ask_row set ≡ false → charged_outcome set ≡ Refused r → answer (Refused r) zero_plan ≡ plan_of set
+  pub plan_charged : {r : Refusal} → ask_row set ≡ false → charged_outcome set ≡ Err r → answer (Err r) zero_plan ≡ plan_of set
   unfolding plan_of plan_outcome
   plan_charged a e = rw (a, e)
 
   -- rows 11 and 5 to 9 are clear and row 13 holds
-  pub plan_alone : {n : ℕ} → Clear set → n ≡ alone_first → (n ≡ 0 → ⊥) → answer (Refused (Alone n)) zero_plan ≡ plan_of set
+  pub plan_alone : {n : ℕ} → Clear set → n ≡ alone_first → (n ≡ 0 → ⊥) → answer (Err (Alone n)) zero_plan ≡ plan_of set
   unfolding plan_of plan_outcome
   plan_alone {n} clear e some = rw (clear.carried, clear.charged, ← e, at_some Alone n some)
 
   -- row 10 alone holds
-  pub plan_full : {n : ℕ} → Placeable set → full_row set ≡ true → n ≡ needed set → answer (Refused (Full n)) zero_plan ≡ plan_of set
+  pub plan_full : {n : ℕ} → Placeable set → full_row set ≡ true → n ≡ needed set → answer (Err (Full n)) zero_plan ≡ plan_of set
   unfolding plan_of plan_outcome
   plan_full clear f e = rw (clear.clear.carried, clear.clear.charged, clear.alone, f, e)
 
   -- no row holds
-  pub plan_done : {p : Plan} → Placeable set → full_row set ≡ false → p ≡ plan_made set → record { outcome = Done; plan = p } ≡ plan_of set
+  pub plan_done : {p : Plan} → Placeable set → full_row set ≡ false → p ≡ plan_made set → record { outcome = Ok tt; plan = p } ≡ plan_of set
   unfolding plan_of plan_outcome
   plan_done clear f e = rw (clear.clear.carried, clear.clear.charged, clear.alone, f, e)

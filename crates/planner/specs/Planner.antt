@@ -1,9 +1,8 @@
 -- What planning a set answers: the first refusal of row 11, rows 5 to 9, row 13 and row 10, or the plan.
 -- Document 01, "Refusal numbers and their order" (RULES 6); document 02, Req 08.
-use Rattle.std.specs.Prelude.{ℕ, Bool, false, ◌≡◌, ltb}
+use Rattle.std.specs.Prelude.{ℕ, Bool, false, ◌≡◌, ltb, Err, Ok}
 use Rattle.refusals.specs.declared.Refusal.TheVariants.{Full, Ask, Alone}
-use Rattle.refusals.specs.declared.Outcome.{Outcome}
-use Rattle.refusals.specs.declared.Outcome.TheVariants.{Done, Refused}
+use Rattle.refusals.specs.Refused.{Outcome}
 use Rattle.tasks.specs.declared.set.TaskSet.{TaskSet}
 use Rattle.tasks.specs.Set.{members}
 use Rattle.tasks.specs.Search.{first_task, at_task}
@@ -28,7 +27,7 @@ full_row set = ltb set.header.processors (needed set)
 -- row 11 and rows 5 to 9 are clear: the tasks can be placed
 pub record Clear (set : TaskSet) : Type 0 where
   pub carried : ask_row set ≡ false
-  pub charged : charged_outcome set ≡ Done
+  pub charged : charged_outcome set ≡ Ok tt
 
 -- row 13 is clear too: a plan can be laid
 pub record Placeable (set : TaskSet) : Type 0 where
@@ -44,8 +43,8 @@ plan_outcome set =
 
 -- a refused plan is the all-zero plan
 abbrev pub answer : Outcome → Plan → PlanAnswer
-answer Done plan = record { outcome = Done; plan = plan }
-answer (Refused r) plan = record { outcome = Refused r; plan = zero_plan }
+answer (Ok _) plan = record { outcome = Ok tt; plan = plan }
+answer (Err r) plan = record { outcome = Err r; plan = zero_plan }
 
 unfoldable pub plan_of : TaskSet → PlanAnswer
 plan_of set = answer (plan_outcome set) (plan_made set)

@@ -11,19 +11,18 @@ use alonerow_code::first_alone;
 use byprocessor_code::by_processor;
 use planned::{board_of, plan_of, refused, unsettled};
 use planner::PlanAnswer;
-use refusals::{Outcome, Refusal};
-use rows::rows::Rows;
+use refusals::Refusal;
 use rows_code::charged;
 use setfigures_code::figures;
 use settling::Settled;
 use tasks::set::TaskSet;
 
 // Row 11 first; then rows 5 to 9, each over all tasks before the next.
-pub fn rows_of(set: TaskSet) -> Rows
+pub fn rows_of(set: TaskSet) -> Result<u64, Refusal>
     ensures { result ≡ set_rows set }
 {
     if askrow::asks(set) {
-        return Rows::Refused(Refusal::Ask);
+        return Err(Refusal::Ask);
     }
     charged(set)
 }
@@ -44,23 +43,23 @@ fn placed(set: TaskSet, horizon: u64) -> Settled
     }
     let servers = sizing_code::serve(header, &numbers, n, &interrupts[..end], horizon);
     let outcome = board_of(set, servers);
-    if let Outcome::Refused(refusal) = outcome {
+    if let Err(refusal) = outcome {
         return unsettled(refusal);
     }
     Settled {
         servers,
-        outcome: Outcome::Done,
+        outcome: Ok(()),
     }
 }
 
 // The servers of a set of which rows 11 and 5 to 9 are known, or the refusal.
-pub fn settle(set: TaskSet, rows: Rows) -> Settled
+pub fn settle(set: TaskSet, rows: Result<u64, Refusal>) -> Settled
     requires { Cleared rows set }
     ensures { result ≡ settled_by rows set }
 {
     match rows {
-        Rows::Refused(refusal) => unsettled(refusal),
-        Rows::Clear(horizon) => placed(set, horizon),
+        Err(refusal) => unsettled(refusal),
+        Ok(horizon) => placed(set, horizon),
     }
 }
 
@@ -71,11 +70,11 @@ pub fn make(set: TaskSet) -> PlanAnswer
     let rows = rows_of(set);
     let made = settle(set, rows);
     let outcome = made.outcome;
-    if let Outcome::Refused(refusal) = outcome {
+    if let Err(refusal) = outcome {
         return refused(refusal);
     }
     PlanAnswer {
         plan: plan_of(set, made.servers),
-        outcome: Outcome::Done,
+        outcome: Ok(()),
     }
 }

@@ -1,5 +1,6 @@
 -- The promises have something to speak of: example D of document 01 is accepted, its server 1 has a whole processor, its server 2
 -- stands on the ring. Computed from the definitions; assumes nothing.
+use Rattle.std.specs.Prelude.{None}
 use Prim.Native.Nat.{ℕ}
 use mathlib.Core.Path.{◌≡◌, refl, sym, subst}
 use mathlib.Core.List.{List, [], ◌∷◌}
@@ -28,7 +29,6 @@ use Rattle.taking.specs.Takes.{takes}
 use Rattle.sizing.specs.Reserve.{reserves_of}
 use Rattle.reserves.specs.Reserves.{ring_ticks, wholes}
 use Rattle.ring_claims.specs.Serves.{RingServer, WholeProcessor}
-use Rattle.tasks.specs.declared.set.Optional.TheVariants.{Absent}
 use Rattle.tasks.specs.declared.set.Task.{Task}
 use Rattle.tasks.specs.declared.set.TaskSet.{TaskSet}
 use Rattle.tasks.specs.Set.{set_of, interrupts_with}
@@ -50,11 +50,11 @@ use Rattle.fitting_rotas.specs.Rota.{rota_of}
 use Rattle.promises.specs.Claims.{Accepted}
 
 abbrev task : (id C : ℕ) → Task
-task id C = record { id = id; cost = C; deadline = 10; period = 10; cache = Absent }
+task id C = record { id = id; cost = C; deadline = 10; period = 10; cache = None }
 
 -- D: S 10, tasks 5/10/10, 5/10/10, 1/10/10
 abbrev pub set_d : TaskSet
-set_d = set_of (record { processors = 64; slot = 10; relj = 0; relo = 0; ctswo = 0; resd = 0; cpmdo = 0; masked = Absent; rule = Absent }) (task 1 5 ∷ task 2 5 ∷ task 3 1 ∷ []) []
+set_d = set_of (record { processors = 64; slot = 10; relj = 0; relo = 0; ctswo = 0; resd = 0; cpmdo = 0; masked = None; rule = None }) (task 1 5 ∷ task 2 5 ∷ task 3 1 ∷ []) []
 
 -- the reserves of D's rota
 abbrev reserves_d : List ℕ

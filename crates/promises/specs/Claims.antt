@@ -1,7 +1,6 @@
 -- What holds of every accepted plan: the rota that it prints stands. So what is claimed of every standing rota (crate rotas), the
 -- note's demand 3, is claimed of the plan's figures. The proofs stand in proofs/Claims.antt, one for each claim.
-use Rattle.std.specs.Prelude.{ℕ, ◌+◌, ◌≤◌, ◌≡◌, true, List, length}
-use Rattle.refusals.specs.declared.Outcome.TheVariants.{Done}
+use Rattle.std.specs.Prelude.{ℕ, ◌+◌, ◌≤◌, ◌≡◌, true, List, length, Ok}
 use Rattle.tasks.specs.declared.set.TaskSet.{TaskSet}
 use Rattle.tasks.specs.Set.{most_tasks}
 use Rattle.ring.specs.Who.{who_of}
@@ -24,7 +23,7 @@ PlanPrints = (set : TaskSet) (placement : List ℕ) → PrintsRota (rota_of set 
 
 -- the planner gives this set a plan
 abbrev pub Accepted : TaskSet → Type 0
-Accepted set = (plan_of set).outcome ≡ Done
+Accepted set = (plan_of set).outcome ≡ Ok tt
 
 -- its placement fits
 abbrev pub AcceptedFits : Type 0

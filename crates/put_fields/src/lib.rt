@@ -16,15 +16,11 @@ pub fn put_fields(out: &mut [u8], at: usize, row: Row, values: &[u64]) -> usize
     ensures value { result ≡ at + sum (row_widths row) }
     ensures out_after { out.new ≡ stored out.old at (fields (row_widths row) values.now) }
 {
-    let n = row.fields;
-    let widths = row.widths;
     let mut start = at;
-    let mut i = 0;
-    while i < n {
-        let digits = widths[i] as usize;
-        put_value(out, start, digits, values[i]);
+    for (width, value) in row.widths[..row.fields].iter().zip(values) {
+        let digits = *width as usize;
+        put_value(out, start, digits, *value);
         start += digits;
-        i += 1;
     }
     start
 }

@@ -10,7 +10,7 @@ ghost use Rattle.optionallines.specs.Lines.{interrupt_figures, most_figures, int
 
 use framelines_code::put_lines;
 use frames::table::Frame;
-use put_figures::put_figures;
+use store::store;
 use tasks::set::{Interrupts, TaskSet};
 use taskvalues::interrupt_values;
 
@@ -23,13 +23,9 @@ fn interrupt_figures(interrupts: Interrupts) -> [u64; MOST_FIGURES]
     ensures { result ≡ filled most_figures (interrupt_figures interrupts.each) interrupts.count }
 {
     let mut values = [0; MOST_FIGURES];
-    let n = interrupts.count;
-    let mut k = 0;
-    while k < n {
-        let interrupt = interrupts.each[k];
-        let figures = interrupt_values(interrupt);
-        put_figures(&mut values, 5 * k, &figures);
-        k += 1;
+    for k in 0..interrupts.count {
+        let figures = interrupt_values(interrupts.each[k]);
+        store(&mut values, 5 * k, &figures);
     }
     values
 }

@@ -1,5 +1,6 @@
 -- The switch list told: what the list of a file answers as a status, and what it leaves of the lent memory.
 -- Assumes nothing.
+use Rattle.std.specs.Prelude.{Err, Ok}
 use Prim.Native.Nat.{ℕ, ◌≤◌}
 use mathlib.Core.Path.{◌≡◌, refl, sym, ap, ◌∙◌}
 use mathlib.Core.List.{List, [], ◌∷◌}
@@ -13,10 +14,8 @@ use Rattle.digits.specs.Stored.{stored}
 use Rattle.digits.proofs.Stored.{set_stored}
 use Rattle.refusals.specs.declared.Refusal.{Refusal}
 use Rattle.refusals.specs.declared.Refusal.TheVariants.{Room}
-use Rattle.refusals.specs.declared.Outcome.{Outcome}
-use Rattle.refusals.specs.declared.Outcome.TheVariants.{Done, Refused}
-use Rattle.refusals.specs.declared.Written.{Written}
-use Rattle.refusals.specs.declared.Written.TheVariants.{Bytes, Refused as NotWritten}
+use Rattle.refusals.specs.Refused.{Outcome}
+use Rattle.refusals.specs.Refused.{Written}
 use Rattle.refusals.specs.First.{first_of, when}
 use Rattle.refusals.specs.Leaves.{leaves}
 use Rattle.planfit.specs.Fit.{fitted}
@@ -27,22 +26,22 @@ use Rattle.rack.specs.Rack.{list_text, list_numbers, list_told, leaves_text, lis
 
 -- the outcome of a write
 abbrev outcome_of : Written → Outcome
-outcome_of (Bytes n) = Done
-outcome_of (NotWritten r) = Refused r
+outcome_of (Ok n) = Ok tt
+outcome_of (Err r) = Err r
 
 -- a file's list, by its outcome and whether the lent bytes are too short for n
 abbrev by_tests : Outcome → (short : Bool) (n : ℕ) → Written
-by_tests o short n = unless NotWritten o (cond short (NotWritten Room) (Bytes n))
+by_tests o short n = unless Err o (cond short (Err Room) (Ok n))
 
 first_tests : (o : Outcome) (short : Bool) (n : ℕ) → outcome_of (by_tests o short n) ≡ first_of o (when short Room)
-first_tests Done true n = refl
-first_tests Done false n = refl
-first_tests (Refused r) short n = refl
+first_tests (Ok _) true n = refl
+first_tests (Ok _) false n = refl
+first_tests (Err r) short n = refl
 
-bytes_tests : (o : Outcome) (short : Bool) (n k : ℕ) → by_tests o short n ≡ Bytes k → k ≡ n
-bytes_tests Done true n k e = clash (cc)
-bytes_tests Done false n k e = cc
-bytes_tests (Refused r) short n k e = clash (cc)
+bytes_tests : (o : Outcome) (short : Bool) (n k : ℕ) → by_tests o short n ≡ Ok k → k ≡ n
+bytes_tests (Ok _) true n k e = clash (cc)
+bytes_tests (Ok _) false n k e = cc
+bytes_tests (Err r) short n k e = clash (cc)
 
 -- what the three promises say together
 abbrev pub Listed : (tasks out answer : List ℕ) (status : ℕ) (out' answer' : List ℕ) → Type 0
@@ -65,22 +64,22 @@ module _ (tasks out answer : List ℕ) where
   )
 
   -- no refusal stores anything
-  refused_as : (o : Outcome) (r : Refusal) {status : ℕ} → o ≡ Refused r → o ≡ list_told tasks out answer → status ≡ status_of o → Listed tasks out answer status out answer
-  refused_as o r e f s = told_as (Refused r) (sym e ∙ f) (s ∙ ap status_of e) refl refl
+  refused_as : (o : Outcome) (r : Refusal) {status : ℕ} → o ≡ Err r → o ≡ list_told tasks out answer → status ≡ status_of o → Listed tasks out answer status out answer
+  refused_as o r e f s = told_as (Err r) (sym e ∙ f) (s ∙ ap status_of e) refl refl
 
   -- no place for the number
-  no_place : length answer ≡ 0 → first_of (filed_of tasks).outcome (Refused Room) ≡ list_told tasks out answer
+  no_place : length answer ≡ 0 → first_of (filed_of tasks).outcome (Err Room) ≡ list_told tasks out answer
   unfolding list_told
   no_place h = rw (lt-ltb (length answer) 1 (omega (arith, h)))
 
-  first_refuses : (o : Outcome) → (r : Refusal) × (first_of o (Refused Room) ≡ Refused r)
-  first_refuses Done = (Room, refl)
-  first_refuses (Refused r) = (r, refl)
+  first_refuses : (o : Outcome) → (r : Refusal) × (first_of o (Err Room) ≡ Err r)
+  first_refuses (Ok _) = (Room, refl)
+  first_refuses (Err r) = (r, refl)
 
-  pub listed_nowhere : {status : ℕ} → length answer ≡ 0 → status ≡ status_of (first_of (filed_of tasks).outcome (Refused Room)) → Listed tasks out answer status out answer
+  pub listed_nowhere : {status : ℕ} → length answer ≡ 0 → status ≡ status_of (first_of (filed_of tasks).outcome (Err Room)) → Listed tasks out answer status out answer
   listed_nowhere h s =
       let f = first_refuses (filed_of tasks).outcome in
-      refused_as (first_of (filed_of tasks).outcome (Refused Room)) f.0 f.1 (no_place h) s
+      refused_as (first_of (filed_of tasks).outcome (Err Room)) f.0 f.1 (no_place h) s
 
   -- with a place: as the list is written
   short : Bool
@@ -94,16 +93,16 @@ module _ (tasks out answer : List ℕ) where
   unfolding list_told short
   placed_told h = ap outcome_of listed_is ∙ first_tests (filed_of tasks).outcome short (length (list_text tasks)) ∙ rw (le-ltb (length answer) 1 h)
 
-  pub listed_bytes : {out' : List ℕ} (n : ℕ) → 1 ≤ length answer → listed tasks out ≡ Bytes n → out' ≡ leaves (listed tasks out) out (list_text tasks) →
+  pub listed_bytes : {out' : List ℕ} (n : ℕ) → 1 ≤ length answer → listed tasks out ≡ Ok n → out' ≡ leaves (listed tasks out) out (list_text tasks) →
       Listed tasks out answer 0 out' (set answer 0 n)
   unfolding list_numbers
   listed_bytes n h e l =
       let whole : n ≡ length (list_text tasks) = bytes_tests (filed_of tasks).outcome short (length (list_text tasks)) n (sym listed_is ∙ e) in
-      told_as Done (sym (ap outcome_of e) ∙ placed_told h) refl
+      told_as (Ok tt) (sym (ap outcome_of e) ∙ placed_told h) refl
       (l ∙ ap (λ (w : Written). leaves w out (list_text tasks)) e)
       (set_stored answer 0 n (omega (arith, h)) ∙ ap (λ (k : ℕ). stored answer 0 (k ∷ [])) whole)
 
-  pub listed_refused : {out' : List ℕ} {status : ℕ} (r : Refusal) → 1 ≤ length answer → listed tasks out ≡ NotWritten r →
-      out' ≡ leaves (listed tasks out) out (list_text tasks) → status ≡ status_of (Refused r) → Listed tasks out answer status out' answer
+  pub listed_refused : {out' : List ℕ} {status : ℕ} (r : Refusal) → 1 ≤ length answer → listed tasks out ≡ Err r →
+      out' ≡ leaves (listed tasks out) out (list_text tasks) → status ≡ status_of (Err r) → Listed tasks out answer status out' answer
   listed_refused r h e l s =
-      told_as (Refused r) (sym (ap outcome_of e) ∙ placed_told h) s (l ∙ ap (λ (w : Written). leaves w out (list_text tasks)) e) refl
+      told_as (Err r) (sym (ap outcome_of e) ∙ placed_told h) s (l ∙ ap (λ (w : Written). leaves w out (list_text tasks)) e) refl

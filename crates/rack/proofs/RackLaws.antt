@@ -3,7 +3,7 @@
 use Prim.Native.Nat.{ℕ}
 use mathlib.Core.List.{List}
 use mathlib.Core.Path.{◌≡◌, sym, ◌∙◌, ap}
-use Rattle.refusals.specs.declared.Written.{Written}
+use Rattle.refusals.specs.Refused.{Written}
 use Rattle.planfit.specs.Fit.{Fits}
 use Rattle.planfile.specs.Tool.{answered}
 use Rattle.rack.specs.Rack.{bytes_of, plan_bytes, plan_leaves}

@@ -1,13 +1,11 @@
 -- What the four functions for C and Rust answer: a text's length or 0, and a status with numbers in lent memory.
 -- Document 01, "Lines of hexadecimal" (RULES 5), the two questions (RULES 4.1 and 4.2), and "Refusal numbers and their order" (RULES 6); document 02, Req 01 (RULES 4.3 to 4.5).
-use Rattle.std.specs.Prelude.{ℕ, List, [], ◌∷◌, ◌||◌, ltb, length}
+use Rattle.std.specs.Prelude.{ℕ, List, [], ◌∷◌, ◌||◌, ltb, length, Err, Ok}
 use Rattle.digits.specs.Stored.{stored}
 use Rattle.refusals.specs.declared.Refusal.TheVariants.{Room}
-use Rattle.refusals.specs.declared.Outcome.{Outcome}
-use Rattle.refusals.specs.declared.Outcome.TheVariants.{Done, Refused}
+use Rattle.refusals.specs.Refused.{Outcome}
 use Rattle.refusals.specs.First.{first_of, when}
-use Rattle.refusals.specs.declared.Written.{Written}
-use Rattle.refusals.specs.declared.Written.TheVariants.{Bytes, Refused as NotWritten}
+use Rattle.refusals.specs.Refused.{Written}
 use Rattle.refusals.specs.Leaves.{leaves}
 use Rattle.verdict.specs.Numbers.{verdict_numbers}
 use Rattle.told.specs.Told.{told_of}
@@ -19,8 +17,8 @@ use Rattle.switchlist.specs.Write.{plan_switches}
 
 -- the bytes that were written
 abbrev pub bytes_of : Written → ℕ
-bytes_of (Bytes n) = n
-bytes_of (NotWritten r) = 0
+bytes_of (Ok n) = n
+bytes_of (Err r) = 0
 
 -- the length of a file's plan text or 1F line, or 0 where it does not fit; and what the lent bytes then hold
 unfoldable pub plan_bytes : (tasks out : List ℕ) → ℕ
@@ -57,8 +55,8 @@ list_told tasks out answer =
 
 -- the list at the start of the lent bytes, or the bytes as before
 abbrev pub leaves_text : Outcome → (text out : List ℕ) → List ℕ
-leaves_text Done text out = stored out 0 text
-leaves_text (Refused r) text out = out
+leaves_text (Ok _) text out = stored out 0 text
+leaves_text (Err r) text out = out
 
 unfoldable pub list_leaves : (tasks out answer : List ℕ) → List ℕ
 list_leaves tasks out answer = leaves_text (list_told tasks out answer) (list_text tasks) out

@@ -1,26 +1,25 @@
 // The switch list of a task file into lent memory, and its number of bytes.
 // A status of 0 says that they stand there; any other is the refusal, and the memory is as before.
-ghost use Rattle.std.specs.Prelude.{◌≡◌};
+ghost use Rattle.std.specs.Prelude.{◌≡◌, Err};
 ghost use Rattle.refusals.specs.First.{first_of};
 ghost use Rattle.refusals.specs.declared.Refusal.TheVariants.{Room};
-ghost use Rattle.refusals.specs.declared.Outcome.TheVariants.{Refused};
 ghost use Rattle.taskplan.specs.File.{filed_of};
 ghost use Rattle.told.specs.Told.{status_of, leaves_numbers};
 ghost use Rattle.rack.specs.Rack.{list_numbers, list_told, list_leaves};
 
-use refusals::{Outcome, Refusal, Written};
+use refusals::{Refusal, Written};
 use switchfile_code::list;
 use taskplan_code::outcome_of;
 use told_code::code;
 
 // Without a place for the number: the file's own refusal, else ROOM.
 fn no_place(tasks: &[u8]) -> u64
-    ensures { result ≡ status_of (first_of (filed_of tasks.now).outcome (Refused Room)) }
+    ensures { result ≡ status_of (first_of (filed_of tasks.now).outcome (Err Room)) }
 {
     let outcome = outcome_of(tasks);
     match outcome {
-        Outcome::Done => code(Refusal::Room),
-        Outcome::Refused(refusal) => code(refusal),
+        Ok(()) => code(Refusal::Room),
+        Err(own) => code(own),
     }
 }
 
@@ -35,10 +34,10 @@ pub fn rack_switches(tasks: &[u8], out: &mut [u8], answer: &mut [u64]) -> u64
     }
     let written = list(tasks, out);
     match written {
-        Written::Bytes(n) => {
+        Ok(n) => {
             answer[0] = n as u64;
             0
         }
-        Written::Refused(refusal) => code(refusal),
+        Err(refusal) => code(refusal),
     }
 }

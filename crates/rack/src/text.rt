@@ -9,7 +9,7 @@ pub fn rack_plan(tasks: &[u8], out: &mut [u8]) -> usize
     ensures value { result ≡ plan_bytes tasks.now out.old }
     ensures out_after { out.new ≡ plan_leaves tasks.now out.old }
 {
-    let Written::Bytes(length) = planfile_code::answer(tasks, out) else {
+    let Ok(length) = planfile_code::answer(tasks, out) else {
         return 0;
     };
     length

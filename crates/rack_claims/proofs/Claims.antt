@@ -1,5 +1,6 @@
 -- The claims of specs/Claims.antt, proved.
 -- Assumes nothing.
+use Rattle.std.specs.Prelude.{Err, Ok}
 use Prim.Native.Nat.{ℕ, ◌+◌, ◌*◌, ◌≤◌, ◌<◌}
 use mathlib.Core.List.{List, []}
 use mathlib.Core.Logic.{◌⊎◌, inl, inr}
@@ -8,8 +9,7 @@ use native.Mathlib.Omega.{arith}
 use lib.ListN.{length, get_or}
 use Rattle.laws.proofs.Orders.{le_or_lt}
 use Rattle.refusals.specs.Refused.{number_of, place_of}
-use Rattle.refusals.specs.declared.Outcome.TheVariants.{Done, Refused}
-use Rattle.refusals.specs.declared.Written.{Written}
+use Rattle.refusals.specs.Refused.{Written}
 use Rattle.refusals.specs.Leaves.{leaves}
 use Rattle.planfile.specs.Tool.{answered}
 use Rattle.planfile_claims.proofs.Claims.{text_exact, answered_short}
@@ -51,8 +51,8 @@ determined =
     }
 
 pub zero_is_done : ZeroIsDone
-zero_is_done Done e = refl
-zero_is_done (Refused r) e =
+zero_is_done (Ok _) e = refl
+zero_is_done (Err r) e =
     let some : number_of r * 256 + place_of r ≡ 0 = e in
     absurd (omega (arith, (number_row r).0, some))
 

@@ -1,5 +1,6 @@
 -- What is told of a file's switch list: given, refused for room, or refused as the file is; and what each leaves.
 -- Assumes nothing.
+use Rattle.std.specs.Prelude.{Err, Ok}
 use Prim.Native.Nat.{ℕ, ◌+◌, ◌*◌, ◌≤◌, ◌<◌}
 use mathlib.Core.Path.{◌≡◌, refl, sym, ap, ◌∙◌}
 use mathlib.Core.List.{List, ◌++◌}
@@ -15,8 +16,7 @@ use Rattle.digits.specs.Stored.{stored}
 use Rattle.frames.specs.Table.{widths_of}
 use Rattle.refusals.specs.declared.Refusal.{Refusal}
 use Rattle.refusals.specs.declared.Refusal.TheVariants.{Room}
-use Rattle.refusals.specs.declared.Outcome.{Outcome}
-use Rattle.refusals.specs.declared.Outcome.TheVariants.{Done, Refused}
+use Rattle.refusals.specs.Refused.{Outcome}
 use Rattle.refusals.specs.Refused.{number_of, place_of}
 use Rattle.taskplan.specs.File.{filed_of}
 use Rattle.planfile_claims.proofs.Claims.{places_fit}
@@ -33,26 +33,26 @@ unfolding stored
 stored_front b text = ap (λ (n : ℕ). text ++ drop n b) (zero-add (length text))
 
 -- a file's own refusal has neither the status of a list nor that of ROOM
-pub own_status : (text : List ℕ) (r : Refusal) → (filed_of text).outcome ≡ Refused r → (1 ≤ number_of r * 256 + place_of r) × (number_of r * 256 + place_of r ≡ 12 * 256 → ⊥)
+pub own_status : (text : List ℕ) (r : Refusal) → (filed_of text).outcome ≡ Err r → (1 ≤ number_of r * 256 + place_of r) × (number_of r * 256 + place_of r ≡ 12 * 256 → ⊥)
 unfolding widths_of
 own_status text r e =
     (omega (arith, (number_row r).0), λ (same : number_of r * 256 + place_of r ≡ 12 * 256). filed_other text r e (omega (arith, same, places_fit text r e)))
 
 module _ (tasks out answer : List ℕ) where
-  told_given : FileAccepted tasks → HasRoom tasks out answer → list_told tasks out answer ≡ Done
+  told_given : FileAccepted tasks → HasRoom tasks out answer → list_told tasks out answer ≡ Ok tt
   unfolding list_told
   told_given ok room = rw (ok, le-ltb (length answer) 1 room.0, le-ltb (length out) (length (list_text tasks)) room.1)
 
-  told_short : FileAccepted tasks → TooShort tasks out answer → list_told tasks out answer ≡ Refused Room
+  told_short : FileAccepted tasks → TooShort tasks out answer → list_told tasks out answer ≡ Err Room
   unfolding list_told
   told_short ok (inl none) = rw (ok, lt-ltb (length answer) 1 (omega (arith, none)))
   told_short ok (inr few) = rw (ok, lt-ltb (length out) (length (list_text tasks)) few, or-true (ltb (length answer) 1))
 
-  told_own : (r : Refusal) → (filed_of tasks).outcome ≡ Refused r → list_told tasks out answer ≡ Refused r
+  told_own : (r : Refusal) → (filed_of tasks).outcome ≡ Err r → list_told tasks out answer ≡ Err r
   unfolding list_told
   told_own r e = rw e
 
-  gives : list_told tasks out answer ≡ Done → GivesList tasks out answer
+  gives : list_told tasks out answer ≡ Ok tt → GivesList tasks out answer
   unfolding list_leaves list_numbers
   gives d =
       record {
@@ -61,7 +61,7 @@ module _ (tasks out answer : List ℕ) where
         number = ap (λ (o : Outcome). leaves_numbers o (list_numbers tasks) answer) d ∙ stored_front answer (list_numbers tasks);
       }
 
-  refuses : (r : Refusal) → list_told tasks out answer ≡ Refused r → RefusesList tasks out answer (number_of r * 256 + place_of r)
+  refuses : (r : Refusal) → list_told tasks out answer ≡ Err r → RefusesList tasks out answer (number_of r * 256 + place_of r)
   unfolding list_leaves
   refuses r d =
       record {
@@ -76,7 +76,7 @@ module _ (tasks out answer : List ℕ) where
   pub list_short : FileAccepted tasks → TooShort tasks out answer → RefusesList tasks out answer (12 * 256)
   list_short ok short = refuses Room (told_short ok short)
 
-  pub list_own : (r : Refusal) → (filed_of tasks).outcome ≡ Refused r → RefusesList tasks out answer (number_of r * 256 + place_of r)
+  pub list_own : (r : Refusal) → (filed_of tasks).outcome ≡ Err r → RefusesList tasks out answer (number_of r * 256 + place_of r)
   list_own r e = refuses r (told_own r e)
 
   -- there is room, or there is not
@@ -95,9 +95,9 @@ module _ (tasks out answer : List ℕ) where
   by_room ok given short (inr few) = short few
 
   by_outcome : {P : Type 0} → (FileAccepted tasks → HasRoom tasks out answer → P) → (FileAccepted tasks → TooShort tasks out answer → P) →
-      ((r : Refusal) → (filed_of tasks).outcome ≡ Refused r → P) → (o : Outcome) → (filed_of tasks).outcome ≡ o → P
-  by_outcome given short own Done e = by_room e (given e) (short e) room_or_short
-  by_outcome given short own (Refused r) e = own r e
+      ((r : Refusal) → (filed_of tasks).outcome ≡ Err r → P) → (o : Outcome) → (filed_of tasks).outcome ≡ o → P
+  by_outcome given short own (Ok _) e = by_room e (given e) (short e) room_or_short
+  by_outcome given short own (Err r) e = own r e
 
   pub by_status : {P : Type 0} → (FileAccepted tasks → HasRoom tasks out answer → list_status tasks out answer ≡ 0 → P) →
       (FileAccepted tasks → TooShort tasks out answer → list_status tasks out answer ≡ 12 * 256 → P) →

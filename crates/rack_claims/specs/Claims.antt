@@ -1,9 +1,8 @@
 -- What is promised of the four functions beside their contracts, each claim as a type. The proofs stand under the same names in proofs/.
 -- Document 01, "How tight each promise is" and "a refused write stores nothing"; document 02, Req 01 (RULES 4.3 to 4.5).
-use Rattle.std.specs.Prelude.{ℕ, ◌+◌, ◌*◌, ◌≤◌, ◌<◌, List, ◌∷◌, ◌++◌, ◌↔◌, ◌⊎◌, ◌≡◌, length, get_or, drop}
+use Rattle.std.specs.Prelude.{ℕ, ◌+◌, ◌*◌, ◌≤◌, ◌<◌, List, ◌∷◌, ◌++◌, ◌↔◌, ◌⊎◌, ◌≡◌, length, get_or, drop, Err, Ok}
 use Rattle.refusals.specs.declared.Refusal.{Refusal}
-use Rattle.refusals.specs.declared.Outcome.{Outcome}
-use Rattle.refusals.specs.declared.Outcome.TheVariants.{Done, Refused}
+use Rattle.refusals.specs.Refused.{Outcome}
 use Rattle.refusals.specs.Refused.{number_of, place_of}
 use Rattle.turn.specs.Count.{longest_switches}
 use Rattle.plantext.specs.Text.{longest_text}
@@ -55,7 +54,7 @@ pub record Determined : Type 0 where
 
 -- A status of 0 is given exactly for an answer that stands in the lent memory.
 abbrev pub ZeroIsDone : Type 0
-ZeroIsDone = (told : Outcome) → status_of told ≡ 0 → told ≡ Done
+ZeroIsDone = (told : Outcome) → status_of told ≡ 0 → told ≡ Ok tt
 
 -- ---- the switch list
 
@@ -91,7 +90,7 @@ ListTooShort = (tasks out answer : List ℕ) → FileAccepted tasks → TooShort
 -- A refused file has its own refusal's status, whatever is lent, and nothing is stored.
 abbrev pub ListRefused : Type 0
 ListRefused =
-    (tasks out answer : List ℕ) (r : Refusal) → (filed_of tasks).outcome ≡ Refused r → RefusesList tasks out answer (number_of r * 256 + place_of r)
+    (tasks out answer : List ℕ) (r : Refusal) → (filed_of tasks).outcome ≡ Err r → RefusesList tasks out answer (number_of r * 256 + place_of r)
 
 -- An empty list, a refused file and too little room are told apart by what the caller sees.
 pub record ListToldApart : Type 0 where
@@ -103,5 +102,5 @@ pub record ListToldApart : Type 0 where
   -- the status of ROOM: an accepted file with too little room, and no other
   pub short : (tasks out answer : List ℕ) → (list_status tasks out answer ≡ 12 * 256) ↔ (FileAccepted tasks × TooShort tasks out answer)
   -- a file's own refusal has neither
-  pub refused : (tasks out answer : List ℕ) (r : Refusal) → (filed_of tasks).outcome ≡ Refused r
+  pub refused : (tasks out answer : List ℕ) (r : Refusal) → (filed_of tasks).outcome ≡ Err r
       → (list_status tasks out answer ≡ 0 → ⊥) × (list_status tasks out answer ≡ 12 * 256 → ⊥)

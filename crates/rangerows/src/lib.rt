@@ -16,16 +16,10 @@ pub fn first_out_of_range(set: TaskSet) -> usize
     requires { set.count ≤ most_tasks }
     ensures { result ≡ first_task range_row (members set) }
 {
-    let count = set.count;
-    let mut i = 0;
-    while i < count {
-        let task = set.tasks[i];
-        if breaks_range(task) {
-            return i + 1;
-        }
-        i += 1;
-    }
-    0
+    set.tasks[..set.count]
+        .iter()
+        .position(|task| breaks_range(*task))
+        .map_or(0, |i| i + 1)
 }
 
 // The first interrupt, from 1, that breaks the range on a board with so many processors, or 0.
@@ -33,16 +27,10 @@ pub fn first_interrupt_out(processors: u8, interrupts: Interrupts) -> usize
     requires { interrupts.count ≤ most_interrupts }
     ensures { result ≡ first_task (interrupt_row processors) (counted interrupts) }
 {
-    let count = interrupts.count;
-    let mut k = 0;
-    while k < count {
-        let interrupt = interrupts.each[k];
-        if breaks_interrupt(processors, interrupt) {
-            return k + 1;
-        }
-        k += 1;
-    }
-    0
+    interrupts.each[..interrupts.count]
+        .iter()
+        .position(|interrupt| breaks_interrupt(processors, *interrupt))
+        .map_or(0, |k| k + 1)
 }
 
 // Rows 5 and 6, the first that holds.
@@ -53,17 +41,17 @@ pub fn figures(set: TaskSet) -> Outcome
 {
     let header = set.header;
     if breaks_board(header) {
-        return Outcome::Refused(Refusal::Board);
+        return Err(Refusal::Board);
     }
     let task = first_out_of_range(set);
     let broken = task != 0;
     if broken {
-        return Outcome::Refused(Refusal::Range(task as u8));
+        return Err(Refusal::Range(task as u8));
     }
     let interrupt = first_interrupt_out(header.processors, set.interrupts);
     let kept = interrupt == 0;
     if kept {
-        return Outcome::Done;
+        return Ok(());
     }
-    Outcome::Refused(Refusal::Range((TaskSet::MOST_TASKS + interrupt) as u8))
+    Err(Refusal::Range((TaskSet::MOST_TASKS + interrupt) as u8))
 }

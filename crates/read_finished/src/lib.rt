@@ -19,14 +19,14 @@ pub fn answered(outcome: Outcome, set: TaskSet) -> ReadAnswer
     ensures { result ≡ answer outcome set }
 {
     match outcome {
-        Outcome::Done => ReadAnswer {
-            outcome: Outcome::Done,
+        Ok(()) => ReadAnswer {
+            outcome: Ok(()),
             set,
         },
-        Outcome::Refused(refusal) => {
+        Err(refusal) => {
             let none = TaskSet::zero();
             ReadAnswer {
-                outcome: Outcome::Refused(refusal),
+                outcome: Err(refusal),
                 set: none,
             }
         }
@@ -44,13 +44,13 @@ pub fn finished(text: &[u8], at: usize, lines: usize, tasks: TaskSet) -> ReadAns
     let rest = interrupt_lines(text, at, lines);
     let outcome = rest.outcome;
     let behind = rest.lines;
-    let Outcome::Done = outcome else {
+    let Ok(()) = outcome else {
         return answered(outcome, set);
     };
     let empty = set.count == 0;
     if empty {
         let place = (behind + 1) as u8;
-        return answered(Outcome::Refused(Refusal::Count(place)), set);
+        return answered(Err(Refusal::Count(place)), set);
     }
     let interrupts = rest.interrupts;
     set.interrupts = interrupts;

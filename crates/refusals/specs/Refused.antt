@@ -1,8 +1,16 @@
 -- The number and the place of each refusal, and the answers that are done or refused.
 -- Document 01, "Refusal numbers and their order" (RULES 6.1); document 02, request 08.
-use Rattle.std.specs.Prelude.{ℕ}
+use Rattle.std.specs.Prelude.{ℕ, Result}
 use Rattle.refusals.specs.declared.Refusal.{Refusal}
 use Rattle.refusals.specs.declared.Refusal.TheVariants.{Line, Order, Count, Twice, Board, Range, Slot, Tight, Horizon, Full, Ask, Room, Alone}
+
+-- what is done, or refused
+abbrev pub Outcome : Type 0
+Outcome = Result (Unit {0}) Refusal
+
+-- what a writer answers: how many bytes it wrote, or the refusal
+abbrev pub Written : Type 0
+Written = Result ℕ Refusal
 
 abbrev pub number_of : Refusal → ℕ
 number_of (Line k) = 1

@@ -19,14 +19,8 @@ pub enum Refusal {
     Alone(u8),
 }
 
-#[derive(Clone, Copy)]
-pub enum Outcome {
-    Done,
-    Refused(Refusal),
-}
+// What is done, or refused.
+pub type Outcome = Result<(), Refusal>;
 
-#[derive(Clone, Copy)]
-pub enum Written {
-    Bytes(usize),
-    Refused(Refusal),
-}
+// What a writer answers: how many bytes it wrote, or the refusal.
+pub type Written = Result<usize, Refusal>;

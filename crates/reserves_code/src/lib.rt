@@ -10,16 +10,10 @@ pub fn ring_ticks(reserves: &[u64], n: usize, slot: u64) -> u64
     requires { SlottedFirst slot reserves.now n }
     ensures { result ≡ ring_ticks slot (take n reserves.now) }
 {
-    let mut sum: u64 = 0;
-    let mut i: usize = 0;
-    while i < n {
-        let reserve = reserves[i];
-        if reserve < slot {
-            sum += reserve;
-        }
-        i += 1;
-    }
-    sum
+    reserves[..n]
+        .iter()
+        .filter(|reserve| **reserve < slot)
+        .sum()
 }
 
 // The servers that have a whole processor.
@@ -27,16 +21,10 @@ pub fn whole_count(reserves: &[u64], n: usize, slot: u64) -> u64
     requires { SlottedFirst slot reserves.now n }
     ensures { result ≡ wholes slot (take n reserves.now) }
 {
-    let mut count: u64 = 0;
-    let mut i: usize = 0;
-    while i < n {
-        let reserve = reserves[i];
-        if slot <= reserve {
-            count += 1;
-        }
-        i += 1;
-    }
-    count
+    reserves[..n]
+        .iter()
+        .filter(|reserve| slot <= **reserve)
+        .count() as u64
 }
 
 pub fn ring_processors(reserves: &[u64], n: usize, slot: u64) -> u64

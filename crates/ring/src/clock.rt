@@ -3,5 +3,5 @@
 #[derive(Clone, Copy)]
 pub struct Tick(pub u64);
 
-#[derive(Clone, Copy)]
+#[derive(Clone, Copy, PartialEq, Eq)]
 pub struct Position(pub u64);

@@ -18,18 +18,15 @@ pub fn stand_at(reserves: &[u64], n: usize, slot: u64, at: Position) -> Stand
 {
     let place = at.0;
     let mut end: u64 = 0;
-    let mut i: usize = 0;
-    while i < n {
-        let reserve = reserves[i];
-        if reserve < slot {
-            end += reserve;
+    for (i, reserve) in reserves[..n].iter().enumerate() {
+        if *reserve < slot {
+            end += *reserve;
             if place < end {
                 let server = i as u64 + 1;
                 let left = end - place;
                 return Stand { server, left };
             }
         }
-        i += 1;
     }
     let length = wholes_code::ceiling(end, slot) * slot;
     let left = length - place;

@@ -5,19 +5,19 @@
 use refusals::Written;
 use shell::failure::tell_failure;
 use shell::front::front;
-use shell::input::{BUFFER, Input, read_input};
+use shell::input::{BUFFER, read_input};
 
 fn main(rt: HostRuntime) {
     let mut text = [0u8; BUFFER];
     let n = match read_input(&mut rt.stdin(), &mut text) {
-        Input::Bytes(n) => n,
-        Input::Failed(error) => {
+        Ok(n) => n,
+        Err(error) => {
             tell_failure(&rt, "rota: standard input", &error);
             return;
         }
     };
     let mut out = [0u8; BUFFER];
-    let Written::Bytes(k) = planfile_code::answer(front(&text, n), &mut out) else {
+    let Ok(k) = planfile_code::answer(front(&text, n), &mut out) else {
         let _ = eprintln!(rt; "rota: no room for the plan");
         return;
     };

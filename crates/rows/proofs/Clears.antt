@@ -1,5 +1,6 @@
 -- A set whose rows are clear: its tasks may be charged, its slot, overheads and horizon are within bounds.
 -- Assumes nothing.
+use Rattle.std.specs.Prelude.{Err, None, Ok, Option, Some, Option, ok_or}
 use Prim.Native.Nat.{ℕ, zero, suc, ◌^◌, ◌≤◌, ◌<◌, ◌∣◌}
 use mathlib.Core.Path.{◌≡◌, refl, sym, ap, subst, ◌∙◌}
 use mathlib.Core.Bool.{true, false}
@@ -11,11 +12,9 @@ use lib.ListN.{length, get_or}
 use Rattle.laws.proofs.Tests.{clash, or_left, or_right}
 use Rattle.refusals.specs.declared.Refusal.{Refusal}
 use Rattle.refusals.specs.declared.Refusal.TheVariants.{Board, Range, Slot, Tight, Horizon}
-use Rattle.refusals.specs.declared.Outcome.{Outcome}
-use Rattle.refusals.specs.declared.Outcome.TheVariants.{Done, Refused}
+use Rattle.refusals.specs.Refused.{Outcome}
 use Rattle.refusals.proofs.FirstLaws.{done_refused, first_done, when_done}
 use Rattle.wholes.specs.Multiple.{AllPositive, least_multiple_of, LeastMultipleOf, within}
-use Rattle.wholes.specs.declared.Multiple.TheVariants.{Within, Past}
 use Rattle.wholes.proofs.WithinLaws.{within_value, past_value}
 use Rattle.wholes.proofs.MultipleLaws.{least_multiple_of_lem, multiple_of_append, multiple_of_pos}
 use Rattle.demand.specs.Load.{Meets, Every}
@@ -23,8 +22,6 @@ use Rattle.interrupting.specs.Interrupts.{Bound, EveryBound, bound_numbers}
 use Rattle.tasks.specs.declared.set.Header.{Header}
 use Rattle.tasks.specs.declared.set.Task.{Task}
 use Rattle.tasks.specs.declared.set.TaskSet.{TaskSet}
-use Rattle.tasks.specs.declared.set.Optional.{Optional}
-use Rattle.tasks.specs.declared.set.Optional.TheVariants.{Absent, Given}
 use Rattle.tasks.specs.Set.{given_or, most_tasks, most_interrupts, longest_period, members, interrupts_in, zero_task, longest_horizon}
 use Rattle.refusals.specs.First.{first_of, when}
 use Rattle.frames.specs.Table.{widths_of, width_of, fields_in}
@@ -43,8 +40,6 @@ use Rattle.members.specs.Server.{SoundBoard, fits, Filed, Bounded}
 use Rattle.members.proofs.ServerLaws.{alone_fits}
 use Rattle.setfigures.specs.Figures.{set_figures, figure_numbers}
 use Rattle.taskrows.proofs.BoardLaws.{board_slot}
-use Rattle.rows.specs.declared.rows.Rows.{Rows}
-use Rattle.rows.specs.declared.rows.Rows.TheVariants.{Clear}
 use Rattle.tightrows.specs.Rows.{slot_row, own_load, tight_row}
 use Rattle.rows.specs.Rows.{horizon_of, horizon_row, charged_outcome, cleared, rows_of, Chargeable, RowsClear}
 use Rattle.setfigures.specs.Board.{set_interrupts, set_board}
@@ -83,18 +78,18 @@ every_by P f [] p = tt
 every_by P f (t ∷ ts) p = (p zero (omega arith), every_by P f ts (λ i l. p (suc i) (omega arith)))
 
 -- the cache cost of a task that a line can carry has four digits at most
-cost_small : (h : Header) (cache : Optional) (id cost deadline period : ℕ) → h.cpmdo < 2 ^ 16 →
+cost_small : (h : Header) (cache : Option ℕ) (id cost deadline period : ℕ) → h.cpmdo < 2 ^ 16 →
     task_overflows (record { id = id; cost = cost; deadline = deadline; period = period; cache = cache }) ≡ false → given_or cache h.cpmdo < 2 ^ 16
 unfolding widths_of
-cost_small h Absent id cost deadline period small e = small
-cost_small h (Given own) id cost deadline period small e =
-    let fits : own < 16 ^ 4 = task_fits (record { id = id; cost = cost; deadline = deadline; period = period; cache = Given own }) e 4 (omega arith) in
+cost_small h None id cost deadline period small e = small
+cost_small h (Some own) id cost deadline period small e =
+    let fits : own < 16 ^ 4 = task_fits (record { id = id; cost = cost; deadline = deadline; period = period; cache = Some own }) e 4 (omega arith) in
     omega arith
 
 -- ---- the rows of a set
 
 -- no task is named where nothing is given
-pub at_done : (r : ℕ → Refusal) (n : ℕ) → at_task r n ≡ Done → n ≡ 0
+pub at_done : (r : ℕ → Refusal) (n : ℕ) → at_task r n ≡ Ok tt → n ≡ 0
 at_done r zero e = refl
 at_done r (suc n) e = done_refused (sym e)
 
@@ -114,7 +109,7 @@ module _ (set : TaskSet) where
   abbrev interrupt_first : ℕ
   interrupt_first = first_task (interrupt_row set.header.processors) (interrupts_in set)
 
-  figures_parts : figures_outcome set ≡ Done → (board_row set.header ≡ false) × (first_task range_row (members set) ≡ 0) × (interrupt_first ≡ 0)
+  figures_parts : figures_outcome set ≡ Ok tt → (board_row set.header ≡ false) × (first_task range_row (members set) ≡ 0) × (interrupt_first ≡ 0)
   unfolding figures_outcome
   figures_parts e =
       let p = first_done (when (board_row set.header) Board) (first_of (at_task Range (first_task range_row (members set))) (at_task range_at interrupt_first)) e in
@@ -122,59 +117,64 @@ module _ (set : TaskSet) where
       (when_done (board_row set.header) Board p.0, at_done Range (first_task range_row (members set)) q.0, at_done range_at interrupt_first q.1)
 
   -- figures done, and the first tasks that rows 7 and 8 would name: rows 5, 6 and 8 are clear
-  pub chargeable : set.count ≤ most_tasks → set.interrupts.count ≤ most_interrupts → figures_outcome set ≡ Done → tight_first ≡ 0 → Chargeable set
+  pub chargeable : set.count ≤ most_tasks → set.interrupts.count ≤ most_interrupts → figures_outcome set ≡ Ok tt → tight_first ≡ 0 → Chargeable set
   chargeable few few_interrupts e t =
       let p = figures_parts e in
       record { few = few; few_interrupts = few_interrupts; board = p.0; range = p.1; interrupts = p.2; tight = t }
 
   -- rows 5 to 9, by the first that holds
-  pub charged_figures : {r : Refusal} → figures_outcome set ≡ Refused r → Rows.Refused r ≡ rows_of set
+  pub charged_figures : {r : Refusal} → figures_outcome set ≡ Err r → Err r ≡ rows_of set
   unfolding rows_of charged_outcome
   charged_figures e = rw e
 
-  module _ (e : figures_outcome set ≡ Done) where
-    pub charged_slot : {n : ℕ} → n ≡ slot_first → (n ≡ 0 → ⊥) → Rows.Refused (Slot n) ≡ rows_of set
+  module _ (e : figures_outcome set ≡ Ok tt) where
+    pub charged_slot : {n : ℕ} → n ≡ slot_first → (n ≡ 0 → ⊥) → Err (Slot n) ≡ rows_of set
     unfolding rows_of charged_outcome
     charged_slot {n} p ne = rw (e, ← p, at_some Slot n ne)
 
     module _ (s : slot_first ≡ 0) where
-      pub charged_tight : {n : ℕ} → n ≡ tight_first → (n ≡ 0 → ⊥) → Rows.Refused (Tight n) ≡ rows_of set
+      pub charged_tight : {n : ℕ} → n ≡ tight_first → (n ≡ 0 → ⊥) → Err (Tight n) ≡ rows_of set
       unfolding rows_of charged_outcome
       charged_tight {n} p ne = rw (e, s, ← p, at_some Tight n ne)
 
       module _ (t : tight_first ≡ 0) where
         -- row 9 by the search for the horizon
-        pub charged_past : within longest_horizon (horizon_of set) ≡ Past → Rows.Refused Horizon ≡ rows_of set
+        pub charged_past : within longest_horizon (horizon_of set) ≡ None → Err Horizon ≡ rows_of set
         unfolding rows_of charged_outcome horizon_row
         charged_past p = rw (e, s, t, lt-ltb longest_horizon (horizon_of set) (past_value longest_horizon (horizon_of set) p))
 
         -- none of them holds
-        pub charged_found : {H : ℕ} → within longest_horizon (horizon_of set) ≡ Within H → Clear H ≡ rows_of set
+        pub charged_found : {H : ℕ} → within longest_horizon (horizon_of set) ≡ Some H → Ok H ≡ rows_of set
         unfolding rows_of charged_outcome horizon_row
         charged_found {H} p =
             let w = within_value longest_horizon (horizon_of set) H p in
             rw (e, s, t, le-ltb longest_horizon (horizon_of set) w.1, w.0)
 
+        -- either way
+        pub charged_by : (r : Option ℕ) → r ≡ within longest_horizon (horizon_of set) → ok_or r Horizon ≡ rows_of set
+        charged_by None e = charged_past (sym e)
+        charged_by (Some H) e = charged_found (sym e)
+
   -- the rows are clear: none is given, and the horizon is the set's
-  pub rows_clear : {H : ℕ} → rows_of set ≡ Clear H → (charged_outcome set ≡ Done) × (H ≡ horizon_of set)
+  pub rows_clear : {H : ℕ} → rows_of set ≡ Ok H → (charged_outcome set ≡ Ok tt) × (H ≡ horizon_of set)
   unfolding rows_of
   rows_clear {H} e = by (charged_outcome set) e
     where
-      by : (o : Outcome) → cleared o (horizon_of set) ≡ Clear H → (o ≡ Done) × (H ≡ horizon_of set)
-      by Done p = (refl, cc)
-      by (Refused r) p = clash (cc)
+      by : (o : Outcome) → cleared o (horizon_of set) ≡ Ok H → (o ≡ Ok tt) × (H ≡ horizon_of set)
+      by (Ok _) p = (refl, cc)
+      by (Err r) p = clash (cc)
 
   -- the rows refuse as the first of them that holds
-  pub rows_refused : {r : Refusal} → rows_of set ≡ Rows.Refused r → charged_outcome set ≡ Refused r
+  pub rows_refused : {r : Refusal} → rows_of set ≡ Err r → charged_outcome set ≡ Err r
   unfolding rows_of
   rows_refused {r} e = by (charged_outcome set) e
     where
-      by : (o : Outcome) → cleared o (horizon_of set) ≡ Rows.Refused r → o ≡ Refused r
-      by Done p = clash (cc)
-      by (Refused s) p = cc
+      by : (o : Outcome) → cleared o (horizon_of set) ≡ Err r → o ≡ Err r
+      by (Ok _) p = clash (cc)
+      by (Err s) p = cc
 
   -- rows 5 to 9 are clear where none of them is given
-  pub charged_clear : charged_outcome set ≡ Done → RowsClear set
+  pub charged_clear : charged_outcome set ≡ Ok tt → RowsClear set
   unfolding charged_outcome
   charged_clear e =
       let p = first_done (figures_outcome set) (first_of (at_task Slot slot_first) after_slot) e in

@@ -1,5 +1,6 @@
 -- The horizon of a set by its interrupts in file order: the same numbers divide it as by processor.
 -- Assumes nothing.
+use Rattle.std.specs.Prelude.{None, Some}
 use Prim.Native.Nat.{ℕ, zero, suc, ◌+◌, ◌*◌, ◌≤◌, ◌<◌, ◌∣◌}
 use mathlib.Core.Path.{◌≡◌, refl, sym, ap, ap₂, subst, ◌∙◌}
 use mathlib.Core.List.{List, [], ◌∷◌, ◌++◌, map, map-append}
@@ -9,7 +10,6 @@ use native.Mathlib.Decide.{ℕ_discrete}
 use lib.ListN.{length, get_or, set as put, replicate, length-set, length-replicate}
 use lib.Seq.{get_or-take, get_or-set_same, get_or-set_other}
 use Rattle.wholes.specs.Multiple.{Divide, least_multiple_of, within}
-use Rattle.wholes.specs.declared.Multiple.TheVariants.{Within, Past}
 use Rattle.wholes.proofs.MultipleLaws.{multiple_of_divides, first_divides_of, others_divide_of}
 use Rattle.wholes.proofs.WithinLaws.{past_is, within_value, past_value}
 use Rattle.demand.specs.Load.{each}
@@ -106,13 +106,13 @@ module _ (set : TaskSet) (room : set.count ≤ length set.tasks) (interrupts-roo
     tasks_is = ap (λ (ns : List ℕ). within longest_horizon (least_multiple_of set.header.slot ns)) tasks_spaced
 
     -- past the limit after the tasks' periods is past it after all
-    pub tasks_past : within longest_horizon (least_multiple_of set.header.slot (spaced figures 2 4 set.count)) ≡ Past → Past ≡ within longest_horizon (horizon_of set)
+    pub tasks_past : within longest_horizon (least_multiple_of set.header.slot (spaced figures 2 4 set.count)) ≡ None → None ≡ within longest_horizon (horizon_of set)
     tasks_past p =
         let more : of_tasks ≤ least_multiple_of of_tasks (interrupt_periods_lem set) =
         le_of_dvd (horizon_some set ok) (first_divides_of of_tasks (interrupt_periods_lem set)) in
         sym (past_is longest_horizon (horizon_of set) (omega (arith, sym (horizon_parts set), more, past_value longest_horizon of_tasks (sym tasks_is ∙ p))))
 
-    pub tasks_within : {own : ℕ} → within longest_horizon (least_multiple_of set.header.slot (spaced figures 2 4 set.count)) ≡ Within own → own ≡ of_tasks
+    pub tasks_within : {own : ℕ} → within longest_horizon (least_multiple_of set.header.slot (spaced figures 2 4 set.count)) ≡ Some own → own ≡ of_tasks
     tasks_within {own} p = (within_value longest_horizon of_tasks own (sym tasks_is ∙ p)).0
 
   counted_below : {k : ℕ} → k < length (interrupts_in set) → k < count

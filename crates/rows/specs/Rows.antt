@@ -1,9 +1,9 @@
 -- Row 9 of the refusals, by its own test, and the first of rows 5 to 9 that holds of a set.
 -- Document 01, "Refusal numbers and their order" (RULES 6); document 02, Req 07 and Req 08.
-use Rattle.std.specs.Prelude.{ℕ, ◌≤◌, ◌<◌, List, map, ◌++◌, ◌≡◌, Bool, false, ltb, get_or}
+use Rattle.refusals.specs.declared.Refusal.{Refusal}
+use Rattle.std.specs.Prelude.{ℕ, ◌≤◌, ◌<◌, List, map, ◌++◌, ◌≡◌, Bool, false, ltb, get_or, Err, Ok, Result}
 use Rattle.refusals.specs.declared.Refusal.TheVariants.{Slot, Tight, Horizon}
-use Rattle.refusals.specs.declared.Outcome.{Outcome}
-use Rattle.refusals.specs.declared.Outcome.TheVariants.{Done}
+use Rattle.refusals.specs.Refused.{Outcome}
 use Rattle.wholes.specs.Multiple.{least_multiple_of}
 use Rattle.tasks.specs.declared.set.Task.{Task}
 use Rattle.tasks.specs.declared.set.TaskSet.{TaskSet}
@@ -15,8 +15,6 @@ use Rattle.tasks.specs.Search.{first_task, at_task}
 use Rattle.taskrows.specs.Rows.{board_row, range_row, interrupt_row, figures_outcome}
 use Rattle.setfigures.specs.Board.{set_interrupts}
 use Rattle.tightrows.specs.Rows.{slot_row, tight_row}
-use Rattle.rows.specs.declared.rows.Rows.{Rows}
-use Rattle.rows.specs.declared.rows.Rows.TheVariants.{Clear}
 
 -- the horizon H: the least common multiple of S and every T of the file, the tasks' and the interrupts'
 unfoldable pub horizon_of : TaskSet → ℕ
@@ -35,12 +33,12 @@ charged_outcome set =
     (first_of (at_task Tight (first_task (tight_row set.header) (members set))) (when (horizon_row set) Horizon)))
 
 -- what the rows say of a set, and the horizon where they are clear
-abbrev pub cleared : Outcome → (H : ℕ) → Rows
-cleared Done H = Clear H
-cleared (Outcome.Refused r) H = Rows.Refused r
+abbrev pub cleared : Outcome → (H : ℕ) → Result ℕ Refusal
+cleared (Ok _) H = Ok H
+cleared (Err r) H = Err r
 
 -- rows 5 to 9: refused by the first that holds, else clear with the horizon
-unfoldable pub rows_of : TaskSet → Rows
+unfoldable pub rows_of : TaskSet → Result ℕ Refusal
 rows_of set = cleared (charged_outcome set) (horizon_of set)
 
 -- what charging a set and its horizon ask: few tasks and interrupts, and rows 5, 6 and 8 clear

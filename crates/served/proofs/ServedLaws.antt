@@ -1,6 +1,7 @@
 -- The server of some places among a file's figures: what charging it asks holds, its loads as charged are those of its members, its
 -- horizon is within the file's, and the test may be asked of them with the interrupts behind them.
 -- Assumes nothing.
+use Rattle.std.specs.Prelude.{Option, Some, unwrap_or}
 use Prim.Native.Nat.{ℕ, zero, suc, ◌+◌, ◌*◌, ◌-◌, ◌/◌, ◌^◌, ◌≤◌, ◌<◌}
 use native.Mathlib.Omega.{arith}
 use native.Mathlib.Nat.{le_of_dvd}
@@ -8,12 +9,9 @@ use mathlib.Core.Path.{◌≡◌, refl, sym, ap, ap₂, subst, ◌∙◌}
 use mathlib.Core.List.{List, [], ◌∷◌, ◌++◌, map, append_assoc}
 use lib.ListN.{length, take, drop, get_or, length-append}
 use lib.Seq.{get_or-take, get_or-append-add, length-take-le, take_at}
-use Rattle.laws.proofs.Tests.{clash}
 use Rattle.digits.specs.Stored.{stored}
 use Rattle.digits.proofs.Stored.{stored_length, stored_stored}
 use Rattle.wholes.specs.Multiple.{within}
-use Rattle.wholes.specs.declared.Multiple.{Multiple}
-use Rattle.wholes.specs.declared.Multiple.TheVariants.{Within, Past}
 use Rattle.wholes.proofs.WithinLaws.{within_is}
 use Rattle.charging.specs.Charging.{entry_loss}
 use Rattle.demand.specs.Load.{Load, loads_of}
@@ -52,12 +50,6 @@ filed_served {h} {figures} {n} {H} f places k cache there few b cost = record {
   where
     at : (i : ℕ) → i < k → get_or places i 0 < n
     at i l = subst (λ (p : ℕ). p < n) (get_or-take k places i 0 l) (b i (rw (length-take-le k places there) l))
-
-same_within : {a b : ℕ} → Within a ≡ Within b → a ≡ b
-same_within e = cc
-
-past_within : {A : Type 0} {a : ℕ} → Past ≡ Within a → A
-past_within e = clash (cc)
 
 -- interrupts behind other numbers are those interrupts
 bounds_behind : (ns interrupts : List ℕ) (from k : ℕ) → length ns ≡ from → bounds_of (ns ++ interrupts) from k ≡ bounds_of interrupts 0 k
@@ -175,16 +167,13 @@ module _ {h : Header} {cache : ℕ} {figures places : List ℕ} {k H : ℕ} (s :
         sound_interrupts = (bounded_sound w s.slot).sound;
       }
 
-      left_horizon : within H (own_horizon h.slot (loads_of out k) board.interrupts) ≡ Within (server_horizon board ms)
+      left_horizon : within H (own_horizon h.slot (loads_of out k) board.interrupts) ≡ Some (server_horizon board ms)
       left_horizon =
           ap (λ (ls : List Load). within H (own_horizon h.slot ls board.interrupts)) left_loads ∙ within_is H (server_horizon board ms) own_within
 
       -- their horizon is found, and never past the file's
-      pub horizon_found : {r : Multiple} {own : ℕ} → r ≡ within H (own_horizon h.slot (loads_of out k) board.interrupts) → r ≡ Within own → own ≡ server_horizon board ms
-      horizon_found e f = same_within (sym f ∙ e ∙ left_horizon)
-
-      pub horizon_not_past : {A : Type 0} {r : Multiple} → r ≡ within H (own_horizon h.slot (loads_of out k) board.interrupts) → r ≡ Past → A
-      horizon_not_past e f = past_within (sym f ∙ e ∙ left_horizon)
+      pub horizon_found : {r : Option ℕ} → r ≡ within H (own_horizon h.slot (loads_of out k) board.interrupts) → unwrap_or r H ≡ server_horizon board ms
+      horizon_found e = ap (λ (r : Option ℕ). unwrap_or r H) (e ∙ left_horizon)
 
       -- the front of the slice, up to their end, is theirs
       pub front_within : {end : ℕ} → end ≡ 3 * k + length interrupts → end ≤ length out

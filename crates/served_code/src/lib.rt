@@ -12,9 +12,8 @@ ghost use Rattle.served.specs.Served.{Served};
 
 use loads_code::charge;
 use members_code::horizon_of;
-use put_figures::put_figures;
+use store::store;
 use tasks::set::{Header, TaskSet};
-use wholes::Multiple;
 
 // The numbers of a server's loads and of the interrupts, as many as there may be.
 pub const ROOM: usize = 3 * TaskSet::MOST_TASKS + 4 * TaskSet::MOST_INTERRUPTS;
@@ -38,10 +37,7 @@ pub fn charge_server(
     ensures loads_after { loads.new ≡ stored loads.old 0 (numbers_of (server_loads header (members_at figures.now (take k places.now))) ++ interrupts.now) }
 {
     charge(header, cache, figures, places, k, loads);
-    put_figures(loads, 3 * k, interrupts);
+    store(loads, 3 * k, interrupts);
     let slot = header.slot as u64;
-    let Multiple::Within(own) = horizon_of(loads, k, interrupts, slot, horizon) else {
-        return horizon;
-    };
-    own
+    horizon_of(loads, k, interrupts, slot, horizon).unwrap_or(horizon)
 }

@@ -10,7 +10,7 @@ ghost use Rattle.planfigures.specs.Figures.{mark, server_figures};
 use fieldwrite::MARK;
 use plan::plan::Plan;
 use plan_code::{counts, reserves, starts};
-use put_figures::put_figures;
+use store::store;
 use tasks::set::TaskSet;
 
 // The ring start of a server, or the mark where it has a whole processor.
@@ -34,12 +34,10 @@ pub fn server_values(plan: Plan) -> [u64; 4 * TaskSet::MOST_TASKS]
     let reserve = reserves(plan);
     let start = starts(plan);
     let count = counts(plan);
-    let mut i = 0;
-    while i < n {
+    for i in 0..n {
         let begin = start_or_mark(reserve[i], slot, start[i]);
         let figures = [i as u64 + 1, reserve[i], begin, count[i]];
-        put_figures(&mut values, 4 * i, &figures);
-        i += 1;
+        store(&mut values, 4 * i, &figures);
     }
     values
 }

@@ -2,11 +2,11 @@
 -- kept of them. What is known of it, and the same with one task more.
 use Prim.Native.Nat.{ℕ, ◌+◌, ◌-◌, ◌≤◌, ◌<◌, max}
 use native.Mathlib.Omega.{arith}
+use native.Mathlib.Numerals.{add-one}
 use mathlib.Core.Path.{◌≡◌, refl, sym, ap, ap₂, subst, ◌∙◌}
 use mathlib.Core.List.{List, [], ◌∷◌, ◌++◌}
 use lib.ListN.{length, get_or, set, take, replicate, length-append}
 use Rattle.demand.specs.Load.{Every}
-use Rattle.masking.specs.Masking.{soonest}
 use Rattle.tasks.specs.declared.set.Header.{Header}
 use Rattle.tasks.specs.Set.{most_tasks}
 use Rattle.places.specs.Padded.{padded, up_to}
@@ -18,19 +18,18 @@ use Rattle.packing.specs.declared.Order.{Order}
 use Rattle.packing.specs.Turns.{turns_of, in_turn, in_file_order}
 use Rattle.packing.proofs.PermutedLaws.{permuted_back}
 use Rattle.packing.proofs.TurnedLaws.{chosen_turned}
-use Rattle.loads.specs.Charge.{cache_of, server_loads, Member}
+use Rattle.loads.specs.Charge.{cache_of, Member}
 use Rattle.loads.proofs.ChargeLaws.{cache_more}
-use Rattle.members.specs.Server.{Board, total_of}
+use Rattle.members.specs.Server.{Board}
 use Rattle.members.proofs.FiledLaws.{every_chosen}
 use Rattle.shares.specs.declared.Share.{Share}
-use Rattle.shares.specs.Share.{share_of}
-use Rattle.shares.specs.Totals.{work_in, jobs_in}
+use Rattle.shares.specs.Share.{share_of, share_in}
 use Rattle.shares.specs.Soonest.{soonest_in}
 use Rattle.shares.proofs.TotalLaws.{work_more, jobs_more}
 use Rattle.taking.specs.Takes.{takes}
 use Rattle.joining.specs.Join.{join}
 use Rattle.joining.specs.Fits.{fit_by}
-use Rattle.joining.specs.Kept.{Kept}
+use Rattle.joining.specs.Kept.{Kept, no_share}
 use Rattle.joining.specs.Soonest.{soonest_with}
 use Rattle.joining.proofs.SoonestLaws.{soonest_more}
 use Rattle.servers.specs.Placement.{servers_in, place_by, room_in, join_by, placed_by, placement_of, cache_in, caches_of, placed}
@@ -40,31 +39,18 @@ use Rattle.servers.proofs.PlacementLaws.{servers_more, by_fit_length, by_fit_mor
 use Rattle.servers.proofs.FittingLaws.{in_none, in_range}
 use Rattle.permuting.proofs.ServerLaws.{cache_permuted}
 use Rattle.servers.proofs.TurnedLaws.{servers_turned}
-use Rattle.servers.proofs.KeptLaws.{kept_none, kept_at, kept_next, row_padded}
+use Rattle.servers.proofs.KeptLaws.{kept_none, kept_at, kept_next, up_padded}
 use Rattle.servers.proofs.Claims.{fit_takes_or_opens, by_fit_few, servers_few}
 
-pub record SoFar (fit : Fit) (b : Board) (H : ℕ) (figures : List Figures) (i : ℕ) (placement work jobs cache soonest : List ℕ) (count : ℕ) : Type 0 where
+pub record SoFar (fit : Fit) (b : Board) (H : ℕ) (figures : List Figures) (i : ℕ) (placement : List ℕ) (kept : List Share) (count : ℕ) : Type 0 where
   pub tasks : length figures ≡ i
   pub few : i ≤ most_tasks
   pub placement_is : placement ≡ padded (placed_by fit b H figures)
   pub count_is : count ≡ servers_in (placed_by fit b H figures)
-  pub kept : Kept b.header H figures (placed_by fit b H figures) work jobs cache soonest
+  pub servers : Kept b.header H figures (placed_by fit b H figures) kept
 
 -- no task yet
-abbrev zeros : List ℕ
-zeros = replicate most_tasks 0
-
-kept_zeros : (h : Header) (H : ℕ) → Kept h H [] [] zeros zeros zeros zeros
-unfolding total_of jobs_in cache_of server_loads soonest
-kept_zeros h H =
-    record {
-      works = kept_none (work_in h H) refl;
-      often = kept_none (jobs_in H) refl;
-      costs = kept_none cache_of refl;
-      first = kept_none (soonest_in h) refl;
-    }
-
-pub so_far_none : (fit : Fit) (b : Board) (H : ℕ) → SoFar fit b H [] 0 (replicate most_tasks 0) (replicate most_tasks 0) (replicate most_tasks 0) (replicate most_tasks 0) (replicate most_tasks 0) 0
+pub so_far_none : (fit : Fit) (b : Board) (H : ℕ) → SoFar fit b H [] 0 (replicate most_tasks 0) (replicate most_tasks no_share) 0
 unfolding placed_by place_by servers_in
 so_far_none fit b H =
     record {
@@ -72,39 +58,37 @@ so_far_none fit b H =
       few = omega arith;
       placement_is = refl;
       count_is = refl;
-      kept = kept_zeros b.header H;
+      servers = kept_none b.header H;
     }
 
+share_same : {a b c d e f g h : ℕ} → a ≡ e → b ≡ f → c ≡ g → d ≡ h →
+    ◌≡◌ {A = Share} (record { work = a; jobs = b; cache = c; due = d }) (record { work = e; jobs = f; cache = g; due = h })
+share_same p q r s = λ i. record { work = p i; jobs = q i; cache = r i; due = s i }
+
 -- what is kept with a task more in server q
-module _ {h : Header} {H : ℕ} {done : List Figures} {placement work jobs cache soonest : List ℕ} (w : Kept h H done placement work jobs cache soonest)
+module _ {h : Header} {H : ℕ} {done : List Figures} {placement : List ℕ} {kept : List Share} (w : Kept h H done placement kept)
     {q at : ℕ} (first : 1 ≤ q) (few : q ≤ most_tasks) (here : at ≡ q - 1) (f : Figures) (even : length placement ≡ length done) (members : Every (Member h) done)
     {share : Share} (brings : share ≡ share_of h H f) where
   abbrev own : List Figures
   own = chosen done placement q
 
-  pub kept_joined : {v j c s : ℕ} → v ≡ get_or work at 0 + share.work → j ≡ get_or jobs at 0 + share.jobs → c ≡ max (get_or cache at 0) share.cache →
-      s ≡ soonest_with (get_or soonest at 0) share.due →
-      Kept h H (done ++ (f ∷ [])) (placement ++ (q ∷ [])) (set work at v) (set jobs at j) (set cache at c) (set soonest at s)
-  kept_joined is-work is-jobs is-cost is-due =
-      record {
-        works =
-            kept_next w.works first few here f even
-            (omega (arith, is-work, kept_at w.works first few here, ap (λ (x : Share). x.work) brings, work_more h H own f));
-        often =
-            kept_next w.often first few here f even
-            (omega (arith, is-jobs, kept_at w.often first few here, ap (λ (x : Share). x.jobs) brings, jobs_more H own f));
-        costs =
-            kept_next w.costs first few here f even
-            (omega (arith, is-cost, kept_at w.costs first few here, ap (λ (x : Share). x.cache) brings, cache_more own f));
-        first =
-            kept_next w.first first few here f even
-            (is-due ∙ ap (λ (t : ℕ). soonest_with t share.due) (kept_at w.first first few here) ∙
-            ap (λ (x : Share). soonest_with (soonest_in h own) x.due) brings ∙
-            sym (soonest_more h own f (every_chosen (Member h) done placement q members)));
-      }
+  before : get_or kept at no_share ≡ share_in h H own
+  before = kept_at w first few here
 
-module _ {fit : Fit} {b : Board} {H : ℕ} {figures : List Figures} {i : ℕ} {placement work jobs cache soonest : List ℕ} {count : ℕ}
-    (w : SoFar fit b H figures i placement work jobs cache soonest count) where
+  pub kept_joined : {v j c s : ℕ} → v ≡ (get_or kept at no_share).work + share.work → j ≡ (get_or kept at no_share).jobs + share.jobs →
+      c ≡ max (get_or kept at no_share).cache share.cache → s ≡ soonest_with (get_or kept at no_share).due share.due →
+      Kept h H (done ++ (f ∷ [])) (placement ++ (q ∷ [])) (set kept at (record { work = v; jobs = j; cache = c; due = s }))
+  kept_joined is-work is-jobs is-cost is-due =
+      kept_next w first few here f even
+      (share_same (omega (arith, is-work, ap (λ (x : Share). x.work) before, ap (λ (x : Share). x.work) brings, work_more h H own f))
+      (omega (arith, is-jobs, ap (λ (x : Share). x.jobs) before, ap (λ (x : Share). x.jobs) brings, jobs_more H own f))
+      (omega (arith, is-cost, ap (λ (x : Share). x.cache) before, ap (λ (x : Share). x.cache) brings, cache_more own f))
+      (is-due ∙ ap (λ (x : Share). soonest_with x.due share.due) before ∙
+      ap (λ (x : Share). soonest_with (soonest_in h own) x.due) brings ∙
+      sym (soonest_more h own f (every_chosen (Member h) done placement q members))))
+
+module _ {fit : Fit} {b : Board} {H : ℕ} {figures : List Figures} {i : ℕ} {placement : List ℕ} {kept : List Share} {count : ℕ}
+    (w : SoFar fit b H figures i placement kept count) where
   -- one server for each task
   as_long : length (placed_by fit b H figures) ≡ i
   as_long = by_fit_length fit b H figures ∙ w.tasks
@@ -125,8 +109,8 @@ module _ {fit : Fit} {b : Board} {H : ℕ} {figures : List Figures} {i : ℕ} {p
   so_far_few = omega (arith, w.count_is, w.tasks, by_fit_few fit b H figures)
 
   -- what is kept is of the tasks at the front
-  pub so_far_kept : Kept b.header H figures (take i placement) work jobs cache soonest
-  so_far_kept = subst (λ (p : List ℕ). Kept b.header H figures p work jobs cache soonest) (sym so_far_front) w.kept
+  pub so_far_kept : Kept b.header H figures (take i placement) kept
+  so_far_kept = subst (λ (p : List ℕ). Kept b.header H figures p kept) (sym so_far_front) w.servers
 
   -- the server that the fit names for the next task is that of the step
   pub so_far_fit : (f : Figures) (q : ℕ) → q ≡ join (fit_by fit (room_in b H figures (take i placement))) (takes b figures (take i placement) f) 0 count → q ≡ join_by fit b H figures (take i placement) f
@@ -145,9 +129,10 @@ module _ {fit : Fit} {b : Board} {H : ℕ} {figures : List Figures} {i : ℕ} {p
 
   -- one task more, in the server that the step answers
   pub so_far_next : (f : Figures) (q at more : ℕ) {share : Share} {v j c s : ℕ} → i < most_tasks → Every (Member b.header) figures → q ≡ join_by fit b H figures (take i placement) f →
-      at ≡ q - 1 → more ≡ max count q → share ≡ share_of b.header H f → v ≡ get_or work at 0 + share.work → j ≡ get_or jobs at 0 + share.jobs →
-      c ≡ max (get_or cache at 0) share.cache → s ≡ soonest_with (get_or soonest at 0) share.due →
-      SoFar fit b H (figures ++ (f ∷ [])) (i + 1) (set placement i q) (set work at v) (set jobs at j) (set cache at c) (set soonest at s) more
+      at ≡ q - 1 → more ≡ max count q → share ≡ share_of b.header H f → v ≡ (get_or kept at no_share).work + share.work →
+      j ≡ (get_or kept at no_share).jobs + share.jobs → c ≡ max (get_or kept at no_share).cache share.cache →
+      s ≡ soonest_with (get_or kept at no_share).due share.due →
+      SoFar fit b H (figures ++ (f ∷ [])) (i + 1) (set placement i q) (set kept at (record { work = v; jobs = j; cache = c; due = s })) more
   so_far_next f q at more {v = v} {j = j} {c = c} {s = s} room members picked here m brings is-work is-jobs is-cost is-due =
       record {
         tasks = length-append figures (f ∷ []) ∙ ap (λ (k : ℕ). k + 1) w.tasks;
@@ -158,9 +143,9 @@ module _ {fit : Fit} {b : Board} {H : ℕ} {figures : List Figures} {i : ℕ} {p
             padded_more (placed_by fit b H figures) q (omega (arith, as_long)) ∙
             ap padded (sym next);
         count_is = omega (arith, m, w.count_is, servers_more (placed_by fit b H figures) q, ap servers_in next);
-        kept =
-            subst (λ (p : List ℕ). Kept b.header H (figures ++ (f ∷ [])) p (set work at v) (set jobs at j) (set cache at c) (set soonest at s)) (sym next)
-            (kept_joined w.kept (so_far_range f q picked).0 (omega (arith, (so_far_range f q picked).1)) here f (by_fit_length fit b H figures) members brings
+        servers =
+            subst (λ (p : List ℕ). Kept b.header H (figures ++ (f ∷ [])) p (set kept at (record { work = v; jobs = j; cache = c; due = s }))) (sym next)
+            (kept_joined w.servers (so_far_range f q picked).0 (omega (arith, (so_far_range f q picked).1)) here f (by_fit_length fit b H figures) members brings
             is-work is-jobs is-cost is-due);
       }
     where
@@ -170,14 +155,21 @@ module _ {fit : Fit} {b : Board} {H : ℕ} {figures : List Figures} {i : ℕ} {p
       next : placed_by fit b H (figures ++ (f ∷ [])) ≡ placed_by fit b H figures ++ (q ∷ [])
       next = by_fit_more fit b H figures f ∙ ap (λ (x : ℕ). placed_by fit b H figures ++ (x ∷ [])) (sym q_is)
 
+  -- the cache cost that is kept of server k + 1
+  pub so_far_cost : (k : ℕ) → k < most_tasks → (get_or kept k no_share).cache ≡ cache_in figures (placed_by fit b H figures) (k + 1)
+  so_far_cost k g = ap (λ (s : Share). s.cache) (w.servers.each k g) ∙ ap (cache_in figures (placed_by fit b H figures)) (sym (add-one k))
+
   -- the struct of such a placement
-  pub so_far_placed : record { count = count; placement = placement; cache = cache } ≡ placed figures (placed_by fit b H figures)
+  pub so_far_placed : {cache : List ℕ} → cache ≡ up_to (cache_in figures (placed_by fit b H figures)) most_tasks →
+      record { count = count; placement = placement; cache = cache } ≡ placed figures (placed_by fit b H figures)
   unfolding placed caches_of cache_of
-  so_far_placed = rw (w.count_is, w.placement_is, costs)
+  so_far_placed {cache} all = rw (w.count_is, w.placement_is, costs)
     where
       costs : cache ≡ padded (up_to (cache_in figures (placed_by fit b H figures)) (servers_in (placed_by fit b H figures)))
       costs =
-          row_padded w.kept.costs (servers_in (placed_by fit b H figures)) (omega (arith, w.tasks, w.few, by_fit_few fit b H figures))
+          all ∙
+          up_padded (cache_in figures (placed_by fit b H figures)) (servers_in (placed_by fit b H figures))
+          (omega (arith, w.tasks, w.few, by_fit_few fit b H figures))
           (λ q past. ap cache_of (in_none figures (placed_by fit b H figures) q past))
 
 -- and back: what the struct of a placement holds

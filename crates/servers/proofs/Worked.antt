@@ -1,5 +1,6 @@
 -- A worked value, computed; the document's examples stand with the promises.
 -- Assumes nothing.
+use Rattle.std.specs.Prelude.{None}
 use mathlib.Core.Path.{◌≡◌, refl}
 use mathlib.Core.List.{[], ◌∷◌}
 use Rattle.wholes.specs.Measure.{measure_in, common_measure}
@@ -12,7 +13,6 @@ use Rattle.interrupting.specs.Interrupts.{bound_to, interrupt_demand, greatest}
 use Rattle.masking.specs.Masking.{soonest_of, soonest, latest, gain_at, gaining, gain_of, masked_demand}
 use Rattle.verdict.specs.Verdict.{failing, own_horizon, first_failing, verdict_at, verdict_of, passing}
 use Rattle.tasks.specs.declared.set.Header.{Header}
-use Rattle.tasks.specs.declared.set.Optional.TheVariants.{Absent}
 use Rattle.places.specs.Places.{chosen}
 use Rattle.loads.specs.Charge.{cache_of, charged_in, server_loads, server_loss}
 use Rattle.members.specs.Server.{uninterrupted, passes_with, fits}
@@ -26,7 +26,7 @@ use Rattle.joining.specs.Fits.{preferred, best_up_to, fit_by}
 use Rattle.taking.specs.Takes.{takes}
 
 abbrev two_processors : Header
-two_processors = record { processors = 2; slot = 10; relj = 0; relo = 0; ctswo = 0; resd = 0; cpmdo = 0; masked = Absent; rule = Absent }
+two_processors = record { processors = 2; slot = 10; relj = 0; relo = 0; ctswo = 0; resd = 0; cpmdo = 0; masked = None; rule = None }
 
 -- a task that server 1 cannot take goes to 2, and a later one that it can take goes back to 1
 pub goes_back :

@@ -14,17 +14,14 @@ pub fn figures(set: TaskSet) -> [u64; 4 * TaskSet::MOST_TASKS]
     ensures { result ≡ figure_numbers set }
 {
     let header = set.header;
-    let count = set.count;
     let mut numbers = [0u64; 4 * TaskSet::MOST_TASKS];
-    let mut i: usize = 0;
-    while i < count {
+    for i in 0..set.count {
         let task = set.tasks[i];
         let at = 4 * i;
         numbers[at] = task.cost as u64;
         numbers[at + 1] = task.deadline as u64;
         numbers[at + 2] = task.period as u64;
         numbers[at + 3] = task.cache_cost(header) as u64;
-        i += 1;
     }
     numbers
 }

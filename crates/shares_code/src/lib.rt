@@ -1,13 +1,7 @@
-// The larger of two numbers, and what a server's loads ask of the horizon.
+// What a server's loads ask of the horizon.
 #![tactic(auto)]
 
-ghost use Rattle.std.specs.Prelude.{◌≡◌, ◌+◌, ◌*◌, ◌^◌, ◌<◌, max};
-
-pub fn larger(a: u64, b: u64) -> u64
-    ensures { result ≡ max a b }
-{
-    if a < b { b } else { a }
-}
+ghost use Rattle.std.specs.Prelude.{◌≡◌, ◌+◌, ◌*◌, ◌^◌, ◌<◌};
 
 // What loads ask of the horizon: their work, and the cache cost at each of their jobs.
 pub fn total(work: u64, jobs: u64, cache: u64) -> u64

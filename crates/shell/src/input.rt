@@ -10,38 +10,27 @@ use std::io::Read;
 // How many bytes a buffer of the programs has.
 pub const BUFFER: usize = 4096;
 
-#[derive(Clone, Copy)]
-pub enum Input {
-    Bytes(usize),
-    Failed(io::Error),
-}
-
 // One read. No bytes: the input has ended.
-pub fn read_some<R: Read>(input: &mut R, buf: &mut [u8]) -> Input
+pub fn read_some<R: Read>(input: &mut R, buf: &mut [u8]) -> io::Result<usize>
     ensures within { Within result (length buf.old) }
     ensures bytes { Reads (R.remaining input.old) (R.remaining input.new) result buf.new }
 {
-    match input.read(buf) {
-        Ok(n) => Input::Bytes(n),
-        Err(error) => Input::Failed(error),
-    }
+    let n = input.read(buf)?;
+    Ok(n)
 }
 
 // Reads until the buffer is full, the input ends or a read fails.
-pub fn read_input<R: Read>(input: &mut R, buf: &mut [u8]) -> Input
+pub fn read_input<R: Read>(input: &mut R, buf: &mut [u8]) -> io::Result<usize>
     ensures within { Within result (length buf.old) }
     ensures bytes { ReadsAll (R.remaining input.old) (R.remaining input.new) result buf.new }
 {
     let mut done: usize = 0;
     while done < buf.len() {
-        let more = match read_some(input, &mut buf[done..]) {
-            Input::Bytes(more) => more,
-            Input::Failed(error) => return Input::Failed(error),
-        };
+        let more = read_some(input, &mut buf[done..])?;
         if more == 0 {
-            return Input::Bytes(done);
+            return Ok(done);
         }
         done += more;
     }
-    Input::Bytes(done)
+    Ok(done)
 }

@@ -33,13 +33,10 @@ pub fn size(
     ensures { result ≡ padded (up_to (reserve_in (board_of header interrupts.now) (figures_to figures.now n) (take n placement.now)) count) }
 {
     let mut reserve = [0u64; TaskSet::MOST_TASKS];
-    let mut at: usize = 0;
-    let mut q: u64 = 0;
-    while q < count {
-        q += 1;
+    for at in 0..count as usize {
         let cost = cache[at];
+        let q = at as u64 + 1;
         reserve[at] = reserve_of(header, cost, figures, placement, n, q, interrupts, horizon);
-        at += 1;
     }
     reserve
 }

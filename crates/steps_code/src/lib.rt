@@ -10,7 +10,7 @@ ghost use Rattle.interrupting.specs.Interrupted.{Interrupted};
 ghost use Rattle.search.specs.Search.{last_up_to};
 ghost use Rattle.steps.specs.Stepping.{steps};
 
-use last_of_greatest::{larger, last_due, last_of_greatest};
+use last_of_greatest::{last_due, last_of_greatest};
 
 // The last of the loads' own last deadlines.
 fn last_of_loads(loads: &[u64], n: usize, hi: u64) -> u64
@@ -18,11 +18,9 @@ fn last_of_loads(loads: &[u64], n: usize, hi: u64) -> u64
     ensures { result ≡ last_up_to (steps (demand (loads_of loads.now n))) hi }
 {
     let mut last: u64 = 0;
-    let mut i: usize = 0;
-    while i < n {
+    for i in 0..n {
         let at = 3 * i;
-        last = larger(last, last_due(loads[at + 1], loads[at + 2], hi));
-        i += 1;
+        last = last.max(last_due(loads[at + 1], loads[at + 2], hi));
     }
     last
 }
@@ -34,5 +32,5 @@ pub fn last_step(loads: &[u64], n: usize, hi: u64) -> u64
 {
     let own = last_of_loads(loads, n, hi);
     let theirs = last_of_greatest(loads, n, hi);
-    larger(own, theirs)
+    own.max(theirs)
 }

@@ -17,8 +17,7 @@ pub fn stand_after(reserves: &[u64], n: usize, slot: u64, idle: u64, server: u64
     requires stretched { Stretched slot (take n reserves.now) server }
     ensures { result ≡ stand_after slot (take n reserves.now) server }
 {
-    let mut i = server as usize;
-    while i < n {
+    for i in server as usize..n {
         let reserve = reserves[i];
         if reserve < slot {
             let next = i as u64 + 1;
@@ -27,7 +26,6 @@ pub fn stand_after(reserves: &[u64], n: usize, slot: u64, idle: u64, server: u64
                 left: reserve,
             };
         }
-        i += 1;
     }
     let has_idle = idle != 0;
     if has_idle {

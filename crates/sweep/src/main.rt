@@ -35,7 +35,7 @@ fn main(rt: HostRuntime) {
         return;
     }
     let mut out = [0u8; BYTES];
-    let Written::Bytes(k) = fit_tally(swept.tally, &mut out) else {
+    let Ok(k) = fit_tally(swept.tally, &mut out) else {
         let _ = eprintln!(rt; "sweep: no room for the report");
         return;
     };

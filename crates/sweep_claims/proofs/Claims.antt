@@ -1,5 +1,7 @@
 -- The claims of specs/Claims.
 -- Assumes nothing.
+use Rattle.refusals.specs.Refused.{Outcome}
+use Rattle.std.specs.Prelude.{Option}
 use Prim.Native.Nat.{ℕ, ◌+◌, ◌≤◌}
 use mathlib.Core.Logic.{inl, inr}
 use mathlib.Core.Path.{◌≡◌, refl, sym, ap, subst, ◌∙◌}
@@ -13,7 +15,6 @@ use Rattle.frames.specs.Table.{kind_of, widths_of}
 use Rattle.framewrite.specs.Line.{fields, line_of}
 use Rattle.framelines.specs.Each.{each_line}
 use Rattle.names.specs.Names.{names}
-use Rattle.tally.specs.declared.Answer.{Answer}
 use Rattle.tally.specs.declared.Tally.{Tally}
 use Rattle.tally.specs.Tally.{numbers, most_names, zero_tally, counted_all, Adds}
 use Rattle.tally.proofs.TallyLaws.{zero_adds, all_adds, all_names, accepted_most, refused_most}
@@ -34,7 +35,7 @@ each_counted_once list t c = record {
 }
 
 -- as many names are counted as have an answer
-counted_many : (read : List (List ℕ)) (answers : List Answer) (t : Tally) → EachAnswered read answers → t ≡ counted_all zero_tally answers → t.names ≡ length read
+counted_many : (read : List (List ℕ)) (answers : List (Option Outcome)) (t : Tally) → EachAnswered read answers → t ≡ counted_all zero_tally answers → t.names ≡ length read
 counted_many read answers t each is =
     omega (arith, ap (λ (u : Tally). u.names) is, all_names zero_tally answers, each_length read answers each)
 

@@ -1,5 +1,6 @@
 -- Laws of counts by answers: how many are accepted, and how many meet each number.
 -- Assumes nothing.
+use Rattle.std.specs.Prelude.{Err, None, Ok, Option, Some}
 use Prim.Native.Nat.{ℕ, zero, suc, ◌+◌, ◌<◌}
 use mathlib.Core.Path.{◌≡◌, refl, sym, ◌∙◌, ap}
 use mathlib.Core.Bool.{Bool, true, false, cond}
@@ -9,11 +10,8 @@ use lib.Dec.{eqb}
 use lib.ListN.{length, get_or, set, replicate}
 use lib.Seq.{get_or-set_same, get_or-set_other}
 use borrow.Author.Tests.{eqb-true, eqb-false}
-use Rattle.refusals.specs.declared.Outcome.TheVariants.{Done, Refused}
-use Rattle.refusals.specs.Refused.{number_of}
+use Rattle.refusals.specs.Refused.{number_of, Outcome}
 use Rattle.refusals.proofs.NumberLaws.{number_row}
-use Rattle.tally.specs.declared.Answer.{Answer}
-use Rattle.tally.specs.declared.Answer.TheVariants.{Unopened, Filed}
 use Rattle.tally.specs.declared.Tally.{Tally}
 use Rattle.tally.specs.Tally.{numbers, counted_of, counted_all, sum, Adds}
 use Rattle.tally.proofs.TallyLaws.{counted_adds}
@@ -29,23 +27,23 @@ one_more xs at n h = by_test (eqb n at) refl
     by_test false e = get_or-set_other xs at n (get_or xs at 0 + 1) 0 (eqb-false n at e) ∙ sym (omega arith)
 
 -- a name more, by its answer
-counted_accepted : (t : Tally) (a : Answer) → (counted_of t a).accepted ≡ t.accepted + cond (accepts a) 1 0
-counted_accepted t Unopened = omega arith
-counted_accepted t (Filed Done) = refl
-counted_accepted t (Filed (Refused r)) = omega arith
+counted_accepted : (t : Tally) (a : Option Outcome) → (counted_of t a).accepted ≡ t.accepted + cond (accepts a) 1 0
+counted_accepted t None = omega arith
+counted_accepted t (Some (Ok _)) = refl
+counted_accepted t (Some (Err r)) = omega arith
 
-counted_refused : (t : Tally) (a : Answer) → Adds t → (n : ℕ) → get_or (counted_of t a).refused n 0 ≡ get_or t.refused n 0 + cond (meets n a) 1 0
-counted_refused t Unopened so n = one_more t.refused 0 n (omega (arith, so.room))
-counted_refused t (Filed Done) so n = omega arith
-counted_refused t (Filed (Refused r)) so n = one_more t.refused (number_of r) n (omega (arith, so.room, number_row r))
+counted_refused : (t : Tally) (a : Option Outcome) → Adds t → (n : ℕ) → get_or (counted_of t a).refused n 0 ≡ get_or t.refused n 0 + cond (meets n a) 1 0
+counted_refused t None so n = one_more t.refused 0 n (omega (arith, so.room))
+counted_refused t (Some (Ok _)) so n = omega arith
+counted_refused t (Some (Err r)) so n = one_more t.refused (number_of r) n (omega (arith, so.room, number_row r))
 
 -- and all of them
-pub all_accepted : (t : Tally) (answers : List Answer) → (counted_all t answers).accepted ≡ t.accepted + how_many accepts answers
+pub all_accepted : (t : Tally) (answers : List (Option Outcome)) → (counted_all t answers).accepted ≡ t.accepted + how_many accepts answers
 unfolding counted_all how_many
 all_accepted t [] = omega arith
 all_accepted t (a ∷ answers) = omega (arith, all_accepted (counted_of t a) answers, counted_accepted t a)
 
-pub all_refused : (t : Tally) (answers : List Answer) → Adds t → (n : ℕ) → get_or (counted_all t answers).refused n 0 ≡ get_or t.refused n 0 + how_many (meets n) answers
+pub all_refused : (t : Tally) (answers : List (Option Outcome)) → Adds t → (n : ℕ) → get_or (counted_all t answers).refused n 0 ≡ get_or t.refused n 0 + how_many (meets n) answers
 unfolding counted_all how_many
 all_refused t [] so n = omega arith
 all_refused t (a ∷ answers) so n = omega (arith, all_refused (counted_of t a) answers (counted_adds t a so) n, counted_refused t a so n)

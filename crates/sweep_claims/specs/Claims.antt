@@ -1,14 +1,11 @@
 -- What is promised of a sweep, each claim as a type. The proofs stand under the same names in proofs/Claims.antt.
 -- Document 02, Req 03 (RULES 9).
-use Rattle.std.specs.Prelude.{ℕ, ◌+◌, ◌^◌, ◌≤◌, ◌<◌, List, [], ◌∷◌, map, ◌⊎◌, ◌≡◌, Bool, true, false, cond, eqb, length, get_or, take}
+use Rattle.std.specs.Prelude.{ℕ, ◌+◌, ◌^◌, ◌≤◌, ◌<◌, List, [], ◌∷◌, map, ◌⊎◌, ◌≡◌, Bool, true, false, cond, eqb, length, get_or, take, Err, None, Ok, Option, Some}
 use Rattle.quoted.specs.Quoted.{bytes_of}
 use Rattle.refusals.specs.declared.Refusal.{Refusal}
-use Rattle.refusals.specs.declared.Outcome.TheVariants.{Done, Refused}
-use Rattle.refusals.specs.Refused.{number_of}
+use Rattle.refusals.specs.Refused.{number_of, Outcome}
 use Rattle.taskplan.specs.File.{filed_of}
 use Rattle.names.specs.Names.{names}
-use Rattle.tally.specs.declared.Answer.{Answer}
-use Rattle.tally.specs.declared.Answer.TheVariants.{Unopened, Filed}
 use Rattle.tally.specs.declared.Tally.{Tally}
 use Rattle.tally.specs.Tally.{most_names, zero_tally, sum}
 use Rattle.tallytext.specs.Text.{numbers_told, tally_text}
@@ -26,25 +23,25 @@ CountOf list t = Counts (names list) zero_tally t
 -- ---- each name once, under its answer
 
 -- how many of some answers pass a test
-unfoldable pub how_many : (Answer → Bool) → List Answer → ℕ
+unfoldable pub how_many : (Option Outcome → Bool) → List (Option Outcome) → ℕ
 how_many test [] = 0
 how_many test (a ∷ answers) = cond (test a) 1 0 + how_many test answers
 
 -- an answer is an accepted file's
-abbrev pub accepts : Answer → Bool
-accepts Unopened = false
-accepts (Filed Done) = true
-accepts (Filed (Refused r)) = false
+abbrev pub accepts : Option Outcome → Bool
+accepts None = false
+accepts (Some (Ok _)) = true
+accepts (Some (Err r)) = false
 
 -- an answer meets a number: 0 where no file was opened and read, else the number of its refusal
-abbrev pub meets : ℕ → Answer → Bool
-meets n Unopened = eqb n 0
-meets n (Filed Done) = false
-meets n (Filed (Refused r)) = eqb n (number_of r)
+abbrev pub meets : ℕ → Option Outcome → Bool
+meets n None = eqb n 0
+meets n (Some (Ok _)) = false
+meets n (Some (Err r)) = eqb n (number_of r)
 
 -- Each name that is read has one answer, and is counted by it: among the accepted, or under the number that it meets.
 pub record CountedOnce (list : List ℕ) (t : Tally) : Type 0 where
-  pub answers : List Answer
+  pub answers : List (Option Outcome)
   pub each : EachAnswered (names_read list) answers
   pub accepted : t.accepted ≡ how_many accepts answers
   pub refused : (n : ℕ) → get_or t.refused n 0 ≡ how_many (meets n) answers
@@ -70,7 +67,7 @@ AllRead = (list : List ℕ) → length (names list) ≤ 65535 → names_read lis
 
 -- A file is refused with a number from 1 to 10, or 13: 11 and 12 are for callers.
 abbrev pub FileNumbers : Type 0
-FileNumbers = (text : List ℕ) (r : Refusal) → (filed_of text).outcome ≡ Refused r → (1 ≤ number_of r) × ((number_of r ≤ 10) ⊎ (number_of r ≡ 13))
+FileNumbers = (text : List ℕ) (r : Refusal) → (filed_of text).outcome ≡ Err r → (1 ≤ number_of r) × ((number_of r ≤ 10) ⊎ (number_of r ≡ 13))
 
 -- A name is not opened where it is empty, over 255 bytes, or has a NUL; and only then.
 pub record NotOpened : Type 0 where

@@ -1,5 +1,7 @@
 -- Laws of a name's answer, by what is held of it.
 -- Assumes nothing.
+use Rattle.refusals.specs.Refused.{Outcome}
+use Rattle.std.specs.Prelude.{None, Option}
 use Prim.Native.Nat.{ℕ, ◌+◌, ◌≤◌}
 use mathlib.Core.Path.{◌≡◌, refl, ap}
 use mathlib.Core.Logic.{inl}
@@ -13,12 +15,10 @@ use Rattle.names.specs.Names.{longest_name}
 use Rattle.names.specs.Parts.{Holds, index_of}
 use Rattle.names.proofs.PartLaws.{index_within}
 use Rattle.names.proofs.HeldLaws.{held_all}
-use Rattle.tally.specs.declared.Answer.{Answer}
-use Rattle.tally.specs.declared.Answer.TheVariants.{Unopened}
 use Rattle.sweepfile.specs.Answered.{opens, OfFile, AnsweredHeld}
 
 -- one that is not opened
-pub not_opened : (room : List ℕ) (held : ℕ) → AnsweredHeld room held Unopened
+pub not_opened : (room : List ℕ) (held : ℕ) → AnsweredHeld room held None
 not_opened room held name so = record { unopened = λ e. refl; file = inl refl }
 
 -- all of it is held, it is not empty, and no NUL was found in it: it may be opened
@@ -31,5 +31,5 @@ module _ (room : List ℕ) (held : ℕ) {found : ℕ} (is : found ≡ 0 + index_
       and_both (lt-ltb 0 (length name) (omega arith))
       (and_both (le-leb (length name) longest_name (omega arith)) (eq-eqb (index_of 0 name) (length name) (omega (arith, is, index_within 0 name))))
 
-  pub opened : {a : Answer} → OfFile a → AnsweredHeld room held a
+  pub opened : {a : Option Outcome} → OfFile a → AnsweredHeld room held a
   opened of name so = record { unopened = λ e. clash (cc (may_open so)); file = of }

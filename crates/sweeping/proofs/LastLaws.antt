@@ -1,5 +1,7 @@
 -- Laws of the name that the list's end ends.
 -- Assumes nothing.
+use Rattle.refusals.specs.Refused.{Outcome}
+use Rattle.std.specs.Prelude.{Option}
 use Prim.Native.Nat.{ℕ, ◌-◌, ◌≤◌, ◌<◌}
 use mathlib.Core.Path.{◌≡◌, refl, ◌∙◌, ap}
 use mathlib.Core.List.{List, [], ◌∷◌}
@@ -7,7 +9,6 @@ use native.Mathlib.Omega.{arith}
 use lib.ListN.{length, take}
 use lib.Seq.{take_all}
 use Rattle.names.specs.Parts.{last_name}
-use Rattle.tally.specs.declared.Answer.{Answer}
 use Rattle.tally.specs.declared.Tally.{Tally}
 use Rattle.tally.specs.Tally.{most_names, counted_of, counted_all}
 use Rattle.sweepfile.specs.Answered.{AnsweredHeld}
@@ -51,7 +52,7 @@ module _ {name : List ℕ} {sweep : Sweep} where
         counts_none (last_name begun) sweep.tally (ap (take (most_names - sweep.tally.names)) (last_empty begun empty) ∙ take_all (most_names - sweep.tally.names) [] (omega arith))
 
     -- what is begun is a name
-    pub last_counted : 1 ≤ sweep.held → {a : Answer} → AnsweredHeld name sweep.held a → {tally : Tally} → tally ≡ counted_of sweep.tally a → Ends name sweep tally
+    pub last_counted : 1 ≤ sweep.held → {a : Option Outcome} → AnsweredHeld name sweep.held a → {tally : Tally} → tally ≡ counted_of sweep.tally a → Ends name sweep tally
     unfolding counted_all
     last_counted some {a} answered one begun h =
         let long : 1 ≤ length begun = omega (arith, (h more).count) in

@@ -1,5 +1,7 @@
 -- Laws of the loop over the names of a part: what holds before each name, and what is said where it ends.
 -- Assumes nothing.
+use Rattle.refusals.specs.Refused.{Outcome}
+use Rattle.std.specs.Prelude.{Option}
 use Prim.Native.Nat.{ℕ, ◌+◌, ◌≤◌, ◌<◌}
 use mathlib.Core.Path.{◌≡◌, sym, ◌∙◌, ap}
 use mathlib.Core.List.{List}
@@ -9,7 +11,6 @@ use Rattle.names.specs.declared.Cut.{Cut}
 use Rattle.names.specs.Names.{longest_name}
 use Rattle.names.specs.Parts.{most_held, up_to_lF, held_with, name_with, cut_of}
 use Rattle.names.proofs.HeldLaws.{with_room}
-use Rattle.tally.specs.declared.Answer.{Answer}
 use Rattle.tally.specs.declared.Tally.{Tally}
 use Rattle.tally.specs.Tally.{most_names, counted_of}
 use Rattle.tally.proofs.TallyLaws.{counted_adds, counted_names}
@@ -62,7 +63,7 @@ module _ {part before : List ℕ} {had : ℕ} {from : Tally} {name : List ℕ} {
         }
 
     -- the name ends, and is counted under its answer
-    module _ (some : cut.end < length part) {a : Answer} (answered : AnsweredHeld after cut.held a) {counted : Tally} (one : counted ≡ counted_of tally a) where
+    module _ (some : cut.end < length part) {a : Option Outcome} (answered : AnsweredHeld after cut.held a) {counted : Tally} (one : counted ≡ counted_of tally a) where
       pub part_next : InPart part before had from after (cut.end + 1) 0 counted
       part_next = record {
         within = omega arith;

@@ -1,5 +1,7 @@
 -- Laws of a sweep: from name to name within a part, where the part ends, and where no more names are read.
 -- Assumes nothing.
+use Rattle.refusals.specs.Refused.{Outcome}
+use Rattle.std.specs.Prelude.{Option}
 use Prim.Native.Nat.{ℕ, zero, suc, ◌+◌, ◌-◌, ◌≤◌, ◌<◌}
 use mathlib.Core.Path.{◌≡◌, refl, sym, ◌∙◌, ap, ap₂}
 use mathlib.Core.List.{List, [], ◌∷◌, ◌++◌, append_assoc, append-nil}
@@ -11,7 +13,6 @@ use Rattle.frames.specs.Table.{LF}
 use Rattle.names.specs.Parts.{Holds, ended, begun_by, index_of, up_to_lF, held_with, name_with}
 use Rattle.names.proofs.PartLaws.{up_to_length, cut_at, no_cut}
 use Rattle.names.proofs.HeldLaws.{holds_none, holds_with}
-use Rattle.tally.specs.declared.Answer.{Answer}
 use Rattle.tally.specs.declared.Tally.{Tally}
 use Rattle.tally.specs.Tally.{most_names, counted_of, counted_all}
 use Rattle.tally.proofs.TallyLaws.{all_names, all_append}
@@ -20,14 +21,14 @@ use Rattle.sweeping.specs.declared.Sweep.{Sweep}
 use Rattle.sweeping.specs.Sweeping.{Counts, Holding}
 
 -- as many names as answers
-pub each_length : (names : List (List ℕ)) (answers : List Answer) → EachAnswered names answers → length names ≡ length answers
+pub each_length : (names : List (List ℕ)) (answers : List (Option Outcome)) → EachAnswered names answers → length names ≡ length answers
 each_length [] [] e = refl
 each_length [] (a ∷ answers) e = absurd e
 each_length (n ∷ names) [] e = absurd e
 each_length (n ∷ names) (a ∷ answers) e = ap suc (each_length names answers e.1)
 
 -- names behind names, and their answers
-pub each_append : (names : List (List ℕ)) (answers : List Answer) (later : List (List ℕ)) (others : List Answer)
+pub each_append : (names : List (List ℕ)) (answers : List (Option Outcome)) (later : List (List ℕ)) (others : List (Option Outcome))
     → EachAnswered names answers → EachAnswered later others → EachAnswered (names ++ later) (answers ++ others)
 each_append [] [] later others e f = f
 each_append [] (a ∷ answers) later others e f = absurd e
@@ -37,7 +38,7 @@ each_append (n ∷ names) (a ∷ answers) later others e f = (e.0, each_append n
 -- so far: names of the part are counted, and the rest of it is still to come, with what is begun now
 pub record Gone (part : List ℕ) (from : Tally) (begun name : List ℕ) (at held : ℕ) (tally : Tally) : Type 0 where
   pub done : List (List ℕ)
-  pub answers : List Answer
+  pub answers : List (Option Outcome)
   pub by : List ℕ
   pub names : ended begun part ≡ done ++ ended by (drop at part)
   pub rest : begun_by begun part ≡ begun_by by (drop at part)
@@ -83,7 +84,7 @@ module _ {part : List ℕ} {from : Tally} {begun name : List ℕ} {at held : ℕ
       gone_holds = rw (g.rest ∙ (no_cut g.by (drop at part) index_all).rest) with_more
 
     -- the next one ends, and is counted under its answer
-    module _ (some : at + length (up_to_lF (drop at part)) < length part) {a : Answer}
+    module _ (some : at + length (up_to_lF (drop at part)) < length part) {a : Option Outcome}
         (answered : AnsweredHeld (name_with name held (up_to_lF (drop at part))) (held_with held (up_to_lF (drop at part))) a) where
       index_some : index_of LF (drop at part) < length (drop at part)
       index_some = omega (arith, some, up_to_length (drop at part), length-drop at part)

@@ -1,9 +1,9 @@
 -- What a sweep has counted: each name that is read, once, under its answer, and what it holds of the name at hand.
 -- Document 02, Req 03 (RULES 9).
-use Rattle.std.specs.Prelude.{ℕ, ◌-◌, ◌≤◌, ◌<◌, List, ◌≡◌, length, take}
+use Rattle.refusals.specs.Refused.{Outcome}
+use Rattle.std.specs.Prelude.{ℕ, ◌-◌, ◌≤◌, ◌<◌, List, ◌≡◌, length, take, Option}
 use Rattle.names.specs.Names.{longest_name}
 use Rattle.names.specs.Parts.{most_held, Holds, ended, begun_by, last_name}
-use Rattle.tally.specs.declared.Answer.{Answer}
 use Rattle.tally.specs.declared.Tally.{Tally}
 use Rattle.tally.specs.Tally.{most_names, counted_all, Adds}
 use Rattle.sweepfile.specs.Answered.{EachAnswered}
@@ -11,7 +11,7 @@ use Rattle.sweeping.specs.declared.Sweep.{Sweep}
 
 -- names in order are counted, each once and under its answer, as long as names are read
 pub record Counts (names : List (List ℕ)) (before after : Tally) : Type 0 where
-  pub answers : List Answer
+  pub answers : List (Option Outcome)
   pub each : EachAnswered (take (most_names - before.names) names) answers
   pub tally : after ≡ counted_all before answers
 

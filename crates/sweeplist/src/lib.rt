@@ -5,7 +5,7 @@ ghost use Rattle.sweeplist.specs.Swept.{IsCounted, IsCountOf, NoCount};
 
 use names_code::LONGEST_NAME;
 use shell::front::front;
-use shell::input::{BUFFER, Input, read_some};
+use shell::input::{BUFFER, read_some};
 use std::fs::Files;
 use std::io;
 use std::io::Read;
@@ -46,8 +46,8 @@ pub fn sweep_list<T: Files + Eprint, R: Read>(rt: &T, input: &mut R, progress: b
     let mut failure = None;
     'parts: for _ in 0..u64::MAX {
         let n = match read_some(input, &mut part) {
-            Input::Bytes(n) => n,
-            Input::Failed(error) => {
+            Ok(n) => n,
+            Err(error) => {
                 failure = Some(error);
                 break;
             }

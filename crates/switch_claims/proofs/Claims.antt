@@ -1,5 +1,6 @@
 -- Each claim of specs/Claims.antt, proved.
 -- Assumes nothing.
+use Rattle.std.specs.Prelude.{Err, Ok}
 use Prim.Native.Nat.{ℕ, ◌≤◌, ◌<◌, ◌^◌}
 use mathlib.Core.Path.{◌≡◌, refl, sym, ap, ◌∙◌}
 use mathlib.Core.List.{List, []}
@@ -8,9 +9,7 @@ use lib.ListN.{length}
 use Rattle.laws.proofs.Tests.{clash}
 use Rattle.refusals.specs.declared.Refusal.{Refusal}
 use Rattle.refusals.specs.declared.Refusal.TheVariants.{Room}
-use Rattle.refusals.specs.declared.Outcome.{Outcome}
-use Rattle.refusals.specs.declared.Outcome.TheVariants.{Done, Refused as RefusedBy}
-use Rattle.refusals.specs.declared.Written.TheVariants.{Refused}
+use Rattle.refusals.specs.Refused.{Outcome}
 use Rattle.frames.specs.Table.{widths_of, sum}
 use Rattle.turn.specs.Switches.{switch_text}
 use Rattle.turn.specs.Count.{longest_switches}
@@ -78,10 +77,10 @@ file_boot_list text p x ok some l =
     sym (ap (λ (a : WhoAnswer). a.server) (filed_who text ok p (record { 0 = x })))
 
 -- a list that fits meets no ROOM, and no refusal of a file is one
-fits_told : (buffer text : List ℕ) (o : Outcome) → (o ≡ Done → length text ≤ length buffer) → (o ≡ RefusedBy Room → ⊥) →
-    unless Refused o (fitted buffer text) ≡ Refused Room → ⊥
-fits_told buffer text Done fits never e = clash (cc (fitted_bytes buffer text (fits refl), e))
-fits_told buffer text (RefusedBy r) fits never e = never (cc)
+fits_told : (buffer text : List ℕ) (o : Outcome) → (o ≡ Ok tt → length text ≤ length buffer) → (o ≡ Err Room → ⊥) →
+    unless Err o (fitted buffer text) ≡ Err Room → ⊥
+fits_told buffer text (Ok _) fits never e = clash (cc (fitted_bytes buffer text (fits refl), e))
+fits_told buffer text (Err r) fits never e = never (cc)
 
 -- neither reading nor planning gives ROOM: the refusal's number is another than 12
 row_other : (row : PlannerRow) (k : ℕ) (r : Refusal) → r ≡ refusal_of row k → number_of r ≡ 12 → ⊥
@@ -94,7 +93,7 @@ row_other HORIZON k r e t = omega (arith, ap number_of e)
 row_other ALONE k r e t = omega (arith, ap number_of e)
 row_other FULL k r e t = omega (arith, ap number_of e)
 
-pub filed_other : (text : List ℕ) (r : Refusal) → (filed_of text).outcome ≡ RefusedBy r → number_of r ≡ 12 → ⊥
+pub filed_other : (text : List ℕ) (r : Refusal) → (filed_of text).outcome ≡ Err r → number_of r ≡ 12 → ⊥
 filed_other text =
     refused_by (λ (q : Refusal). number_of q ≡ 12 → ⊥) text (λ q e t. omega (arith, (read_refuses text q e).0))
     (λ set q e. let o = plan_only set q e in row_other o.0 o.1 q o.2)
@@ -107,10 +106,10 @@ file_list_fits text buffer long =
     (λ e. filed_other text Room e refl)
 
 -- a list that is short, or the line of a refusal
-switched_few : (o : Outcome) (list : List ℕ) → (o ≡ Done → length list ≤ longest_switches) → length (unless refusal_text o list) ≤ longest_switches
+switched_few : (o : Outcome) (list : List ℕ) → (o ≡ Ok tt → length list ≤ longest_switches) → length (unless refusal_text o list) ≤ longest_switches
 unfolding sum widths_of
-switched_few Done list few = few refl
-switched_few (RefusedBy r) list few = omega (arith, refusal_bytes r)
+switched_few (Ok _) list few = few refl
+switched_few (Err r) list few = omega (arith, refusal_bytes r)
 
 pub switched_short : SwitchedShort
 unfolding switched
@@ -122,5 +121,5 @@ unfolding switched listed
 list_prefix =
     record {
       answer = λ n text long. ap (λ (f : FileAnswer). unless refusal_text f.outcome (plan_switches f.plan)) (same_filed n text long);
-      list = λ n text buffer long. ap (λ (f : FileAnswer). unless Refused f.outcome (fitted buffer (plan_switches f.plan))) (same_filed n text long);
+      list = λ n text buffer long. ap (λ (f : FileAnswer). unless Err f.outcome (fitted buffer (plan_switches f.plan))) (same_filed n text long);
     }

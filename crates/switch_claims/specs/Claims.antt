@@ -1,8 +1,7 @@
 -- What is promised of the switch list of a plan and of a task file, in the words of document 02, Req 01 (RULES 4.3 to 4.5).
 -- The proofs stand in proofs/Claims.antt, one for each claim. What the list of a ring holds is claimed in turn_claims.
-use Rattle.std.specs.Prelude.{ℕ, ◌*◌, ◌%◌, ◌≤◌, ◌≡◌, List, [], ◌∷◌, true, false, length, take}
+use Rattle.std.specs.Prelude.{ℕ, ◌*◌, ◌%◌, ◌≤◌, ◌≡◌, List, [], ◌∷◌, true, false, length, take, Err, Ok}
 use Rattle.refusals.specs.declared.Refusal.TheVariants.{Room}
-use Rattle.refusals.specs.declared.Written.TheVariants.{Bytes, Refused}
 use Rattle.frames.specs.declared.table.Frame.{Frame}
 use Rattle.framesizes.specs.Overflow.{line_overflows}
 use Rattle.tasks.specs.declared.set.TaskSet.{TaskSet}
@@ -33,7 +32,7 @@ SwitchesWritten =
 abbrev pub NoRingNoLines : Type 0
 NoRingNoLines =
     (set : TaskSet) (plan : Plan) (buffer : List ℕ) → length set.tasks ≡ most_tasks → makes set plan ≡ true → plan.ring ≡ 0 →
-    (plan_switches plan ≡ []) × (write_switches set plan buffer ≡ Bytes 0)
+    (plan_switches plan ≡ []) × (write_switches set plan buffer ≡ Ok 0)
 
 -- the switches of a plan
 abbrev pub switches_in : Plan → List Switch
@@ -81,7 +80,7 @@ FileBootList =
 
 -- A buffer of the most bytes never meets ROOM.
 abbrev pub FileListFits : Type 0
-FileListFits = (text buffer : List ℕ) → longest_switches ≤ length buffer → listed text buffer ≡ Refused Room → ⊥
+FileListFits = (text buffer : List ℕ) → longest_switches ≤ length buffer → listed text buffer ≡ Err Room → ⊥
 
 -- What is printed of a file, its list or the 1F line of its refusal, has no more bytes than that.
 abbrev pub SwitchedShort : Type 0

@@ -5,20 +5,20 @@
 use refusals::Written;
 use shell::failure::tell_failure;
 use shell::front::front;
-use shell::input::{BUFFER, Input, read_input};
+use shell::input::{BUFFER, read_input};
 use switchlist_code::LONGEST;
 
 fn main(rt: HostRuntime) {
     let mut text = [0u8; BUFFER];
     let n = match read_input(&mut rt.stdin(), &mut text) {
-        Input::Bytes(n) => n,
-        Input::Failed(error) => {
+        Ok(n) => n,
+        Err(error) => {
             tell_failure(&rt, "switches: standard input", &error);
             return;
         }
     };
     let mut out = [0u8; LONGEST];
-    let Written::Bytes(k) = switchfile_code::answer(front(&text, n), &mut out) else {
+    let Ok(k) = switchfile_code::answer(front(&text, n), &mut out) else {
         let _ = eprintln!(rt; "switches: no room for the list");
         return;
     };

@@ -1,7 +1,7 @@
 -- The claims of specs/Claims.
 -- Assumes nothing.
 use mathlib.Core.Path.{ap}
-use Rattle.refusals.specs.declared.Outcome.{Outcome}
+use Rattle.refusals.specs.Refused.{Outcome}
 use Rattle.planlines.specs.Line.{refusal_text}
 use Rattle.taskplan.specs.File.{unless, filed_of}
 use Rattle.switchlist.specs.Write.{plan_switches}

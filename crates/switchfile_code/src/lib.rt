@@ -11,7 +11,7 @@ ghost use Rattle.switchfile.specs.OfFile.{switched, listed};
 use laidtext::{Text, fit_laid};
 use planfit_code::fit_refusal;
 use planner_code::settle;
-use refusals::{Outcome, Written};
+use refusals::Written;
 use taskplan_code::rows_read;
 use taskread_code::read;
 
@@ -25,8 +25,8 @@ pub fn answer(text: &[u8], out: &mut [u8]) -> Written
     let made = settle(set, rows);
     let outcome = made.outcome;
     match outcome {
-        Outcome::Done => fit_laid(Text::Switches, set, made.servers, out),
-        Outcome::Refused(refusal) => fit_refusal(refusal, out),
+        Ok(()) => fit_laid(Text::Switches, set, made.servers, out),
+        Err(refusal) => fit_refusal(refusal, out),
     }
 }
 
@@ -40,7 +40,7 @@ pub fn list(text: &[u8], out: &mut [u8]) -> Written
     let made = settle(set, rows);
     let outcome = made.outcome;
     match outcome {
-        Outcome::Done => fit_laid(Text::Switches, set, made.servers, out),
-        Outcome::Refused(refusal) => Written::Refused(refusal),
+        Ok(()) => fit_laid(Text::Switches, set, made.servers, out),
+        Err(refusal) => Err(refusal),
     }
 }

@@ -1,7 +1,7 @@
 -- The switch list of a plan, and what writing it answers: ASK where the planner does not make the plan of the set, then ROOM, else the
 -- length of the exact text. Document 02, Req 01 (RULES 4.3 to 4.5), and document 01, rows 11 and 12 of the refusals (RULES 6.5).
 use Rattle.std.specs.Prelude.{ℕ, List}
-use Rattle.refusals.specs.declared.Written.{Written}
+use Rattle.refusals.specs.Refused.{Written}
 use Rattle.tasks.specs.declared.set.TaskSet.{TaskSet}
 use Rattle.turn.specs.Switches.{switch_text}
 use Rattle.plan.specs.declared.plan.Plan.{Plan}

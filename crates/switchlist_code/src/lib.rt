@@ -34,7 +34,7 @@ pub fn write_switches(set: TaskSet, plan: Plan, out: &mut [u8]) -> Written
     ensures { (result ≡ write_switches set plan out.old) × (out.new ≡ leaves (write_switches set plan out.old) out.old (plan_switches plan)) }
 {
     if !makes_plan(set, plan) {
-        return Written::Refused(Refusal::Ask);
+        return Err(Refusal::Ask);
     }
     fit_switches(set, plan, out)
 }

@@ -1,5 +1,6 @@
 -- Laws of the count: it stays right name by name, it counts every name, and no entry is above the number of names.
 -- Assumes nothing.
+use Rattle.std.specs.Prelude.{Err, None, Ok, Option, Some}
 use Prim.Native.Nat.{ℕ, zero, suc, ◌+◌, ◌≤◌, ◌<◌}
 use mathlib.Core.Path.{◌≡◌, refl, sym, ◌∙◌, ap}
 use mathlib.Core.List.{List, [], ◌∷◌, ◌++◌}
@@ -8,10 +9,7 @@ use lib.ListN.{length, get_or, set, length-set}
 use Rattle.refusals.specs.Refused.{number_of}
 use Rattle.refusals.specs.declared.Refusal.{Refusal}
 use Rattle.refusals.proofs.NumberLaws.{number_row}
-use Rattle.refusals.specs.declared.Outcome.{Outcome}
-use Rattle.refusals.specs.declared.Outcome.TheVariants.{Done, Refused}
-use Rattle.tally.specs.declared.Answer.{Answer}
-use Rattle.tally.specs.declared.Answer.TheVariants.{Unopened, Filed}
+use Rattle.refusals.specs.Refused.{Outcome}
 use Rattle.tally.specs.declared.Tally.{Tally}
 use Rattle.tally.specs.Tally.{numbers, zero_tally, among_accepted, under, counted_of, counted_all, sum, Adds}
 
@@ -43,41 +41,41 @@ under_adds t number h so =
       adds = omega (arith, so.adds, sum_more t.refused number (omega (arith, so.room)));
     }
 
-pub counted_adds : (t : Tally) (a : Answer) → Adds t → Adds (counted_of t a)
-counted_adds t Unopened so = under_adds t 0 (omega arith) so
-counted_adds t (Filed Done) so = accepted_adds t so
-counted_adds t (Filed (Refused r)) so = under_adds t (number_of r) (omega (arith, number_row r)) so
+pub counted_adds : (t : Tally) (a : Option Outcome) → Adds t → Adds (counted_of t a)
+counted_adds t None so = under_adds t 0 (omega arith) so
+counted_adds t (Some (Ok _)) so = accepted_adds t so
+counted_adds t (Some (Err r)) so = under_adds t (number_of r) (omega (arith, number_row r)) so
 
-pub all_adds : (t : Tally) (answers : List Answer) → Adds t → Adds (counted_all t answers)
+pub all_adds : (t : Tally) (answers : List (Option Outcome)) → Adds t → Adds (counted_all t answers)
 unfolding counted_all
 all_adds t [] so = so
 all_adds t (a ∷ rest) so = all_adds (counted_of t a) rest (counted_adds t a so)
 
 -- what one name more comes to, by its answer
-module _ (t : Tally) {a : Answer} where
-  pub counted_unopened : a ≡ Unopened → under t 0 ≡ counted_of t a
+module _ (t : Tally) {a : Option Outcome} where
+  pub counted_unopened : a ≡ None → under t 0 ≡ counted_of t a
   counted_unopened e = ap (counted_of t) (sym e)
 
-  module _ {outcome : Outcome} (e : a ≡ Filed outcome) where
-    pub counted_accepted : outcome ≡ Done → among_accepted t ≡ counted_of t a
-    counted_accepted f = ap (counted_of t) (sym (e ∙ ap Filed f))
+  module _ {outcome : Outcome} (e : a ≡ Some outcome) where
+    pub counted_accepted : outcome ≡ Ok tt → among_accepted t ≡ counted_of t a
+    counted_accepted f = ap (counted_of t) (sym (e ∙ ap Some f))
 
-    pub counted_refused : {r : Refusal} → outcome ≡ Refused r → under t (number_of r) ≡ counted_of t a
-    counted_refused f = ap (counted_of t) (sym (e ∙ ap Filed f))
+    pub counted_refused : {r : Refusal} → outcome ≡ Err r → under t (number_of r) ≡ counted_of t a
+    counted_refused f = ap (counted_of t) (sym (e ∙ ap Some f))
 
 -- each answer is one name more
-pub counted_names : (t : Tally) (a : Answer) → (counted_of t a).names ≡ t.names + 1
-counted_names t Unopened = refl
-counted_names t (Filed Done) = refl
-counted_names t (Filed (Refused r)) = refl
+pub counted_names : (t : Tally) (a : Option Outcome) → (counted_of t a).names ≡ t.names + 1
+counted_names t None = refl
+counted_names t (Some (Ok _)) = refl
+counted_names t (Some (Err r)) = refl
 
-pub all_names : (t : Tally) (answers : List Answer) → (counted_all t answers).names ≡ t.names + length answers
+pub all_names : (t : Tally) (answers : List (Option Outcome)) → (counted_all t answers).names ≡ t.names + length answers
 unfolding counted_all
 all_names t [] = omega arith
 all_names t (a ∷ rest) = all_names (counted_of t a) rest ∙ omega (arith, counted_names t a)
 
 -- answers counted in two parts
-pub all_append : (t : Tally) (first rest : List Answer) → counted_all t (first ++ rest) ≡ counted_all (counted_all t first) rest
+pub all_append : (t : Tally) (first rest : List (Option Outcome)) → counted_all t (first ++ rest) ≡ counted_all (counted_all t first) rest
 unfolding counted_all
 all_append t [] rest = refl
 all_append t (a ∷ first) rest = all_append (counted_of t a) first rest

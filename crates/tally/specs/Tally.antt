@@ -1,10 +1,7 @@
 -- The count of a sweep's names by what became of each.
 -- Document 02, Req 03, "Sweep report".
-use Rattle.std.specs.Prelude.{ℕ, ◌+◌, ◌≡◌, List, [], ◌∷◌, length, get_or, set, replicate}
-use Rattle.refusals.specs.Refused.{number_of}
-use Rattle.refusals.specs.declared.Outcome.TheVariants.{Done, Refused}
-use Rattle.tally.specs.declared.Answer.{Answer}
-use Rattle.tally.specs.declared.Answer.TheVariants.{Unopened, Filed}
+use Rattle.std.specs.Prelude.{ℕ, ◌+◌, ◌≡◌, List, [], ◌∷◌, length, get_or, set, replicate, Err, None, Ok, Option, Some}
+use Rattle.refusals.specs.Refused.{number_of, Outcome}
 use Rattle.tally.specs.declared.Tally.{Tally}
 
 -- the refusal numbers, 0 to 13
@@ -33,13 +30,13 @@ under t number =
     }
 
 -- one name more, counted under its answer: one whose file was not opened is under number 0
-abbrev pub counted_of : Tally → Answer → Tally
-counted_of t Unopened = under t 0
-counted_of t (Filed Done) = among_accepted t
-counted_of t (Filed (Refused r)) = under t (number_of r)
+abbrev pub counted_of : Tally → Option Outcome → Tally
+counted_of t None = under t 0
+counted_of t (Some (Ok _)) = among_accepted t
+counted_of t (Some (Err r)) = under t (number_of r)
 
 -- the names of these answers counted, one after the other
-unfoldable pub counted_all : Tally → List Answer → Tally
+unfoldable pub counted_all : Tally → List (Option Outcome) → Tally
 counted_all t [] = t
 counted_all t (a ∷ rest) = counted_all (counted_of t a) rest
 

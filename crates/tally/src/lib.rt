@@ -5,15 +5,6 @@
 ghost use Rattle.std.specs.Prelude.{◌≡◌};
 ghost use Rattle.tally.specs.Tally.{zero_tally};
 
-use refusals::Outcome;
-
-// What became of a name: its file was not opened or not read, or it was read and planned with this outcome.
-#[derive(Clone, Copy)]
-pub enum Answer {
-    Unopened,
-    Filed(Outcome),
-}
-
 // The names counted so far: all, those accepted, and those that met each refusal number, from 0.
 #[derive(Clone, Copy)]
 pub struct Tally {

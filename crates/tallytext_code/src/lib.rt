@@ -10,8 +10,8 @@ use framelines_code::put_lines;
 use frames::table::{Frame, MOST_FIELDS};
 use frames_code::TABLE;
 use framewrite_code::put_line;
-use put_figures::put_figures;
 use refusals::{Refusal, Written};
+use store::store;
 use tally::Tally;
 
 // The bytes of a 40 and of a 41 line with its LF, by the table.
@@ -34,15 +34,11 @@ const FIGURES: usize = 2 * LINES;
 fn met_values(tally: Tally) -> [u64; FIGURES]
     ensures { result ≡ told_figures tally }
 {
-    let told = TOLD;
     let mut values = [0; FIGURES];
-    let mut k = 0;
-    while k < LINES {
-        let number = told[k];
+    for (k, &number) in TOLD.iter().enumerate() {
         let count = tally.refused[number];
         let figures = [number as u64, count];
-        put_figures(&mut values, 2 * k, &figures);
-        k += 1;
+        store(&mut values, 2 * k, &figures);
     }
     values
 }
@@ -53,11 +49,11 @@ pub fn fit_tally(tally: Tally, out: &mut [u8]) -> Written
 {
     let short = out.len() < BYTES;
     if short {
-        return Written::Refused(Refusal::Room);
+        return Err(Refusal::Room);
     }
     let first = [tally.accepted];
     put_line(out, 0, Frame::Accepted, &first);
     let values = met_values(tally);
     put_lines(out, ACCEPTED_BYTES, Frame::Met, &values, LINES);
-    Written::Bytes(BYTES)
+    Ok(BYTES)
 }

@@ -1,5 +1,6 @@
 -- What a set's types already hold to their fields' digits, and what row 3 says of the count.
 -- Assumes nothing.
+use Rattle.std.specs.Prelude.{Some}
 use Prim.Native.Nat.{ℕ, ◌≤◌, ◌<◌, ◌^◌}
 use mathlib.Core.List.{[], ◌∷◌}
 use mathlib.Core.Path.{◌≡◌}
@@ -15,7 +16,6 @@ use Rattle.framesizes.proofs.TooLarge.{values_fit}
 use Rattle.tasks.specs.Values.{header_values, task_values, interrupt_values}
 use Rattle.tasks.specs.declared.set.Header.{Header}
 use Rattle.tasks.specs.declared.set.Interrupt.{Interrupt}
-use Rattle.tasks.specs.declared.set.Optional.TheVariants.{Given}
 use Rattle.tasks.specs.declared.set.Task.{Task}
 use Rattle.tasks.specs.declared.set.TaskSet.{TaskSet}
 use Rattle.tasks.specs.Set.{most_tasks, most_interrupts, members, interrupts_in}
@@ -32,7 +32,7 @@ pub task_fits : (t : Task) → task_overflows t ≡ false → (k : ℕ) → k < 
 unfolding task_overflows
 task_fits t e = values_fit (task_frame t) (task_values t) e
 
-pub optional_fits : (frame : Frame) (figure : ℕ) → optional_overflows frame (Given figure) ≡ false → (k : ℕ) → k < fields_in frame → get_or (figure ∷ []) k 0 < 16 ^ width_of frame k
+pub optional_fits : (frame : Frame) (figure : ℕ) → optional_overflows frame (Some figure) ≡ false → (k : ℕ) → k < fields_in frame → get_or (figure ∷ []) k 0 < 16 ^ width_of frame k
 unfolding optional_overflows
 optional_fits frame figure e = values_fit frame (figure ∷ []) e
 

@@ -1,11 +1,9 @@
 -- Row 11 of a task set, with rows 3 and 4 of a set's figures.
 -- Document 01, "Refusal numbers and their order" (RULES 6), rows 3, 4 and 11; document 02, Req 04, 05, 07 and 08.
-use Rattle.std.specs.Prelude.{List, [], ◌∷◌, Bool, false, ◌||◌, ltb, eqb}
+use Rattle.std.specs.Prelude.{List, [], ◌∷◌, Bool, false, ◌||◌, ltb, eqb, None, Option, Some, ℕ}
 use Rattle.framesizes.specs.Overflow.{line_overflows}
 use Rattle.frames.specs.declared.table.Frame.{Frame}
 use Rattle.tasks.specs.declared.set.Header.{Header}
-use Rattle.tasks.specs.declared.set.Optional.{Optional}
-use Rattle.tasks.specs.declared.set.Optional.TheVariants.{Absent, Given}
 use Rattle.tasks.specs.declared.set.Interrupt.{Interrupt}
 use Rattle.tasks.specs.declared.set.Task.{Task}
 use Rattle.tasks.specs.declared.set.TaskSet.{TaskSet}
@@ -30,9 +28,9 @@ header_overflows h = line_overflows Frame.Header (header_values h)
 unfoldable pub task_overflows : Task → Bool
 task_overflows t = line_overflows (task_frame t) (task_values t)
 
-unfoldable pub optional_overflows : Frame → Optional → Bool
-optional_overflows frame Absent = false
-optional_overflows frame (Given figure) = line_overflows frame (figure ∷ [])
+unfoldable pub optional_overflows : Frame → Option ℕ → Bool
+optional_overflows frame None = false
+optional_overflows frame (Some figure) = line_overflows frame (figure ∷ [])
 
 unfoldable pub interrupt_overflows : Interrupt → Bool
 interrupt_overflows i = line_overflows Frame.Interrupt (interrupt_values i)

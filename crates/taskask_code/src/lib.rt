@@ -28,18 +28,11 @@ pub fn breaks_twice(set: TaskSet) -> bool
     requires { set.count ≤ most_tasks }
     ensures { result ≡ twice_row (members set) }
 {
-    let count = set.count;
-    let mut i = 0;
-    while i < count {
+    for i in 0..set.count {
         let id = set.tasks[i].id;
-        let mut j = i + 1;
-        while j < count {
-            if set.tasks[j].id == id {
-                return true;
-            }
-            j += 1;
+        if set.tasks[i + 1..set.count].iter().any(|task| task.id == id) {
+            return true;
         }
-        i += 1;
     }
     false
 }

@@ -1,5 +1,6 @@
 -- The lines of a task file before its tasks: where they end, that they are clear and hold no task and no interrupt.
 -- Assumes nothing.
+use Rattle.std.specs.Prelude.{Ok}
 use Prim.Native.Nat.{ℕ, suc, pred, ◌+◌, ◌≤◌}
 use native.Mathlib.Omega.{arith}
 use native.Mathlib.Nat.{zero-add, add-zero}
@@ -11,7 +12,6 @@ use Rattle.frameread.specs.Line.{formed}
 use Rattle.frameread.proofs.KindLaws.{not_formed}
 use Rattle.frames.specs.Table.{length_of}
 use Rattle.frames.specs.declared.table.Frame.{Frame}
-use Rattle.refusals.specs.declared.Outcome.TheVariants.{Done}
 use Rattle.refusals.specs.First.{till}
 use Rattle.refusals.proofs.FirstLaws.{till_suc}
 use Rattle.taskfile.specs.File.{past, line_outcome, bytes_by, rule_line, opening_lines, opening_bytes, task_formed, task_at, interrupt_at, tasks_among, interrupts_among}
@@ -25,7 +25,7 @@ use Rattle.taskfile.proofs.Lines.{HoldsNone, first_header, second_masked, rule_c
 pub record Passed (text : List ℕ) (k at : ℕ) : Type 0 where
   pub within : at ≤ length text
   pub rest : past k text ≡ drop at text
-  pub clear : till (line_outcome text) k ≡ Done
+  pub clear : till (line_outcome text) k ≡ Ok tt
   pub tasks : tasks_among text k ≡ []
   pub interrupts : interrupts_among text k ≡ []
 
@@ -42,7 +42,7 @@ passed_none text =
 
 module _ (kind : Frame) (none : HoldsNone kind) {text : List ℕ} {k at : ℕ} (passed : Passed text k at) where
   -- a clear line more of a kind that holds none
-  passed_line : formed kind (past k text) ≡ true → line_outcome text (suc k) ≡ Done → Passed text (suc k) (at + (length_of kind + 1))
+  passed_line : formed kind (past k text) ≡ true → line_outcome text (suc k) ≡ Ok tt → Passed text (suc k) (at + (length_of kind + 1))
   passed_line f clear =
       let behind = past_formed kind text k at passed.rest passed.within (ap (formed kind) (sym passed.rest) ∙ f) in
       record {
@@ -54,7 +54,7 @@ module _ (kind : Frame) (none : HoldsNone kind) {text : List ℕ} {k at : ℕ} (
       }
 
   -- or none, where it is of another
-  passed_optional : (formed kind (past k text) ≡ true → line_outcome text (suc k) ≡ Done) → Passed text (cond (formed kind (past k text)) (suc k) k) (at + bytes_by kind (past k text))
+  passed_optional : (formed kind (past k text) ≡ true → line_outcome text (suc k) ≡ Ok tt) → Passed text (cond (formed kind (past k text)) (suc k) k) (at + bytes_by kind (past k text))
   passed_optional clear = by_kind (formed kind (past k text)) refl
     where
       by_kind : (b : Bool) → formed kind (past k text) ≡ b → Passed text (cond b (suc k) k) (at + cond b (length_of kind + 1) 0)

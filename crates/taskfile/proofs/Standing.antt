@@ -1,5 +1,6 @@
 -- What the reader learns at the cursor, after some lines.
 -- Assumes nothing.
+use Rattle.std.specs.Prelude.{Err, Ok}
 use Prim.Native.Nat.{ℕ, zero, suc, ◌+◌, ◌≤◌, ◌<◌, ◌^◌}
 use native.Mathlib.Omega.{arith}
 use native.Mathlib.Numerals.{add-one}
@@ -20,7 +21,6 @@ use Rattle.frames.proofs.Tables.{at_index}
 use Rattle.frameread.proofs.KindLaws.{not_formed}
 use Rattle.frames.specs.declared.table.Frame.{Frame}
 use Rattle.refusals.specs.declared.Refusal.TheVariants.{Line, Order, Count, Twice}
-use Rattle.refusals.specs.declared.Outcome.TheVariants.{Done, Refused}
 use Rattle.refusals.specs.First.{first_of, when}
 use Rattle.frameread.proofs.Formed.{field_below}
 use Rattle.tasks.specs.declared.set.Task.{Task}
@@ -87,7 +87,7 @@ other_kind tags frame kind text o missed f =
     not_formed frame kind (ne_eqb (index_of frame) (index_of kind) (λ (e : index_of frame ≡ index_of kind). missed (subst (OneOf tags) (tag_index frame ∙ e) o))) text f
 
 -- a line of a frame with the tag of any kind of a task file but the first is ORDER at line 1
-pub first_said : (frame : Frame) (text : List ℕ) → formed frame text ≡ true → OneOf (1 ∷ 2 ∷ 3 ∷ 4 ∷ 5 ∷ []) (tag_of the_type frame) → line_outcome text 1 ≡ Refused (Order 1)
+pub first_said : (frame : Frame) (text : List ℕ) → formed frame text ≡ true → OneOf (1 ∷ 2 ∷ 3 ∷ 4 ∷ 5 ∷ []) (tag_of the_type frame) → line_outcome text 1 ≡ Err (Order 1)
 first_said frame text f o =
     ⊎_elim
     (said Frame.Task refl (omega arith))
@@ -100,7 +100,7 @@ first_said frame text f o =
     (said Frame.Interrupt refl (omega arith)))))
     o
   where
-    said : (kind : Frame) → eqb (index_of kind) 0 ≡ false → index_of kind < length file_kinds → tag_of the_type frame ≡ index_of kind → line_outcome text 1 ≡ Refused (Order 1)
+    said : (kind : Frame) → eqb (index_of kind) 0 ≡ false → index_of kind < length file_kinds → tag_of the_type frame ≡ index_of kind → line_outcome text 1 ≡ Err (Order 1)
     said kind other lt e = first_kind kind other lt text (tag_formed frame kind text e f)
 
 -- the tags of the frames behind the first n
@@ -130,7 +130,7 @@ some_ids id [] = refl
 some_ids id (t ∷ ts) = ap (λ (b : Bool). eqb t.id id || b) (some_ids id ts)
 
 module _ {text : List ℕ} {k at : ℕ} (taken : Taken text k at) where
-  pub said_line : at < length text → admitted (drop at text) ≡ false → line_outcome text (k + 1) ≡ Refused (Line (k + 1))
+  pub said_line : at < length text → admitted (drop at text) ≡ false → line_outcome text (k + 1) ≡ Err (Line (k + 1))
   said_line lt other =
       rw (add-one k) (line_other text k (ap empty taken.rest ∙ byte_there at text lt) (ap admitted taken.rest ∙ other))
 
@@ -139,7 +139,7 @@ module _ {text : List ℕ} {k at : ℕ} (taken : Taken text k at) where
   taken_some = omega (arith, some_opening text, taken.opened)
 
   -- an 01, a 05 or a 06 line comes too late
-  pub said_order : (frame : Frame) → formed frame (drop at text) ≡ true → OneOf (0 ∷ 3 ∷ 4 ∷ []) (tag_of the_type frame) → line_outcome text (k + 1) ≡ Refused (Order (k + 1))
+  pub said_order : (frame : Frame) → formed frame (drop at text) ≡ true → OneOf (0 ∷ 3 ∷ 4 ∷ []) (tag_of the_type frame) → line_outcome text (k + 1) ≡ Err (Order (k + 1))
   said_order frame f o =
       rw (add-one k)
       (⊎_elim
@@ -157,18 +157,18 @@ module _ {text : List ℕ} {k at : ℕ} (taken : Taken text k at) where
     said_interrupt : line_outcome text (k + 1) ≡ when (eqb count most_interrupts) (Count (k + 1))
     said_interrupt = rw (add-one k, held) (later_interrupt text k taken_some (ap (formed Frame.Interrupt) taken.rest ∙ interrupt))
 
-    pub said_full : count ≡ most_interrupts → line_outcome text (k + 1) ≡ Refused (Count (k + 1))
+    pub said_full : count ≡ most_interrupts → line_outcome text (k + 1) ≡ Err (Count (k + 1))
     said_full full = rw (eq-eqb count most_interrupts full) at said_interrupt
 
-    pub said_done : (count ≡ most_interrupts → ⊥) → line_outcome text (k + 1) ≡ Done
+    pub said_done : (count ≡ most_interrupts → ⊥) → line_outcome text (k + 1) ≡ Ok tt
     said_done room = rw (ne_eqb count most_interrupts room) at said_interrupt
 
 -- a task's line that comes too late
-pub said_late : {text : List ℕ} {k at : ℕ} → BehindTasks text k at → task_formed (drop at text) ≡ true → line_outcome text (k + 1) ≡ Refused (Order (k + 1))
+pub said_late : {text : List ℕ} {k at : ℕ} → BehindTasks text k at → task_formed (drop at text) ≡ true → line_outcome text (k + 1) ≡ Err (Order (k + 1))
 said_late {text = text} {k = k} s task = rw (add-one k) (late_task_lem text k (taken_some s.taken) (s.late task) (ap task_formed s.taken.rest ∙ task))
 
 -- and so does any line behind the tasks that is admitted and no 07 line
-pub said_behind : {text : List ℕ} {k at : ℕ} → BehindTasks text k at → (frame : Frame) → formed frame (drop at text) ≡ true → OneOf (0 ∷ 1 ∷ 2 ∷ 3 ∷ 4 ∷ []) (tag_of the_type frame) → line_outcome text (k + 1) ≡ Refused (Order (k + 1))
+pub said_behind : {text : List ℕ} {k at : ℕ} → BehindTasks text k at → (frame : Frame) → formed frame (drop at text) ≡ true → OneOf (0 ∷ 1 ∷ 2 ∷ 3 ∷ 4 ∷ []) (tag_of the_type frame) → line_outcome text (k + 1) ≡ Err (Order (k + 1))
 said_behind {text = text} {at = at} s frame f o =
     ⊎_elim
     (λ (e : tag_of the_type frame ≡ 0). said_order s.taken frame f (inl e))
@@ -185,7 +185,7 @@ module _ {text : List ℕ} {k at : ℕ} (s : Tasked text k at) (task : task_form
       rw (add-one k, held, some_ids (task_at (drop at text)).id (tasks_among text k), length-map, ← s.taken.rest)
       (later_task text k (taken_some s.taken) s.none (ap task_formed s.taken.rest ∙ task))
 
-  pub said_count : length ids ≡ most_tasks → line_outcome text (k + 1) ≡ Refused (Count (k + 1))
+  pub said_count : length ids ≡ most_tasks → line_outcome text (k + 1) ≡ Err (Count (k + 1))
   said_count full = rw (eq-eqb (length ids) most_tasks full) at said_task
 
   pub said_twice : (length ids ≡ most_tasks → ⊥) → (b : Bool) → some (λ i. eqb i (task_at (drop at text)).id) ids ≡ b → line_outcome text (k + 1) ≡ when b (Twice (k + 1))

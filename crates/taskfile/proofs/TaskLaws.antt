@@ -1,5 +1,6 @@
 -- Laws of a task's line: of which of its two kinds it is, and of no other.
 -- Assumes nothing.
+use Rattle.std.specs.Prelude.{None, Some}
 use Prim.Native.Nat.{ℕ, zero, suc, ◌≤◌, ◌<◌}
 use native.Mathlib.Omega.{arith}
 use mathlib.Core.Bool.{Bool, true, false, cond, ◌||◌, or-false, or-true}
@@ -12,7 +13,6 @@ use Rattle.frameread.specs.Line.{formed, closed, field_of}
 use Rattle.frameread.proofs.KindLaws.{not_formed}
 use Rattle.frames.specs.Table.{widths_of, width_of, index_of, length_of, sum}
 use Rattle.frames.specs.declared.table.Frame.{Frame}
-use Rattle.tasks.specs.declared.set.Optional.TheVariants.{Absent, Given}
 use Rattle.taskframe.specs.Frames.{frame_by, task_frame}
 use Rattle.taskfile.specs.File.{task_formed, task_kind, cache_at, task_at}
 
@@ -66,11 +66,11 @@ unfolding task_kind
 kind_cached text f = rw f
 
 -- and what it gives as the cache cost
-pub cache_given : (text : List ℕ) → formed Frame.Cached text ≡ true → cache_at text ≡ Given (field_of Frame.Cached 4 text)
+pub cache_given : (text : List ℕ) → formed Frame.Cached text ≡ true → cache_at text ≡ Some (field_of Frame.Cached 4 text)
 unfolding cache_at
 cache_given text f = rw f
 
-pub cache_absent : (text : List ℕ) → formed Frame.Cached text ≡ false → cache_at text ≡ Absent
+pub cache_absent : (text : List ℕ) → formed Frame.Cached text ≡ false → cache_at text ≡ None
 unfolding cache_at
 cache_absent text f = rw f
 
@@ -79,7 +79,7 @@ pub frame_kind : (text : List ℕ) → task_frame (task_at text) ≡ task_kind t
 unfolding task_at cache_at task_kind
 frame_kind text = by_kind (formed Frame.Cached text)
   where
-    by_kind : (b : Bool) → frame_by (cond b (Given (field_of Frame.Cached 4 text)) Absent) ≡ cond b Frame.Cached Frame.Task
+    by_kind : (b : Bool) → frame_by (cond b (Some (field_of Frame.Cached 4 text)) None) ≡ cond b Frame.Cached Frame.Task
     by_kind true = refl
     by_kind false = refl
 

@@ -1,14 +1,12 @@
 -- A task file's lines, counted from 1, and the rows that reading tests at each line.
 -- Document 01, "Lines of hexadecimal" (RULES 5) and rows 1 to 4 of the refusals (RULES 6.1 and 6.2); document 02, Req 04, 05, 07 and 08.
-use Rattle.std.specs.Prelude.{ℕ, zero, suc, pred, ◌+◌, List, [], ◌∷◌, ◌++◌, Bool, true, false, not, cond, ◌&&◌, ◌||◌, length, eqb}
+use Rattle.std.specs.Prelude.{ℕ, zero, suc, pred, ◌+◌, List, [], ◌∷◌, ◌++◌, Bool, true, false, not, cond, ◌&&◌, ◌||◌, length, eqb, None, Option, Some}
 use Rattle.frameread.specs.Line.{after, formed, field_of}
 use Rattle.frames.specs.Table.{length_of}
 use Rattle.frames.specs.declared.table.Frame.{Frame}
 use Rattle.refusals.specs.declared.Refusal.TheVariants.{Line, Order, Count, Twice}
-use Rattle.refusals.specs.declared.Outcome.{Outcome}
+use Rattle.refusals.specs.Refused.{Outcome}
 use Rattle.refusals.specs.First.{first_of, when}
-use Rattle.tasks.specs.declared.set.Optional.{Optional}
-use Rattle.tasks.specs.declared.set.Optional.TheVariants.{Absent, Given}
 use Rattle.tasks.specs.declared.set.Header.{Header}
 use Rattle.tasks.specs.declared.set.Task.{Task}
 use Rattle.tasks.specs.declared.set.Interrupt.{Interrupt}
@@ -62,16 +60,16 @@ header_at text =
       ctswo = field_of Frame.Header 4 text;
       resd = field_of Frame.Header 5 text;
       cpmdo = field_of Frame.Header 6 text;
-      masked = Absent;
-      rule = Absent;
+      masked = None;
+      rule = None;
     }
 
 -- the kind of a task's line, the cache cost that an 03 line gives, and the figures of the line
 unfoldable pub task_kind : List ℕ → Frame
 task_kind text = cond (formed Frame.Cached text) Frame.Cached Frame.Task
 
-unfoldable pub cache_at : List ℕ → Optional
-cache_at text = cond (formed Frame.Cached text) (Given (field_of Frame.Cached 4 text)) Absent
+unfoldable pub cache_at : List ℕ → Option ℕ
+cache_at text = cond (formed Frame.Cached text) (Some (field_of Frame.Cached 4 text)) None
 
 unfoldable pub task_at : List ℕ → Task
 task_at text =
@@ -95,21 +93,21 @@ interrupt_at text =
     }
 
 -- what an optional line of this kind gives where a text starts with one, and the bytes that it then takes
-abbrev pub given_by : Frame → List ℕ → Optional
-given_by kind rest = cond (formed kind rest) (Given (field_of kind 0 rest)) Absent
+abbrev pub given_by : Frame → List ℕ → Option ℕ
+given_by kind rest = cond (formed kind rest) (Some (field_of kind 0 rest)) None
 
 abbrev pub bytes_by : Frame → List ℕ → ℕ
 bytes_by kind rest = cond (formed kind rest) (length_of kind + 1) 0
 
 -- what line 2 gives, if it is a 05 line
-unfoldable pub masked_at : List ℕ → Optional
+unfoldable pub masked_at : List ℕ → Option ℕ
 masked_at text = given_by Frame.Masked (from text 2)
 
 -- the line at which a 06 line may stand: directly behind the 05 line or, without one, behind the 01 line; and what it gives
 unfoldable pub rule_line : List ℕ → ℕ
 rule_line text = cond (is_masked text 2) 3 2
 
-unfoldable pub rule_at : List ℕ → Optional
+unfoldable pub rule_at : List ℕ → Option ℕ
 rule_at text = given_by Frame.Rule (from text (rule_line text))
 
 -- the board's figures, with what these two lines give

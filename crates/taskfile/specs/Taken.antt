@@ -1,7 +1,6 @@
 -- Where the reader stands after some lines.
 -- Document 01, "Reading takes lines in order" (RULES 6.2); document 02, Req 05, 07 and 08.
-use Rattle.std.specs.Prelude.{ℕ, ◌+◌, ◌≤◌, true, List, [], map, ◌≡◌, length, drop}
-use Rattle.refusals.specs.declared.Outcome.TheVariants.{Done}
+use Rattle.std.specs.Prelude.{ℕ, ◌+◌, ◌≤◌, true, List, [], map, ◌≡◌, length, drop, Ok}
 use Rattle.refusals.specs.First.{till}
 use Rattle.tasks.specs.declared.set.Task.{Task}
 use Rattle.tasks.specs.Set.{most_tasks, most_interrupts}
@@ -12,7 +11,7 @@ pub record Taken (text : List ℕ) (k at : ℕ) : Type 0 where
   pub opened : opening_lines text ≤ k
   pub within : at ≤ length text
   pub rest : past k text ≡ drop at text
-  pub clear : till (line_outcome text) k ≡ Done
+  pub clear : till (line_outcome text) k ≡ Ok tt
   -- all lines but the first three at most hold a task or an interrupt, and there is room for these
   pub lines : k ≤ length (tasks_among text k) + length (interrupts_among text k) + 3
   pub few : length (tasks_among text k) ≤ most_tasks

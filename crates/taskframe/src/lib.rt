@@ -5,14 +5,14 @@ ghost use Rattle.std.specs.Prelude.{◌≡◌};
 ghost use Rattle.taskframe.specs.Frames.{task_frame};
 
 use frames::table::Frame;
-use tasks::set::{Optional, Task};
+use tasks::set::Task;
 
 pub fn task_frame(task: Task) -> Frame
     ensures { result ≡ task_frame task }
 {
     let cache = task.cache;
     match cache {
-        Optional::Given(_) => Frame::Cached,
-        Optional::Absent => Frame::Task,
+        Some(_) => Frame::Cached,
+        None => Frame::Task,
     }
 }

@@ -1,5 +1,6 @@
 -- How reading the 02 and 03 lines goes on: from the lines before the tasks, over each task, to a line that is none.
 -- Assumes nothing.
+use Rattle.std.specs.Prelude.{Err, Ok, Result}
 use Prim.Native.Nat.{ℕ, suc, ◌+◌, ◌≤◌, ◌<◌}
 use native.Mathlib.Omega.{arith}
 use native.Mathlib.Numerals.{add-one}
@@ -14,8 +15,7 @@ use Rattle.frameread.specs.Line.{formed}
 use Rattle.frames.specs.Table.{length_of}
 use Rattle.frames.specs.declared.table.Frame.{Frame}
 use Rattle.refusals.specs.declared.Refusal.{Refusal}
-use Rattle.refusals.specs.declared.Outcome.{Outcome}
-use Rattle.refusals.specs.declared.Outcome.TheVariants.{Done}
+use Rattle.refusals.specs.Refused.{Outcome}
 use Rattle.refusals.proofs.FirstLaws.{done_refused, till_suc}
 use Rattle.tasks.specs.declared.set.Task.{Task}
 use Rattle.tasks.specs.declared.set.TaskSet.{TaskSet}
@@ -30,9 +30,8 @@ use Rattle.taskfile.proofs.TaskLaws.{task_nowhere, of_kind_lem, frame_kind}
 use Rattle.taskfile.proofs.Lines.{task_no_interrupt, interrupt_no_task, clear_header, clear_kind, clear_room}
 use Rattle.taskfile.proofs.OpeningLaws.{taken_opening, among_opening, none_opening}
 use Rattle.taskfile.proofs.Standing.{byte_there, taken_some}
-use Rattle.listedline.specs.declared.TaskLine.{TaskLine}
-use Rattle.listedline.specs.Answer.{task_or, of_task}
-use Rattle.listedline.proofs.Answers.{of_task_lem, task_given, task_refused}
+use Rattle.lineanswer.specs.Answer.{line_or, of_line}
+use Rattle.lineanswer.proofs.Answers.{of_line_lem, line_given, line_refused}
 use Rattle.opening.specs.declared.Opening.{Opening}
 use Rattle.opening.specs.Opening.{opening_of}
 use Rattle.tasklines.specs.Ended.{Ended}
@@ -54,7 +53,7 @@ held_few held = omega (arith, held_count held, held.tasked.taken.few)
 
 -- ---- the lines before the tasks are taken
 
-pub held_opening : (text : List ℕ) {opening : Opening} {set : TaskSet} {ids : List ℕ} → set ≡ zero_set → length ids ≡ most_tasks → line_outcome text 1 ≡ Done → opening ≡ opening_of text → Held text opening.lines opening.at (record { header = opening.header; count = set.count; tasks = set.tasks; interrupts = set.interrupts }) ids
+pub held_opening : (text : List ℕ) {opening : Opening} {set : TaskSet} {ids : List ℕ} → set ≡ zero_set → length ids ≡ most_tasks → line_outcome text 1 ≡ Ok tt → opening ≡ opening_of text → Held text opening.lines opening.at (record { header = opening.header; count = set.count; tasks = set.tasks; interrupts = set.interrupts }) ids
 unfolding set_of interrupts_with opening_of
 held_opening text zeroed room clear e =
     let header : formed Frame.Header text ≡ true = clear_header text clear in
@@ -69,12 +68,12 @@ held_opening text zeroed room clear e =
 
 -- ---- a task is taken
 
-module _ {text : List ℕ} {k at : ℕ} {set : TaskSet} {ids : List ℕ} (t : Task) (held : Held text k at set ids) (within : at < length text) (other : formed Frame.Interrupt (drop at text) ≡ false) (e : task_or (line_outcome text (k + 1)) (task_at (drop at text)) ≡ TaskLine.Task t) where
-  line : line_outcome text (suc k) ≡ Done
-  line = ap (line_outcome text) (sym (add-one k)) ∙ (task_given (line_outcome text (k + 1)) (task_at (drop at text)) t e).0
+module _ {text : List ℕ} {k at : ℕ} {set : TaskSet} {ids : List ℕ} (t : Task) (held : Held text k at set ids) (within : at < length text) (other : formed Frame.Interrupt (drop at text) ≡ false) (e : line_or (line_outcome text (k + 1)) (task_at (drop at text)) ≡ Ok t) where
+  line : line_outcome text (suc k) ≡ Ok tt
+  line = ap (line_outcome text) (sym (add-one k)) ∙ (line_given (line_outcome text (k + 1)) (task_at (drop at text)) t e).0
 
   figures : t ≡ task_at (past k text)
-  figures = (task_given (line_outcome text (k + 1)) (task_at (drop at text)) t e).1 ∙ ap task_at (sym held.tasked.taken.rest)
+  figures = (line_given (line_outcome text (k + 1)) (task_at (drop at text)) t e).1 ∙ ap task_at (sym held.tasked.taken.rest)
 
   task : task_formed (past k text) ≡ true
   task =
@@ -103,7 +102,7 @@ module _ {text : List ℕ} {k at : ℕ} {set : TaskSet} {ids : List ℕ} (t : Ta
 
   -- the line is of the kind that the task remembers
   kind : task_frame t ≡ task_kind (drop at text)
-  kind = ap task_frame (task_given (line_outcome text (k + 1)) (task_at (drop at text)) t e).1 ∙ frame_kind (drop at text)
+  kind = ap task_frame (line_given (line_outcome text (k + 1)) (task_at (drop at text)) t e).1 ∙ frame_kind (drop at text)
 
   taken_more : Taken text (suc k) (at + (length_of (task_frame t) + 1))
   taken_more =
@@ -146,16 +145,16 @@ pub held_before : {text : List ℕ} {k at : ℕ} {set : TaskSet} {ids : List ℕ
 held_before {text = text} {at = at} held interrupt =
     record { taken = held.tasked.taken; late = λ task. true_false (sym task ∙ interrupt_no_task (drop at text) interrupt) }
 
-pub ended_done : {text : List ℕ} {k at : ℕ} {set : TaskSet} {ids : List ℕ} → Held text k at set ids → BehindTasks text k at → Ended text (record { outcome = Done; set = set; at = at; lines = k })
+pub ended_done : {text : List ℕ} {k at : ℕ} {set : TaskSet} {ids : List ℕ} → Held text k at set ids → BehindTasks text k at → Ended text (record { outcome = Ok tt; set = set; at = at; lines = k })
 ended_done held over = record { tasked = held.tasked; all = held.all; done = λ e. over; refused = λ why e. done_refused e }
 
 -- or before a line that is refused
-pub ended_refused : {text : List ℕ} {k at : ℕ} {set : TaskSet} {ids : List ℕ} {line : TaskLine} {o : Outcome} → Held text k at set ids → (r : Refusal) → line ≡ task_or (line_outcome text (k + 1)) (task_at (drop at text)) → line ≡ TaskLine.Refused r → o ≡ of_task line → Ended text (record { outcome = o; set = set; at = at; lines = k })
+pub ended_refused : {text : List ℕ} {k at : ℕ} {set : TaskSet} {ids : List ℕ} {line : Result Task Refusal} {o : Outcome} → Held text k at set ids → (r : Refusal) → line ≡ line_or (line_outcome text (k + 1)) (task_at (drop at text)) → line ≡ Err r → o ≡ of_line line → Ended text (record { outcome = o; set = set; at = at; lines = k })
 ended_refused {text = text} {k = k} {at = at} {o = o} held r said refused told =
-    let next : o ≡ line_outcome text (k + 1) = told ∙ ap of_task said ∙ of_task_lem (line_outcome text (k + 1)) (task_at (drop at text)) in
+    let next : o ≡ line_outcome text (k + 1) = told ∙ ap of_line said ∙ of_line_lem (line_outcome text (k + 1)) (task_at (drop at text)) in
     record {
       tasked = held.tasked;
       all = held.all;
-      done = λ e. absurd (task_refused (line_outcome text (k + 1)) (task_at (drop at text)) r (sym said ∙ refused) (sym next ∙ e));
+      done = λ e. absurd (line_refused (line_outcome text (k + 1)) (task_at (drop at text)) r (sym said ∙ refused) (sym next ∙ e));
       refused = λ why e. sym next ∙ e;
     }

@@ -1,8 +1,7 @@
 -- How reading the 02 and 03 lines ends.
 -- Document 01, "Reading takes lines in order" (RULES 6.2); document 02, Req 07 and Req 08.
-use Rattle.std.specs.Prelude.{ℕ, ◌+◌, List, [], ◌≡◌}
+use Rattle.std.specs.Prelude.{ℕ, ◌+◌, List, [], ◌≡◌, Err, Ok}
 use Rattle.refusals.specs.declared.Refusal.{Refusal}
-use Rattle.refusals.specs.declared.Outcome.TheVariants.{Done, Refused}
 use Rattle.tasks.specs.Set.{set_of}
 use Rattle.taskfile.specs.File.{line_outcome, file_header, tasks_among}
 use Rattle.taskfile.specs.Taken.{Tasked, BehindTasks}
@@ -12,5 +11,5 @@ use Rattle.tasklines.specs.declared.TaskLines.{TaskLines}
 pub record Ended (text : List ℕ) (r : TaskLines) : Type 0 where
   pub tasked : Tasked text r.lines r.at
   pub all : r.set ≡ set_of (file_header text) (tasks_among text r.lines) []
-  pub done : r.outcome ≡ Done → BehindTasks text r.lines r.at
-  pub refused : (why : Refusal) → r.outcome ≡ Refused why → line_outcome text (r.lines + 1) ≡ Refused why
+  pub done : r.outcome ≡ Ok tt → BehindTasks text r.lines r.at
+  pub refused : (why : Refusal) → r.outcome ≡ Err why → line_outcome text (r.lines + 1) ≡ Err why

@@ -2,8 +2,7 @@
 // is refused.
 #![tactic(auto)]
 
-ghost use Rattle.std.specs.Prelude.{◌≡◌};
-ghost use Rattle.refusals.specs.declared.Outcome.TheVariants.{Done};
+ghost use Rattle.std.specs.Prelude.{◌≡◌, Ok};
 ghost use Rattle.taskfile.specs.File.{line_outcome};
 ghost use Rattle.opening.specs.Opening.{opening_of};
 ghost use Rattle.tasklines.specs.Ended.{Ended};
@@ -11,10 +10,8 @@ ghost use Rattle.tasklines.specs.Ended.{Ended};
 use frames::table::Frame;
 use framesizes_code::length;
 use is_line::is_line;
-use listedline::TaskLine;
-use listedline_code::task_outcome;
+use lineanswer::of_line;
 use opening::Opening;
-use refusals::Outcome;
 use taskframe::task_frame;
 use taskline::task_line;
 use tasklines::TaskLines;
@@ -22,7 +19,7 @@ use tasks::set::TaskSet;
 
 // The cursor `at` stands behind the lines taken so far; `ids` has the ids of the set's tasks.
 pub fn task_lines(text: &[u8], opening: Opening) -> TaskLines
-    requires text_value { line_outcome text.now 1 ≡ Done }
+    requires text_value { line_outcome text.now 1 ≡ Ok tt }
     requires opening_value { opening ≡ opening_of text.now }
     ensures { Ended text.now result }
 {
@@ -35,9 +32,9 @@ pub fn task_lines(text: &[u8], opening: Opening) -> TaskLines
     while at < text.len() && !is_line(text, at, Frame::Interrupt) {
         let count = set.count;
         let line = task_line(text, at, lines, &ids[..count]);
-        let TaskLine::Task(task) = line else {
+        let Ok(task) = line else {
             return TaskLines {
-                outcome: task_outcome(line),
+                outcome: of_line(line),
                 set,
                 at,
                 lines,
@@ -51,7 +48,7 @@ pub fn task_lines(text: &[u8], opening: Opening) -> TaskLines
         lines += 1;
     }
     TaskLines {
-        outcome: Outcome::Done,
+        outcome: Ok(()),
         set,
         at,
         lines,

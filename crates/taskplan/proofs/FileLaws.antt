@@ -1,13 +1,13 @@
 -- Laws of an answer that hands a refusal on, and of a file's set and plan: the planner makes the plan of the set.
 -- Assumes nothing.
+use Rattle.std.specs.Prelude.{Err, Ok}
 use Prim.Native.Nat.{ℕ}
 use mathlib.Core.Path.{◌≡◌, refl, sym, ◌∙◌, ap}
 use mathlib.Core.List.{List}
 use mathlib.Core.Bool.{true}
 use Rattle.laws.proofs.Tests.{clash}
 use Rattle.refusals.specs.declared.Refusal.{Refusal}
-use Rattle.refusals.specs.declared.Outcome.{Outcome}
-use Rattle.refusals.specs.declared.Outcome.TheVariants.{Done, Refused}
+use Rattle.refusals.specs.Refused.{Outcome}
 use Rattle.tasks.specs.declared.set.TaskSet.{TaskSet}
 use Rattle.taskread.specs.Read.{read_of}
 use Rattle.planner.specs.declared.PlanAnswer.{PlanAnswer}
@@ -20,11 +20,11 @@ use Rattle.taskplan.specs.declared.FileAnswer.{FileAnswer}
 use Rattle.taskplan.specs.File.{unless, refused_file, planned_set, filed_of}
 
 -- the planner makes the plan that it answers
-pub answer_makes : (set : TaskSet) (a : PlanAnswer) → a ≡ plan_of set → a.outcome ≡ Done → makes set a.plan ≡ true
+pub answer_makes : (set : TaskSet) (a : PlanAnswer) → a ≡ plan_of set → a.outcome ≡ Ok tt → makes set a.plan ≡ true
 unfolding makes
 answer_makes set a made done = rw (outcome, plan) (agree_self set.count (plan_made set))
   where
-    outcome : plan_outcome set ≡ Done
+    outcome : plan_outcome set ≡ Ok tt
     outcome = sym (plan_outcome_lem set) ∙ sym (ap (λ (b : PlanAnswer). b.outcome) made) ∙ done
 
     plan : a.plan ≡ plan_made set
@@ -35,24 +35,24 @@ module _ {A B : Type 0} (refused : Refusal → A) (outcome : B → Outcome) (f :
   as_known : unless refused (outcome a) (f a) ≡ unless refused (outcome b) (f b)
   as_known = ap (λ (x : B). unless refused (outcome x) (f x)) e
 
-  pub when_done : outcome a ≡ Done → f a ≡ unless refused (outcome b) (f b)
+  pub when_done : outcome a ≡ Ok tt → f a ≡ unless refused (outcome b) (f b)
   when_done d = sym (ap (λ (o : Outcome). unless refused o (f a)) d) ∙ as_known
 
-  pub when_refused : {r : Refusal} → outcome a ≡ Refused r → refused r ≡ unless refused (outcome b) (f b)
+  pub when_refused : {r : Refusal} → outcome a ≡ Err r → refused r ≡ unless refused (outcome b) (f b)
   when_refused d = sym (ap (λ (o : Outcome). unless refused o (f a)) d) ∙ as_known
 
 -- the planner makes this file's plan of its set
 abbrev Makes : FileAnswer → Type 0
-Makes file = file.outcome ≡ Done → makes file.set file.plan ≡ true
+Makes file = file.outcome ≡ Ok tt → makes file.set file.plan ≡ true
 
-planned_makes : (set : TaskSet) (o : Outcome) → (plan_of set).outcome ≡ o → Makes (unless refused_file o (record { outcome = Done; set = set; plan = (plan_of set).plan }))
-planned_makes set Done e d = answer_makes set (plan_of set) refl e
-planned_makes set (Refused r) e d = clash (cc)
+planned_makes : (set : TaskSet) (o : Outcome) → (plan_of set).outcome ≡ o → Makes (unless refused_file o (record { outcome = Ok tt; set = set; plan = (plan_of set).plan }))
+planned_makes set (Ok _) e d = answer_makes set (plan_of set) refl e
+planned_makes set (Err r) e d = clash (cc)
 
 read_makes : (o : Outcome) (set : TaskSet) → Makes (unless refused_file o (planned_set set))
 unfolding planned_set
-read_makes Done set d = planned_makes set (plan_of set).outcome refl d
-read_makes (Refused r) set d = clash (cc)
+read_makes (Ok _) set d = planned_makes set (plan_of set).outcome refl d
+read_makes (Err r) set d = clash (cc)
 
 pub filed_makes : (text : List ℕ) {file : FileAnswer} → file ≡ filed_of text → Makes file
 unfolding filed_of

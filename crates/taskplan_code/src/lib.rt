@@ -7,19 +7,18 @@ ghost use Rattle.taskplan.specs.File.{filed_of};
 ghost use Rattle.filerows.specs.Read.{read_rows};
 
 use planner_code::{rows_of, settle};
-use refusals::Outcome;
-use rows::rows::Rows;
+use refusals::{Outcome, Refusal};
 use taskread::read::ReadAnswer;
 use taskread_code::read;
 
 // What the rows say of a file that was read.
-pub fn rows_read(answer: ReadAnswer) -> Rows
+pub fn rows_read(answer: ReadAnswer) -> Result<u64, Refusal>
     ensures { result ≡ read_rows answer }
 {
     let outcome = answer.outcome;
     match outcome {
-        Outcome::Done => rows_of(answer.set),
-        Outcome::Refused(refusal) => Rows::Refused(refusal),
+        Ok(()) => rows_of(answer.set),
+        Err(refusal) => Err(refusal),
     }
 }
 

@@ -1,8 +1,7 @@
 -- What reading a task file answers: the set, or the first refusal of rows 1 to 6 and the all-zero set.
 -- Document 01, "Refusal numbers and their order" (RULES 6).
-use Rattle.std.specs.Prelude.{ℕ, ◌+◌, List, length}
-use Rattle.refusals.specs.declared.Outcome.{Outcome}
-use Rattle.refusals.specs.declared.Outcome.TheVariants.{Done, Refused}
+use Rattle.std.specs.Prelude.{ℕ, ◌+◌, List, length, Err, Ok}
+use Rattle.refusals.specs.Refused.{Outcome}
 use Rattle.refusals.specs.First.{first_of, till}
 use Rattle.tasks.specs.declared.set.TaskSet.{TaskSet}
 use Rattle.taskread.specs.declared.read.ReadAnswer.{ReadAnswer}
@@ -16,8 +15,8 @@ file_set text = set_of (file_header text) (file_tasks text) (file_interrupts tex
 
 -- a refused read gives the all-zero set
 abbrev pub answer : Outcome → TaskSet → ReadAnswer
-answer Done set = record { outcome = Done; set = set }
-answer (Refused r) set = record { outcome = Refused r; set = zero_set }
+answer (Ok _) set = record { outcome = Ok tt; set = set }
+answer (Err r) set = record { outcome = Err r; set = zero_set }
 
 -- the lines in order, each of the file and the one after the last; then rows 5 and 6
 unfoldable pub read_outcome : List ℕ → Outcome

@@ -5,11 +5,10 @@
 ghost use Rattle.std.specs.Prelude.{◌≡◌};
 ghost use Rattle.taskread.specs.Read.{read_of};
 
-use headerline::HeaderLine;
-use headerline_code::{header_line, header_outcome};
+use headerline_code::header_line;
+use lineanswer::of_line;
 use opening_code::opened;
 use read_finished::{answered, finished};
-use refusals::Outcome;
 use tasklines_code::task_lines;
 use taskread::read::ReadAnswer;
 use tasks::set::TaskSet;
@@ -18,13 +17,13 @@ pub fn read(text: &[u8]) -> ReadAnswer
     ensures { result ≡ read_of text.now }
 {
     let first = header_line(text);
-    let HeaderLine::Header(header) = first else {
-        return answered(header_outcome(first), TaskSet::zero());
+    let Ok(header) = first else {
+        return answered(of_line(first), TaskSet::zero());
     };
     let listed = task_lines(text, opened(text, header));
     let outcome = listed.outcome;
     let tasks = listed.set;
-    let Outcome::Done = outcome else {
+    let Ok(()) = outcome else {
         return answered(outcome, tasks);
     };
     finished(text, listed.at, listed.lines, tasks)

@@ -1,4 +1,5 @@
 -- Laws of the first task for which a test holds: at a task it holds, fails, or the tasks end.
+use Rattle.std.specs.Prelude.{Err, Ok}
 use Prim.Native.Nat.{ℕ, zero, suc, ◌+◌, ◌≤◌}
 use native.Mathlib.Omega.{arith}
 use mathlib.Core.List.{List, [], ◌∷◌}
@@ -6,7 +7,6 @@ use mathlib.Core.Bool.{Bool, true, false, cond}
 use mathlib.Core.Path.{◌≡◌, refl}
 use lib.ListN.{length}
 use Rattle.refusals.specs.declared.Refusal.{Refusal}
-use Rattle.refusals.specs.declared.Outcome.TheVariants.{Done, Refused}
 use Rattle.tasks.specs.Search.{first_from, at_task}
 
 module _ {A : Type 0} (p : A → Bool) where
@@ -21,9 +21,9 @@ module _ {A : Type 0} (p : A → Bool) where
       picked false h = omega arith
 
 -- a refusal at the first task
-pub at_none : (r : ℕ → Refusal) (n : ℕ) → n ≡ 0 → at_task r n ≡ Done
+pub at_none : (r : ℕ → Refusal) (n : ℕ) → n ≡ 0 → at_task r n ≡ Ok tt
 at_none r n e = rw e
 
-pub at_some : (r : ℕ → Refusal) (n : ℕ) → (n ≡ 0 → ⊥) → at_task r n ≡ Refused (r n)
+pub at_some : (r : ℕ → Refusal) (n : ℕ) → (n ≡ 0 → ⊥) → at_task r n ≡ Err (r n)
 at_some r zero ne = absurd (ne refl)
 at_some r (suc n) ne = refl

@@ -1,9 +1,8 @@
 -- A test over the tasks in their order: whether it holds of some, and the first for which it does.
 -- Document 01, "Refusal numbers and their order" (RULES 6): first task first.
-use Rattle.std.specs.Prelude.{ℕ, zero, suc, List, [], ◌∷◌, Bool, false, cond, ◌||◌}
+use Rattle.std.specs.Prelude.{ℕ, zero, suc, List, [], ◌∷◌, Bool, false, cond, ◌||◌, Err, Ok}
 use Rattle.refusals.specs.declared.Refusal.{Refusal}
-use Rattle.refusals.specs.declared.Outcome.{Outcome}
-use Rattle.refusals.specs.declared.Outcome.TheVariants.{Done, Refused}
+use Rattle.refusals.specs.Refused.{Outcome}
 
 -- whether a test holds of some of these, and the place from 1 of the first for which it does (0: none)
 unfoldable pub some : {A : Type 0} → (A → Bool) → List A → Bool
@@ -19,5 +18,5 @@ first_task p ts = first_from p 1 ts
 
 -- a refusal at the first task, where there is one
 abbrev pub at_task : (ℕ → Refusal) → ℕ → Outcome
-at_task r zero = Done
-at_task r (suc k) = Refused (r (suc k))
+at_task r zero = Ok tt
+at_task r (suc k) = Err (r (suc k))

@@ -1,8 +1,6 @@
 -- The task set as a value: its tasks and its interrupts in file order, the all-zero set, and the set with its unused room at zero.
 -- Document 01, "The numbers of a task set" (RULES 1) and "Refusal numbers and their order" (RULES 6); document 02, Req 04 (RULES 1.5), Req 05, Req 07 and Req 08.
-use Rattle.std.specs.Prelude.{ℕ, ◌+◌, ◌-◌, List, ◌++◌, Bool, length, take, replicate, set as put, eqb}
-use Rattle.tasks.specs.declared.set.Optional.{Optional}
-use Rattle.tasks.specs.declared.set.Optional.TheVariants.{Absent, Given}
+use Rattle.std.specs.Prelude.{ℕ, ◌+◌, ◌-◌, List, ◌++◌, Bool, length, take, replicate, set as put, eqb, None, Option, unwrap_or}
 use Rattle.tasks.specs.declared.set.Header.{Header}
 use Rattle.tasks.specs.declared.set.Task.{Task}
 use Rattle.tasks.specs.declared.set.Interrupt.{Interrupt}
@@ -29,12 +27,11 @@ abbrev pub last_rule : ℕ
 last_rule = 8
 
 abbrev pub zero_header : Header
-zero_header = record { processors = 0; slot = 0; relj = 0; relo = 0; ctswo = 0; resd = 0; cpmdo = 0; masked = Absent; rule = Absent }
+zero_header = record { processors = 0; slot = 0; relj = 0; relo = 0; ctswo = 0; resd = 0; cpmdo = 0; masked = None; rule = None }
 
 -- the figure that an optional line or field gives, or another where there is none
-abbrev pub given_or : Optional → (other : ℕ) → ℕ
-given_or Absent other = other
-given_or (Given figure) other = figure
+abbrev pub given_or : Option ℕ → (other : ℕ) → ℕ
+given_or figure other = unwrap_or figure other
 
 -- B: what the 05 line gives; without it B is 0
 abbrev pub masked_ticks : Header → ℕ
@@ -49,7 +46,7 @@ abbrev pub cache_cost : Header → Task → ℕ
 cache_cost h t = given_or t.cache h.cpmdo
 
 -- a header with what its 05 line and its 06 line give
-abbrev pub with_lines : Header → (masked rule : Optional) → Header
+abbrev pub with_lines : Header → (masked rule : Option ℕ) → Header
 with_lines h masked rule =
     record {
       processors = h.processors;
@@ -64,7 +61,7 @@ with_lines h masked rule =
     }
 
 abbrev pub zero_task : Task
-zero_task = record { id = 0; cost = 0; deadline = 0; period = 0; cache = Absent }
+zero_task = record { id = 0; cost = 0; deadline = 0; period = 0; cache = None }
 
 abbrev pub zero_interrupt : Interrupt
 zero_interrupt = record { processor = 0; cost = 0; deadline = 0; period = 0; jitter = 0 }

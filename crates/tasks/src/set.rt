@@ -1,16 +1,9 @@
 // The task set: the board's figures, the tasks and the interrupts, each in file order, with the limits of documents 01 and 02 as its constants.
 // A set may also be built by a caller, so its types hold more than a file's fields do.
 ghost use Rattle.std.specs.Prelude.{◌≡◌};
-ghost use Rattle.tasks.specs.Set.{zero_set, no_interrupts, masked_ticks, rule_number, with_lines, given_or, cache_cost};
+ghost use Rattle.tasks.specs.Set.{zero_set, no_interrupts, masked_ticks, rule_number, with_lines, cache_cost};
 
-// The figure of an optional line or field, or that there is none.
-#[derive(Clone, Copy)]
-pub enum Optional {
-    Absent,
-    Given(u16),
-}
-
-// The board's figures: those of the 01 line, that of the 05 line and that of the 06 line.
+// The board's figures: those of the 01 line, and those of the 05 line and of the 06 line where there are such.
 #[derive(Clone, Copy)]
 pub struct Header {
     pub processors: u8,
@@ -20,8 +13,8 @@ pub struct Header {
     pub ctswo: u16,
     pub resd: u16,
     pub cpmdo: u16,
-    pub masked: Optional,
-    pub rule: Optional,
+    pub masked: Option<u16>,
+    pub rule: Option<u16>,
 }
 
 // The figures of an 02 line; or those of an 03 line, which also gives the task's cache cost. The id stands last, so that no gap parts them:
@@ -31,7 +24,7 @@ pub struct Task {
     pub cost: u32,
     pub deadline: u32,
     pub period: u32,
-    pub cache: Optional,
+    pub cache: Option<u16>,
     pub id: u8,
 }
 
@@ -85,8 +78,8 @@ impl TaskSet {
                 ctswo: 0,
                 resd: 0,
                 cpmdo: 0,
-                masked: Optional::Absent,
-                rule: Optional::Absent,
+                masked: None,
+                rule: None,
             },
             count: 0,
             tasks: [Task {
@@ -94,7 +87,7 @@ impl TaskSet {
                 cost: 0,
                 deadline: 0,
                 period: 0,
-                cache: Optional::Absent,
+                cache: None,
             }; TaskSet::MOST_TASKS],
             interrupts: Interrupts::none(),
         }
@@ -118,49 +111,29 @@ impl Interrupts {
     }
 }
 
-impl Optional {
-    // The figure, or another where there is none.
-    pub fn given_or(self, other: u16) -> u16
-        ensures { result ≡ given_or self other }
-    {
-        match self {
-            Optional::Given(figure) => figure,
-            Optional::Absent => other,
-        }
-    }
-}
-
 impl Header {
     // B: the ticks for which a job can hold interrupts off.
     pub fn masked_ticks(self) -> u16
         ensures { result ≡ masked_ticks self }
     {
-        let masked = self.masked;
-        masked.given_or(0)
+        self.masked.unwrap_or(0)
     }
 
     // The number of the packing rule.
     pub fn rule_number(self) -> u16
         ensures { result ≡ rule_number self }
     {
-        let rule = self.rule;
-        rule.given_or(0)
+        self.rule.unwrap_or(0)
     }
 
     // The figures of the 01 line, with what the lines behind it give.
-    pub fn with_lines(self, masked: Optional, rule: Optional) -> Header
+    pub fn with_lines(self, masked: Option<u16>, rule: Option<u16>) -> Header
         ensures { result ≡ with_lines self masked rule }
     {
         Header {
-            processors: self.processors,
-            slot: self.slot,
-            relj: self.relj,
-            relo: self.relo,
-            ctswo: self.ctswo,
-            resd: self.resd,
-            cpmdo: self.cpmdo,
             masked,
             rule,
+            ..self
         }
     }
 }
@@ -170,7 +143,6 @@ impl Task {
     pub fn cache_cost(self, header: Header) -> u16
         ensures { result ≡ cache_cost header self }
     {
-        let cache = self.cache;
-        cache.given_or(header.cpmdo)
+        self.cache.unwrap_or(header.cpmdo)
     }
 }

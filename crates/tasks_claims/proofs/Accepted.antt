@@ -1,12 +1,12 @@
 -- An accepted file is a header, a 05 line or none, a 06 line or none, 1 to 64 tasks and up to 32 interrupts, and nothing after them.
+use Rattle.std.specs.Prelude.{Ok}
 use Prim.Native.Nat.{ℕ, zero, suc, ◌≤◌}
 use native.Mathlib.Omega.{arith}
 use mathlib.Core.List.{List, []}
 use mathlib.Core.Bool.{false}
 use mathlib.Core.Path.{◌≡◌, sym, ◌∙◌, ap, subst₂}
 use lib.ListN.{length, drop, length-drop}
-use Rattle.refusals.specs.declared.Outcome.{Outcome}
-use Rattle.refusals.specs.declared.Outcome.TheVariants.{Done}
+use Rattle.refusals.specs.Refused.{Outcome}
 use Rattle.tasks.specs.declared.set.TaskSet.{TaskSet}
 use Rattle.tasks.specs.Set.{set_of, interrupts_with, members, interrupts_in}
 use Rattle.taskfile.specs.File.{past, empty, file_tasks, file_interrupts, file_header, line_outcome}
@@ -20,7 +20,7 @@ use Rattle.tasks.proofs.SetLaws.{members_set, interrupts_set}
 use Rattle.tasks_claims.proofs.Exactly.{read_done, read_outcome_lem, all_clear}
 
 -- the answer of an accepted read holds the file's set
-accepted_set : (text : List ℕ) → (read_of text).outcome ≡ Done → (read_of text).set ≡ file_set text
+accepted_set : (text : List ℕ) → (read_of text).outcome ≡ Ok tt → (read_of text).set ≡ file_set text
 unfolding read_of
 accepted_set text e = ap (λ (o : Outcome). (answer o (file_set text)).set) (sym (read_outcome_lem text) ∙ e)
 

@@ -1,4 +1,5 @@
 -- Each refusal of reading exactly when its row says: the claims of specs/Claims, proved.
+use Rattle.std.specs.Prelude.{Err, Ok}
 use Prim.Native.Nat.{ℕ, zero, suc, pred, ◌+◌, ◌≤◌, ◌<◌}
 use native.Mathlib.Omega.{arith}
 use native.Mathlib.Decide.{dec_lt}
@@ -10,8 +11,7 @@ use Rattle.laws.proofs.Tests.{clash}
 use Rattle.refusals.specs.Refused.{number_of, place_of}
 use Rattle.refusals.specs.declared.Refusal.{Refusal}
 use Rattle.refusals.specs.declared.Refusal.TheVariants.{Line, Order, Count, Twice, Board, Range}
-use Rattle.refusals.specs.declared.Outcome.{Outcome}
-use Rattle.refusals.specs.declared.Outcome.TheVariants.{Done, Refused}
+use Rattle.refusals.specs.Refused.{Outcome}
 use Rattle.tasks.specs.declared.set.Interrupt.{Interrupt}
 use Rattle.tasks.specs.declared.set.Task.{Task}
 use Rattle.tasks.specs.declared.set.TaskSet.{TaskSet}
@@ -34,8 +34,8 @@ use Rattle.tasks_claims.proofs.ReachedLaws.{Ended, ends}
 
 -- the outcome of an answer is what it was made of
 pub answer_outcome : (o : Outcome) (set : TaskSet) → (answer o set).outcome ≡ o
-answer_outcome Done set = refl
-answer_outcome (Refused r) set = refl
+answer_outcome (Ok _) set = refl
+answer_outcome (Err r) set = refl
 
 pub read_outcome_lem : (text : List ℕ) → (read_of text).outcome ≡ read_outcome text
 unfolding read_of
@@ -84,7 +84,7 @@ module _ (b : LineRow → Bool) (k : ℕ) where
   below n f1 f2 f3 f4 TWICE lt = f4 lt
 
   -- a refusal of the four rows is the lowest's
-  lowest : (r : Refusal) (b1 b2 b3 b4 : Bool) → b LINE ≡ b1 → b ORDER ≡ b2 → b COUNT ≡ b3 → b TWICE ≡ b4 → four_rows b1 b2 b3 b4 k ≡ Refused r → (row : LineRow) × (r ≡ refusal_at row k) × Lowest b row k
+  lowest : (r : Refusal) (b1 b2 b3 b4 : Bool) → b LINE ≡ b1 → b ORDER ≡ b2 → b COUNT ≡ b3 → b TWICE ≡ b4 → four_rows b1 b2 b3 b4 k ≡ Err r → (row : LineRow) × (r ≡ refusal_at row k) × Lowest b row k
   lowest r true b2 b3 b4 e1 e2 e3 e4 e =
       (LINE, cc, record { lower = below 1 (λ lt. absurd (omega arith)) (λ lt. absurd (omega arith)) (λ lt. absurd (omega arith)) (λ lt. absurd (omega arith)); holds = e1 })
   lowest r false true b3 b4 e1 e2 e3 e4 e =
@@ -96,11 +96,11 @@ module _ (b : LineRow → Bool) (k : ℕ) where
   lowest r false false false false e1 e2 e3 e4 e = done_refused e
 
 -- a line's refusal is the lowest row's that holds there
-line_lowest : (text : List ℕ) (k : ℕ) (r : Refusal) → line_outcome text k ≡ Refused r → (row : LineRow) × (r ≡ refusal_at row k) × Lowest (λ row. holds_at row text k) row k
+line_lowest : (text : List ℕ) (k : ℕ) (r : Refusal) → line_outcome text k ≡ Err r → (row : LineRow) × (r ≡ refusal_at row k) × Lowest (λ row. holds_at row text k) row k
 unfolding line_outcome
 line_lowest text k r e = lowest (λ row. holds_at row text k) k r (line_row text k) (order_row text k) (count_line_row text k) (twice_line_row text k) refl refl refl refl e
 
-lowest_line : (row : LineRow) (text : List ℕ) (k : ℕ) → Lowest (λ row. holds_at row text k) row k → line_outcome text k ≡ Refused (refusal_at row k)
+lowest_line : (row : LineRow) (text : List ℕ) (k : ℕ) → Lowest (λ row. holds_at row text k) row k → line_outcome text k ≡ Err (refusal_at row k)
 unfolding line_outcome
 lowest_line LINE text k l = rw l.holds
 lowest_line ORDER text k l = rw (l.lower LINE (omega arith), l.holds)
@@ -111,22 +111,22 @@ lowest_line TWICE text k l = rw (l.lower LINE (omega arith), l.lower ORDER (omeg
 outcome_of_lem : (text : List ℕ) (o : Outcome) → (read_of text).outcome ≡ o → read_outcome text ≡ o
 outcome_of_lem text o e = sym (read_outcome_lem text) ∙ e
 
-pub read_done : (text : List ℕ) → (read_of text).outcome ≡ Done → (till (line_outcome text) (length text + 2) ≡ Done) × (figures_outcome (file_set text) ≡ Done)
+pub read_done : (text : List ℕ) → (read_of text).outcome ≡ Ok tt → (till (line_outcome text) (length text + 2) ≡ Ok tt) × (figures_outcome (file_set text) ≡ Ok tt)
 unfolding read_outcome
-read_done text e = first_done (till (line_outcome text) (length text + 2)) (figures_outcome (file_set text)) (outcome_of_lem text Done e)
+read_done text e = first_done (till (line_outcome text) (length text + 2)) (figures_outcome (file_set text)) (outcome_of_lem text (Ok tt) e)
 
 -- a refusal is that of a line, at which it is the lowest row's, or lines are clear and it is rows 5 and 6's
 data Came (text : List ℕ) (r : Refusal) : Type 0 where
-  at_line : (row : LineRow) (j : ℕ) → r ≡ refusal_at row (suc j) → till (line_outcome text) j ≡ Done → Lowest (λ row. holds_at row text (suc j)) row (suc j) → Came text r
-  at_figures : till (line_outcome text) (length text + 2) ≡ Done → figures_outcome (file_set text) ≡ Refused r → Came text r
+  at_line : (row : LineRow) (j : ℕ) → r ≡ refusal_at row (suc j) → till (line_outcome text) j ≡ Ok tt → Lowest (λ row. holds_at row text (suc j)) row (suc j) → Came text r
+  at_figures : till (line_outcome text) (length text + 2) ≡ Ok tt → figures_outcome (file_set text) ≡ Err r → Came text r
 
-came : (text : List ℕ) (r : Refusal) → (read_of text).outcome ≡ Refused r → Came text r
+came : (text : List ℕ) (r : Refusal) → (read_of text).outcome ≡ Err r → Came text r
 unfolding read_outcome
-came text r e = at (till (line_outcome text) (length text + 2)) refl (outcome_of_lem text (Refused r) e)
+came text r e = at (till (line_outcome text) (length text + 2)) refl (outcome_of_lem text (Err r) e)
   where
-    at : (o : Outcome) → till (line_outcome text) (length text + 2) ≡ o → first_of o (figures_outcome (file_set text)) ≡ Refused r → Came text r
-    at Done clear e = at_figures clear e
-    at (Refused q) refused e =
+    at : (o : Outcome) → till (line_outcome text) (length text + 2) ≡ o → first_of o (figures_outcome (file_set text)) ≡ Err r → Came text r
+    at (Ok _) clear e = at_figures clear e
+    at (Err q) refused e =
         let first = found (line_outcome text) (length text + 2) r (refused ∙ e) in
         let low : (row : LineRow) × (r ≡ refusal_at row (suc first.before)) × Lowest (λ row. holds_at row text (suc first.before)) row (suc first.before) = line_lowest text (suc first.before) r first.refuses in
         at_line low.0 first.before low.1 first.clear low.2
@@ -136,18 +136,18 @@ abbrev figures_found : (board : Bool) (task interrupt : ℕ) → Outcome
 figures_found b n i = first_of (when b Board) (first_of (at_task Range n) (at_task range_at i))
 
 -- they give 5 and 6
-figures_number : (set : TaskSet) (r : Refusal) → figures_outcome set ≡ Refused r → (5 ≤ number_of r) × (number_of r ≤ 6)
+figures_number : (set : TaskSet) (r : Refusal) → figures_outcome set ≡ Err r → (5 ≤ number_of r) × (number_of r ≤ 6)
 unfolding figures_outcome
 figures_number set r e = at (board_row set.header) (first_task range_row (members set)) (first_task (interrupt_row set.header.processors) (interrupts_in set)) e
   where
-    at : (b : Bool) (n i : ℕ) → figures_found b n i ≡ Refused r → (5 ≤ number_of r) × (number_of r ≤ 6)
+    at : (b : Bool) (n i : ℕ) → figures_found b n i ≡ Err r → (5 ≤ number_of r) × (number_of r ≤ 6)
     at true n i e = let five : Board ≡ r = cc in subst (λ (r : Refusal). (5 ≤ number_of r) × (number_of r ≤ 6)) five (omega arith)
     at false zero zero e = done_refused e
     at false zero (suc i) e = let six : Range (most_tasks + suc i) ≡ r = cc in subst (λ (r : Refusal). (5 ≤ number_of r) × (number_of r ≤ 6)) six (omega arith)
     at false (suc n) i e = let six : Range (suc n) ≡ r = cc in subst (λ (r : Refusal). (5 ≤ number_of r) × (number_of r ≤ 6)) six (omega arith)
 
 -- lines that are clear up to the end are clear for ever
-pub all_clear : (text : List ℕ) → till (line_outcome text) (length text + 2) ≡ Done → AllClear text
+pub all_clear : (text : List ℕ) → till (line_outcome text) (length text + 2) ≡ Ok tt → AllClear text
 all_clear text clear zero one = absurd (omega arith)
 all_clear text clear (suc j) one =
     elim (dec_lt j (length text + 2)) [
@@ -155,22 +155,22 @@ all_clear text clear (suc j) one =
       | no over ↦ past_end j (omega (arith, over))
     ]
   where
-    past_end : (j : ℕ) → length text + 2 ≤ j → line_outcome text (suc j) ≡ Done
+    past_end : (j : ℕ) → length text + 2 ≤ j → line_outcome text (suc j) ≡ Ok tt
     past_end zero le = absurd (omega arith)
     past_end (suc n) le = absent_done text n (absent_past n text (omega arith))
 
-pub clear_all : (text : List ℕ) → AllClear text → till (line_outcome text) (length text + 2) ≡ Done
+pub clear_all : (text : List ℕ) → AllClear text → till (line_outcome text) (length text + 2) ≡ Ok tt
 clear_all text f = done_till (line_outcome text) (length text + 2) (λ j lt. f (suc j) (omega arith))
 
 -- the lowest row of the first line that is not clear
-first_at_lem : (row : LineRow) (text : List ℕ) (j : ℕ) → till (line_outcome text) j ≡ Done → Lowest (λ row. holds_at row text (suc j)) row (suc j) → FirstAt row text (suc j)
+first_at_lem : (row : LineRow) (text : List ℕ) (j : ℕ) → till (line_outcome text) j ≡ Ok tt → Lowest (λ row. holds_at row text (suc j)) row (suc j) → FirstAt row text (suc j)
 first_at_lem row text j clear low = record { counted = omega arith; clear = before; lower = low.lower; holds = low.holds }
   where
     before : Clear text (suc j)
     before zero one lt = absurd (omega arith)
     before (suc i) one lt = till_done (line_outcome text) j clear i (omega arith)
 
-at_first : (row : LineRow) (text : List ℕ) (k : ℕ) → FirstAt row text k → (read_of text).outcome ≡ Refused (refusal_at row k)
+at_first : (row : LineRow) (text : List ℕ) (k : ℕ) → FirstAt row text k → (read_of text).outcome ≡ Err (refusal_at row k)
 at_first row text zero f = absurd (omega (arith, f.counted))
 at_first row text (suc j) f =
     ap (λ (a : ReadAnswer). a.outcome)
@@ -196,32 +196,32 @@ clear_outcome text clear =
     ap (λ (a : ReadAnswer). a.outcome) (reads_clear text (clear_all text clear)) ∙ answer_outcome (figures_outcome (file_set text)) (file_set text)
 
 -- what a refusal tells of what was found
-board_said : (b : Bool) (n i : ℕ) → figures_found b n i ≡ Refused Board → b ≡ true
+board_said : (b : Bool) (n i : ℕ) → figures_found b n i ≡ Err Board → b ≡ true
 board_said true n i e = refl
 board_said false zero zero e = done_refused e
 board_said false zero (suc i) e = clash (cc)
 board_said false (suc n) i e = clash (cc)
 
-range_said : (b : Bool) (n i k : ℕ) → k ≤ most_tasks → figures_found b n i ≡ Refused (Range k) → (b ≡ false) × (n ≡ k) × (1 ≤ k)
+range_said : (b : Bool) (n i k : ℕ) → k ≤ most_tasks → figures_found b n i ≡ Err (Range k) → (b ≡ false) × (n ≡ k) × (1 ≤ k)
 range_said true n i k few e = clash (cc)
 range_said false zero zero k few e = done_refused e
 range_said false zero (suc i) k few e = let same : most_tasks + suc i ≡ k = cc in absurd (omega (arith, same, few))
 range_said false (suc n) i k few e = let same : suc n ≡ k = cc in (refl, same, omega (arith, same))
 
-interrupt_said : (b : Bool) (n i k : ℕ) → n ≤ most_tasks → 1 ≤ k → figures_found b n i ≡ Refused (Range (most_tasks + k)) → (b ≡ false) × (n ≡ 0) × (i ≡ k)
+interrupt_said : (b : Bool) (n i k : ℕ) → n ≤ most_tasks → 1 ≤ k → figures_found b n i ≡ Err (Range (most_tasks + k)) → (b ≡ false) × (n ≡ 0) × (i ≡ k)
 interrupt_said true n i k few one e = clash (cc)
 interrupt_said false zero zero k few one e = done_refused e
 interrupt_said false zero (suc i) k few one e = let same : most_tasks + suc i ≡ most_tasks + k = cc in (refl, refl, omega (arith, same))
 interrupt_said false (suc n) i k few one e = let same : suc n ≡ most_tasks + k = cc in absurd (omega (arith, same, few, one))
 
-done_said : (b : Bool) (n i : ℕ) → figures_found b n i ≡ Done → (b ≡ false) × (n ≡ 0) × (i ≡ 0)
+done_said : (b : Bool) (n i : ℕ) → figures_found b n i ≡ Ok tt → (b ≡ false) × (n ≡ 0) × (i ≡ 0)
 done_said true n i e = done_refused (sym e)
 done_said false zero zero e = (refl, refl, refl)
 done_said false zero (suc i) e = done_refused (sym e)
 done_said false (suc n) i e = done_refused (sym e)
 
 -- a refusal of rows 5 or 6 comes after all lines
-after_lines : (text : List ℕ) (r : Refusal) → 5 ≤ number_of r → Came text r → AllClear text × (figures_outcome (file_set text) ≡ Refused r)
+after_lines : (text : List ℕ) (r : Refusal) → 5 ≤ number_of r → Came text r → AllClear text × (figures_outcome (file_set text) ≡ Err r)
 after_lines text r five (at_line row j same clear low) =
     absurd (omega (arith, row_below row (suc j), ap number_of same))
 after_lines text r five (at_figures clear e) = (all_clear text clear, e)
@@ -288,7 +288,7 @@ module _ (text : List ℕ) where
       ap₂ (λ (ts : List Task) (is : List Interrupt). figures_found board (first_task range_row ts) (first_task row is))
       (members_set (file_header text) (file_tasks text) (file_interrupts text)) (interrupts_set (file_header text) (file_tasks text) (file_interrupts text))
 
-  refused_said : (r : Refusal) → 5 ≤ number_of r → (read_of text).outcome ≡ Refused r → AllClear text × (figures_found board task interrupt ≡ Refused r)
+  refused_said : (r : Refusal) → 5 ≤ number_of r → (read_of text).outcome ≡ Err r → AllClear text × (figures_found board task interrupt ≡ Err r)
   refused_said r five e = let all = after_lines text r five (came text r e) in (all.0, sym file_figures ∙ all.1)
 
   found_outcome : {b : Bool} {n i : ℕ} → AllClear text → board ≡ b → task ≡ n → interrupt ≡ i → (read_of text).outcome ≡ figures_found b n i
@@ -304,28 +304,28 @@ module _ (text : List ℕ) where
 pub read_exactly_board : ReadExactlyBoard
 read_exactly_board text = (said, answered)
   where
-    said : (read_of text).outcome ≡ Refused Board → AllClear text × (board_row (file_header text) ≡ true)
+    said : (read_of text).outcome ≡ Err Board → AllClear text × (board_row (file_header text) ≡ true)
     said e = let found = refused_said text Board (omega arith) e in (found.0, board_said (board text) (task text) (interrupt text) found.1)
 
-    answered : AllClear text × (board_row (file_header text) ≡ true) → (read_of text).outcome ≡ Refused Board
+    answered : AllClear text × (board_row (file_header text) ≡ true) → (read_of text).outcome ≡ Err Board
     answered h = found_outcome text h.0 h.1 refl refl
 
 -- row 6, with its task
 pub read_exactly_range : ReadExactlyRange
 read_exactly_range text k few = (said, answered)
   where
-    said : (read_of text).outcome ≡ Refused (Range k) → FirstRange text k
+    said : (read_of text).outcome ≡ Err (Range k) → FirstRange text k
     said e =
         let found = refused_said text (Range k) (omega arith) e in
         let told = range_said (board text) (task text) (interrupt text) k few found.1 in
         let first = first_in_lem range_row zero_task (file_tasks text) k told.2 told.1 in
         record { clear = found.0; board = told.0; counted = told.2; within = first.within; holds = first.holds; earlier = first.earlier }
 
-    some : (n : ℕ) → 1 ≤ n → figures_found false n (interrupt text) ≡ Refused (Range n)
+    some : (n : ℕ) → 1 ≤ n → figures_found false n (interrupt text) ≡ Err (Range n)
     some zero one = absurd (omega arith)
     some (suc n) one = refl
 
-    answered : FirstRange text k → (read_of text).outcome ≡ Refused (Range k)
+    answered : FirstRange text k → (read_of text).outcome ≡ Err (Range k)
     answered f =
         let first = in_first range_row zero_task (file_tasks text) k f.counted (record { within = f.within; holds = f.holds; earlier = f.earlier }) in
         found_outcome text f.clear f.board first refl ∙ some k f.counted
@@ -334,7 +334,7 @@ read_exactly_range text k few = (said, answered)
 pub read_exactly_interrupt : ReadExactlyInterrupt
 read_exactly_interrupt text k one = (said, answered)
   where
-    said : (read_of text).outcome ≡ Refused (Range (most_tasks + k)) → FirstInterrupt text k
+    said : (read_of text).outcome ≡ Err (Range (most_tasks + k)) → FirstInterrupt text k
     said e =
         let found = refused_said text (Range (most_tasks + k)) (omega arith) e in
         let told = interrupt_said (board text) (task text) (interrupt text) k (tasks_few text found.0) one found.1 in
@@ -348,11 +348,11 @@ read_exactly_interrupt text k one = (said, answered)
           earlier = first.earlier;
         }
 
-    some : (n : ℕ) → 1 ≤ n → figures_found false 0 n ≡ Refused (Range (most_tasks + n))
+    some : (n : ℕ) → 1 ≤ n → figures_found false 0 n ≡ Err (Range (most_tasks + n))
     some zero one = absurd (omega arith)
     some (suc n) one = refl
 
-    answered : FirstInterrupt text k → (read_of text).outcome ≡ Refused (Range (most_tasks + k))
+    answered : FirstInterrupt text k → (read_of text).outcome ≡ Err (Range (most_tasks + k))
     answered f =
         let first = in_first (row text) zero_interrupt (file_interrupts text) k one (record { within = f.within; holds = f.holds; earlier = f.earlier }) in
         found_outcome text f.clear f.board (zero_first range_row zero_task (file_tasks text) f.tasks) first ∙ some k one
@@ -361,9 +361,9 @@ read_exactly_interrupt text k one = (said, answered)
 pub read_exactly_done : ReadExactlyDone
 read_exactly_done text = (said, answered)
   where
-    said : (read_of text).outcome ≡ Done → NoRow text
+    said : (read_of text).outcome ≡ Ok tt → NoRow text
     said e =
-        let both-done : (till (line_outcome text) (length text + 2) ≡ Done) × (figures_outcome (file_set text) ≡ Done) = read_done text e in
+        let both-done : (till (line_outcome text) (length text + 2) ≡ Ok tt) × (figures_outcome (file_set text) ≡ Ok tt) = read_done text e in
         let told = done_said (board text) (task text) (interrupt text) (sym (file_figures text) ∙ both-done.1) in
         record {
           clear = all_clear text both-done.0;
@@ -372,14 +372,14 @@ read_exactly_done text = (said, answered)
           interrupts = first_zero (row text) zero_interrupt (file_interrupts text) told.2;
         }
 
-    answered : NoRow text → (read_of text).outcome ≡ Done
+    answered : NoRow text → (read_of text).outcome ≡ Ok tt
     answered f =
         found_outcome text f.clear f.board (zero_first range_row zero_task (file_tasks text) f.range) (zero_first (row text) zero_interrupt (file_interrupts text) f.interrupts)
 
 -- the reader's numbers, and the all-zero set
 pub read_refuses : ReadRefuses
 unfolding read_of
-read_refuses text r e = (number (came text r e), ap (λ (o : Outcome). (answer o (file_set text)).set) (outcome_of_lem text (Refused r) e))
+read_refuses text r e = (number (came text r e), ap (λ (o : Outcome). (answer o (file_set text)).set) (outcome_of_lem text (Err r) e))
   where
     number : Came text r → number_of r ≤ 6
     number (at_line row j same clear low) = omega (arith, row_below row (suc j), ap number_of same)

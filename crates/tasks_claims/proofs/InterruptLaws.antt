@@ -1,5 +1,6 @@
 -- The 07 lines of a file: an accepted one's set remembers them in their order; a task behind one is ORDER there, a 33rd COUNT.
 -- Assumes nothing.
+use Rattle.std.specs.Prelude.{Err}
 use Prim.Native.Nat.{ℕ, zero, suc, ◌+◌, ◌-◌, ◌≤◌, ◌<◌}
 use native.Mathlib.Omega.{arith}
 use mathlib.Core.List.{List, [], ◌∷◌}
@@ -11,7 +12,6 @@ use Rattle.frameread.specs.Line.{formed}
 use Rattle.frames.specs.declared.table.Frame.{Frame}
 use Rattle.refusals.specs.declared.Refusal.{Refusal}
 use Rattle.refusals.specs.declared.Refusal.TheVariants.{Order, Count}
-use Rattle.refusals.specs.declared.Outcome.TheVariants.{Refused}
 use Rattle.refusals.proofs.FirstLaws.{done_till}
 use Rattle.tasks.specs.declared.set.Interrupt.{Interrupt}
 use Rattle.tasks.specs.Set.{most_interrupts, zero_interrupt}
@@ -41,7 +41,7 @@ interrupts_remembered text done =
     }
 
 -- a line that is refused behind clear lines answers for the text
-line_answers : (text : List ℕ) (n : ℕ) (r : Refusal) → Clear text (suc n) → line_outcome text (suc n) ≡ Refused r → (read_of text).outcome ≡ Refused r
+line_answers : (text : List ℕ) (n : ℕ) (r : Refusal) → Clear text (suc n) → line_outcome text (suc n) ≡ Err r → (read_of text).outcome ≡ Err r
 line_answers text n r clear e =
     ap (λ (a : ReadAnswer). a.outcome) (reads_refused text n r (done_till (line_outcome text) n (λ j lt. clear (suc j) (omega arith) (omega arith))) e)
 

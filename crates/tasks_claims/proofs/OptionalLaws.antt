@@ -1,6 +1,7 @@
 -- The 05 line and the 06 line of an accepted file: the set remembers them, and no other line is one. And where a file without a task is
 -- refused.
 -- Assumes nothing.
+use Rattle.std.specs.Prelude.{Err, None, Ok, Option, Some}
 use Prim.Native.Nat.{ℕ, zero, suc, pred, ◌≤◌}
 use native.Mathlib.Omega.{arith}
 use mathlib.Core.List.{List, []}
@@ -14,12 +15,9 @@ use Rattle.laws.proofs.Tests.{clash, true_false}
 use Rattle.frameread.specs.Line.{formed, closed, field_of}
 use Rattle.frames.specs.declared.table.Frame.{Frame}
 use Rattle.refusals.specs.declared.Refusal.TheVariants.{Count}
-use Rattle.refusals.specs.declared.Outcome.TheVariants.{Done, Refused}
 use Rattle.refusals.specs.First.{till}
 use Rattle.refusals.proofs.FirstLaws.{done_refused, done_till}
 use Rattle.tasks.specs.declared.set.Header.{Header}
-use Rattle.tasks.specs.declared.set.Optional.{Optional}
-use Rattle.tasks.specs.declared.set.Optional.TheVariants.{Absent, Given}
 use Rattle.taskfile.specs.File.{past, empty, is_header, is_masked, is_rule, given_by, rule_line, line_outcome, opening_lines, tasks_among, file_tasks}
 use Rattle.taskfile.proofs.AmongLaws.{among_all}
 use Rattle.taskfile.proofs.Lines.{pred_one, rule_line_lem, rule_within, opening_lines_lem, first_kind, masked_elsewhere, rule_elsewhere, clear_there, no_task}
@@ -34,30 +32,30 @@ use Rattle.tasks_claims.proofs.Accepted.{read_accepted}
 
 -- what such a line gives tells whether it is there, and its figure
 module _ (kind : Frame) (rest : List ℕ) where
-  given_only : (x : ℕ) → given_by kind rest ≡ Given x → (formed kind rest ≡ true) × (field_of kind 0 rest ≡ x)
+  given_only : (x : ℕ) → given_by kind rest ≡ Some x → (formed kind rest ≡ true) × (field_of kind 0 rest ≡ x)
   given_only x g = by_kind (formed kind rest) refl
     where
       by_kind : (t : Bool) → formed kind rest ≡ t → (formed kind rest ≡ true) × (field_of kind 0 rest ≡ x)
       by_kind true e = let there = given_there kind rest e in (e, (cc))
       by_kind false e = let none = given_absent kind rest e in clash (cc)
 
-  absent_only : given_by kind rest ≡ Absent → formed kind rest ≡ false
+  absent_only : given_by kind rest ≡ None → formed kind rest ≡ false
   absent_only a = by_kind (formed kind rest) refl
     where
       by_kind : (t : Bool) → formed kind rest ≡ t → t ≡ false
       by_kind true e = let there = given_there kind rest e in clash (cc)
       by_kind false e = refl
 
-  remembered : {figure : Optional} → figure ≡ given_by kind rest → Remembered kind rest figure
+  remembered : {figure : Option ℕ} → figure ≡ given_by kind rest → Remembered kind rest figure
   remembered {figure = figure} told =
       record {
         told = told;
         given = λ x. (
-          λ (g : figure ≡ Given x). given_only x (sym told ∙ g),
-          λ (h : (formed kind rest ≡ true) × (field_of kind 0 rest ≡ x)). told ∙ given_there kind rest h.0 ∙ ap Given h.1,
+          λ (g : figure ≡ Some x). given_only x (sym told ∙ g),
+          λ (h : (formed kind rest ≡ true) × (field_of kind 0 rest ≡ x)). told ∙ given_there kind rest h.0 ∙ ap Some h.1,
         );
         absent = (
-          λ (a : figure ≡ Absent). absent_only (sym told ∙ a),
+          λ (a : figure ≡ None). absent_only (sym told ∙ a),
           λ (h : formed kind rest ≡ false). told ∙ given_absent kind rest h,
         );
       }
@@ -106,10 +104,10 @@ rule_only_there text k done one rule = by_kind (formed Frame.Masked (past 1 text
     by_kind false e = inl (here ∙ rule_line_lem text e, refl)
 
 -- a file that ends with the lines before the tasks is COUNT at the line behind them
-ends_opened : (text : List ℕ) (k : ℕ) → Opened text → opening_lines text ≡ suc k → past (suc k) text ≡ [] → (read_of text).outcome ≡ Refused (Count (suc (suc k)))
+ends_opened : (text : List ℕ) (k : ℕ) → Opened text → opening_lines text ≡ suc k → past (suc k) text ≡ [] → (read_of text).outcome ≡ Err (Count (suc (suc k)))
 ends_opened text k header lines end =
     let none : length (file_tasks text) ≡ 0 = ap length (sym (among_all text (suc k) end) ∙ ap (tasks_among text) (sym lines) ∙ among_opening text header) in
-    let clear : till (line_outcome text) (suc k) ≡ Done = ap (till (line_outcome text)) (sym lines) ∙ (taken_opening text header).clear in
+    let clear : till (line_outcome text) (suc k) ≡ (Ok tt) = ap (till (line_outcome text)) (sym lines) ∙ (taken_opening text header).clear in
     ap (λ (a : ReadAnswer). a.outcome) (reads_refused text (suc k) (Count (suc (suc k))) clear (no_task text k (clear_there text k none clear) end none))
 
 -- nothing is no line
@@ -132,6 +130,6 @@ no_task_place text =
     record {
       header = λ h end. ends_opened text 0 (first_opened text h) (none_opening text 1 (rule_line_lem text (ap (formed Frame.Masked) end ∙ nothing_formed Frame.Masked)) end) end;
       masked = λ h m end. ends_opened text 1 (first_opened text h) (none_opening text 2 (rule_line_lem text m) end) end;
-      rule = λ h r end. subst (λ (n : ℕ). opening_lines text ≡ n → past n text ≡ [] → (read_of text).outcome ≡ Refused (Count (suc n))) (pred_one (rule_line text) (omega (arith, rule_within text))) (ends_opened text (pred (rule_line text)) (first_opened text h)) (opening_lines_lem text r) end;
+      rule = λ h r end. subst (λ (n : ℕ). opening_lines text ≡ n → past n text ≡ [] → (read_of text).outcome ≡ Err (Count (suc n))) (pred_one (rule_line text) (omega (arith, rule_within text))) (ends_opened text (pred (rule_line text)) (first_opened text h)) (opening_lines_lem text r) end;
       last = λ k clear there end none. ap (λ (a : ReadAnswer). a.outcome) (reads_refused text (suc k) (Count (suc (suc k))) (done_till (line_outcome text) (suc k) (λ j lt. clear (suc j) (omega arith) (omega arith))) (no_task text k (not-true (empty (past k text)) there) end none));
     }

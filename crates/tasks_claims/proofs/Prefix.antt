@@ -1,4 +1,5 @@
 -- Reading looks no further than a header, a 05 line, a 06 line, 64 tasks, 32 interrupts and one line more: a text cut behind them is answered the same.
+use Rattle.std.specs.Prelude.{Err, Ok}
 use Prim.Native.Nat.{ℕ, zero, suc, pred, ◌+◌, ◌-◌, ◌≤◌, ◌<◌}
 use native.Mathlib.Omega.{arith}
 use native.Mathlib.Decide.{dec_lt}
@@ -13,8 +14,7 @@ use Rattle.frames.specs.Table.{length_of, widths_of, sum, index_of}
 use Rattle.frames.specs.declared.table.Frame.{Frame}
 use Rattle.refusals.specs.declared.Refusal.{Refusal}
 use Rattle.refusals.specs.declared.Refusal.TheVariants.{Count, Twice}
-use Rattle.refusals.specs.declared.Outcome.{Outcome}
-use Rattle.refusals.specs.declared.Outcome.TheVariants.{Done, Refused}
+use Rattle.refusals.specs.Refused.{Outcome}
 use Rattle.frameread.proofs.Formed.{formed_line}
 use Rattle.frames_claims.proofs.LineLaws.{formed_prefix}
 use Rattle.tasks.specs.declared.set.Interrupt.{Interrupt}
@@ -117,8 +117,8 @@ module _ (N : ℕ) (text : List ℕ) (far : furthest ≤ N) (long : N < length t
     rest : past (lines_to text n k) cut ≡ drop (size_of text n k) cut
     tasks : tasks_among cut (lines_to text n k) ≡ tasks_among text (lines_to text n k)
     interrupts : interrupts_among cut (lines_to text n k) ≡ interrupts_among text (lines_to text n k)
-    clear : till (line_outcome text) (lines_to text n k) ≡ Done
-    clear_cut : till (line_outcome cut) (lines_to text n k) ≡ Done
+    clear : till (line_outcome text) (lines_to text n k) ≡ Ok tt
+    clear_cut : till (line_outcome cut) (lines_to text n k) ≡ Ok tt
 
   same_none : Opened text → Same 0 0
   same_none header =
@@ -229,7 +229,7 @@ module _ (N : ℕ) (text : List ℕ) (far : furthest ≤ N) (long : N < length t
             ∙ sym (line_other text lines there (neither (past lines text) eh et eb er ei))
 
     -- one line more is taken in both
-    same_next : (m l : ℕ) (frame : Frame) → Reached text m l → lines_to text m l ≡ suc lines → size_of text m l ≡ at + (length_of frame + 1) → length_of frame + 1 ≤ 31 → formed frame (past lines text) ≡ true → line_outcome text (suc lines) ≡ Done → Same m l
+    same_next : (m l : ℕ) (frame : Frame) → Reached text m l → lines_to text m l ≡ suc lines → size_of text m l ≡ at + (length_of frame + 1) → length_of frame + 1 ≤ 31 → formed frame (past lines text) ≡ true → line_outcome text (suc lines) ≡ Ok tt → Same m l
     unfolding widths_of sum
     same_next m l frame reached on size short here done =
         record {
@@ -245,7 +245,7 @@ module _ (N : ℕ) (text : List ℕ) (far : furthest ≤ N) (long : N < length t
         }
 
   -- both are refused alike
-  both_refused : (n : ℕ) (r : Refusal) → till (line_outcome cut) n ≡ Done → till (line_outcome text) n ≡ Done → line_outcome cut (suc n) ≡ Refused r → line_outcome text (suc n) ≡ Refused r → read_of cut ≡ read_of text
+  both_refused : (n : ℕ) (r : Refusal) → till (line_outcome cut) n ≡ Ok tt → till (line_outcome text) n ≡ Ok tt → line_outcome cut (suc n) ≡ Err r → line_outcome text (suc n) ≡ Err r → read_of cut ≡ read_of text
   both_refused n r c t ec et = reads_refused cut n r c ec ∙ sym (reads_refused text n r t et)
 
   -- a line is refused in both alike, or taken in both
@@ -253,7 +253,7 @@ module _ (N : ℕ) (text : List ℕ) (far : furthest ≤ N) (long : N < length t
   unfolding widths_of sum
   step n k c taken = by_line (line_outcome text (suc (lines_to text n k))) refl
     where
-      next : line_outcome text (suc (lines_to text n k)) ≡ Done → Next text n k → read_of cut ≡ read_of text
+      next : line_outcome text (suc (lines_to text n k)) ≡ Ok tt → Next text n k → read_of cut ≡ read_of text
       next e (task none here more) =
           let rest = past (lines_to text n k) text in
           taken (suc n) k
@@ -262,8 +262,8 @@ module _ (N : ℕ) (text : List ℕ) (far : furthest ≤ N) (long : N < length t
       next e (interrupt here more) = taken n (suc k) (same_next n k c n (suc k) Frame.Interrupt more refl refl (omega arith) here e) (omega arith)
 
       by_line : (o : Outcome) → line_outcome text (suc (lines_to text n k)) ≡ o → read_of cut ≡ read_of text
-      by_line (Refused r) e = both_refused (lines_to text n k) r c.clear_cut c.clear (same_line n k c ∙ e) e
-      by_line Done e = next e (reached_next text n k c.reached (there n k c) e)
+      by_line (Err r) e = both_refused (lines_to text n k) r c.clear_cut c.clear (same_line n k c ∙ e) e
+      by_line (Ok _) e = next e (reached_next text n k c.reached (there n k c) e)
 
   -- in a text as long as that a line is refused, and the front's answer is the text's
   going : (fuel n k : ℕ) → most_tasks + most_interrupts ≤ n + k + fuel → Same n k → read_of cut ≡ read_of text
@@ -308,8 +308,8 @@ module _ (N : ℕ) (text : List ℕ) (far : furthest ≤ N) (long : N < length t
   long_prefix = at_first (line_outcome text 1) refl
     where
       at_first : (o : Outcome) → line_outcome text 1 ≡ o → read_of cut ≡ read_of text
-      at_first (Refused r) e = both_refused 0 r refl refl (same_first ∙ e) e
-      at_first Done e = going (most_tasks + most_interrupts) 0 0 (omega arith) (same_none (clear_header text e))
+      at_first (Err r) e = both_refused 0 r refl refl (same_first ∙ e) e
+      at_first (Ok _) e = going (most_tasks + most_interrupts) 0 0 (omega arith) (same_none (clear_header text e))
 
 -- reading looks no further than that
 pub read_looks_at : ReadLooksAt

@@ -1,5 +1,6 @@
 -- Which lines of a file are taken, as long as each is clear: tasks, then interrupts, to the end of the text.
 -- Assumes nothing.
+use Rattle.std.specs.Prelude.{Ok}
 use Prim.Native.Nat.{ℕ, zero, suc, ◌+◌, ◌≤◌}
 use native.Mathlib.Omega.{arith}
 use mathlib.Core.List.{List, [], ◌∷◌}
@@ -9,7 +10,6 @@ use mathlib.Core.Path.{◌≡◌, refl, ap, subst}
 use lib.ListN.{length}
 use Rattle.frameread.specs.Line.{formed}
 use Rattle.frames.specs.declared.table.Frame.{Frame}
-use Rattle.refusals.specs.declared.Outcome.TheVariants.{Done}
 use Rattle.tasks.specs.Set.{most_tasks, most_interrupts}
 use Rattle.taskfile.specs.File.{past, empty, line_outcome, opening_lines, task_formed, tasks_among, interrupts_among}
 use Rattle.taskfile.proofs.Lines.{clear_header, clear_kind, clear_none, clear_room, clear_fewer}
@@ -28,7 +28,7 @@ pub data Next (text : List ℕ) (n k : ℕ) : Type 0 where
   task : k ≡ 0 → task_formed (past (lines_to text n k) text) ≡ true → Reached text (suc n) k → Next text n k
   interrupt : formed Frame.Interrupt (past (lines_to text n k) text) ≡ true → Reached text n (suc k) → Next text n k
 
-pub reached_next : (text : List ℕ) (n k : ℕ) → Reached text n k → empty (past (lines_to text n k) text) ≡ false → line_outcome text (suc (lines_to text n k)) ≡ Done → Next text n k
+pub reached_next : (text : List ℕ) (n k : ℕ) → Reached text n k → empty (past (lines_to text n k) text) ≡ false → line_outcome text (suc (lines_to text n k)) ≡ Ok tt → Next text n k
 reached_next text n k r there clear = ⊎_elim as_task as_interrupt (clear_kind text (lines_to text n k) (lines_opened text n k) there clear)
   where
     s : Shaped text n k
@@ -72,7 +72,7 @@ pub lines_most : (text : List ℕ) (n k : ℕ) → Reached text n k → lines_to
 lines_most text n k r = omega (arith, lines_in text n k, opening_few text, r.most, r.few)
 
 -- a text whose first 100 lines are clear ends among them
-module _ (text : List ℕ) (clear : (j : ℕ) → 1 ≤ j → j ≤ 100 → line_outcome text j ≡ Done) where
+module _ (text : List ℕ) (clear : (j : ℕ) → 1 ≤ j → j ≤ 100 → line_outcome text j ≡ Ok tt) where
   step : (n k : ℕ) → Reached text n k → ((m l : ℕ) → Reached text m l → m + l ≡ suc (n + k) → Ended text) → (rest : List ℕ) → past (lines_to text n k) text ≡ rest → Ended text
   step n k r more [] e = record { tasks = n; interrupts = k; reached = r; ended = e }
   step n k r more (b ∷ bs) e = by_kind (reached_next text n k r (ap empty e) (clear (suc (lines_to text n k)) (omega arith) (omega (arith, lines_most text n k r))))

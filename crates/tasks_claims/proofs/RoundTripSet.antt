@@ -1,5 +1,6 @@
 -- A set that can be written, read again, is the same set: its text has the shape of a file, and each line gives its figures back.
 -- Assumes nothing.
+use Rattle.std.specs.Prelude.{None, Ok, Option, Some}
 use Prim.Native.Nat.{ℕ, zero, suc, pred, ◌+◌, ◌-◌, ◌≤◌, ◌<◌}
 use mathlib.Core.Path.{◌≡◌, refl, sym, ◌∙◌, ap, ap₂}
 use mathlib.Core.Bool.{Bool, true, false, cond}
@@ -18,11 +19,8 @@ use Rattle.framelines.specs.Each.{each_line}
 use Rattle.framelines.proofs.EachLaws.{each_nil, each_cons}
 use Rattle.frames.specs.declared.table.Frame.{Frame}
 use Rattle.refusals.specs.declared.Refusal.TheVariants.{Count, Twice}
-use Rattle.refusals.specs.declared.Outcome.{Outcome}
-use Rattle.refusals.specs.declared.Outcome.TheVariants.{Done}
+use Rattle.refusals.specs.Refused.{Outcome}
 use Rattle.frames_claims.proofs.LineLaws.{line_formed, line_after, field_line}
-use Rattle.tasks.specs.declared.set.Optional.{Optional}
-use Rattle.tasks.specs.declared.set.Optional.TheVariants.{Absent, Given}
 use Rattle.tasks.specs.declared.set.Header.{Header}
 use Rattle.tasks.specs.declared.set.Interrupt.{Interrupt}
 use Rattle.tasks.specs.declared.set.Task.{Task}
@@ -94,20 +92,20 @@ interrupt_back x rest o =
 -- ---- the line of a task, which has a cache cost of its own or none
 
 -- it is a task's, of the kind that the task remembers, and has the fields of 02 at least
-frame_task : (cache : Optional) (text : List ℕ) → formed (frame_by cache) text ≡ true → (task_formed text ≡ true) × (task_kind text ≡ frame_by cache)
-frame_task Absent text f = (task_plain text f, kind_plain text f)
-frame_task (Given cost) text f = (task_cached text f, kind_cached text f)
+frame_task : (cache : Option ℕ) (text : List ℕ) → formed (frame_by cache) text ≡ true → (task_formed text ≡ true) × (task_kind text ≡ frame_by cache)
+frame_task None text f = (task_plain text f, kind_plain text f)
+frame_task (Some cost) text f = (task_cached text f, kind_cached text f)
 
-frame_fields : (cache : Optional) → 4 ≤ fields_in (frame_by cache)
+frame_fields : (cache : Option ℕ) → 4 ≤ fields_in (frame_by cache)
 unfolding widths_of
-frame_fields Absent = omega arith
-frame_fields (Given cost) = omega arith
+frame_fields None = omega arith
+frame_fields (Some cost) = omega arith
 
 -- the cost comes back from the last field of an 03 line
-frame_cache : (cache : Optional) (text : List ℕ) → formed (frame_by cache) text ≡ true → (4 < fields_in (frame_by cache) → field_of (frame_by cache) 4 text ≡ given_or cache 0) → cache_at text ≡ cache
+frame_cache : (cache : Option ℕ) (text : List ℕ) → formed (frame_by cache) text ≡ true → (4 < fields_in (frame_by cache) → field_of (frame_by cache) 4 text ≡ given_or cache 0) → cache_at text ≡ cache
 unfolding widths_of
-frame_cache Absent text f back = cache_absent text (not_formed Frame.Task Frame.Cached refl text f)
-frame_cache (Given cost) text f back = cache_given text f ∙ ap Given (back (omega arith))
+frame_cache None text f back = cache_absent text (not_formed Frame.Task Frame.Cached refl text f)
+frame_cache (Some cost) text f back = cache_given text f ∙ ap Some (back (omega arith))
 
 module _ (t : Task) (rest : List ℕ) where
   abbrev line : List ℕ
@@ -211,35 +209,35 @@ each_apart {line = line} lined other apart (x ∷ xs) rest none =
 -- of a text that has such a line of a set's figure, or where the set has none the rest at once: behind it stands the rest, and what it
 -- gives is what the set has
 module _ (kind : Frame) (text : List ℕ) (k : ℕ) (rest : List ℕ) (apart : formed kind rest ≡ false) where
-  none_at : past k text ≡ optional_line kind Absent ++ rest → past k text ≡ rest
+  none_at : past k text ≡ optional_line kind None ++ rest → past k text ≡ rest
   none_at e = e ∙ ap (λ (l : List ℕ). l ++ rest) (optional_none kind refl)
 
-  none_there : past k text ≡ optional_line kind Absent ++ rest → formed kind (past k text) ≡ false
+  none_there : past k text ≡ optional_line kind None ++ rest → formed kind (past k text) ≡ false
   none_there e = ap (formed kind) (none_at e) ∙ apart
 
-  module _ (x : ℕ) (e : past k text ≡ optional_line kind (Given x) ++ rest) where
+  module _ (x : ℕ) (e : past k text ≡ optional_line kind (Some x) ++ rest) where
     line_at : past k text ≡ line_of kind (x ∷ []) ++ rest
     line_at = e ∙ ap (λ (l : List ℕ). l ++ rest) (optional_given kind refl)
 
     line_there : formed kind (past k text) ≡ true
     line_there = ap (formed kind) line_at ∙ line_formed kind (x ∷ []) rest
 
-  past_optional : (figure : Optional) → past k text ≡ optional_line kind figure ++ rest → past (cond (formed kind (past k text)) (suc k) k) text ≡ rest
-  past_optional Absent e = ap (λ (b : Bool). past (cond b (suc k) k) text) (none_there e) ∙ none_at e
-  past_optional (Given x) e =
+  past_optional : (figure : Option ℕ) → past k text ≡ optional_line kind figure ++ rest → past (cond (formed kind (past k text)) (suc k) k) text ≡ rest
+  past_optional None e = ap (λ (b : Bool). past (cond b (suc k) k) text) (none_there e) ∙ none_at e
+  past_optional (Some x) e =
       ap (λ (b : Bool). past (cond b (suc k) k) text) (line_there x e)
       ∙ past_next text k ∙ ap after (line_at x e) ∙ line_after kind (x ∷ []) rest
 
-  optional_back : 0 < fields_in kind → (figure : Optional) → past k text ≡ optional_line kind figure ++ rest → optional_overflows kind figure ≡ false → given_by kind (past k text) ≡ figure
-  optional_back some Absent e o = given_absent kind (past k text) (none_there e)
-  optional_back some (Given x) e o =
+  optional_back : 0 < fields_in kind → (figure : Option ℕ) → past k text ≡ optional_line kind figure ++ rest → optional_overflows kind figure ≡ false → given_by kind (past k text) ≡ figure
+  optional_back some None e o = given_absent kind (past k text) (none_there e)
+  optional_back some (Some x) e o =
       given_there kind (past k text) (line_there x e)
-      ∙ ap Given (ap (field_of kind 0) (line_at x e) ∙ field_line kind (x ∷ []) rest 0 (optional_fits kind x o 0 some))
+      ∙ ap Some (ap (field_of kind 0) (line_at x e) ∙ field_line kind (x ∷ []) rest 0 (optional_fits kind x o 0 some))
 
 -- it is no line of another kind, if what follows is not
-optional_apart : (kind other : Frame) → eqb (index_of kind) (index_of other) ≡ false → (figure : Optional) (rest : List ℕ) → formed other rest ≡ false → formed other (optional_line kind figure ++ rest) ≡ false
-optional_apart kind other differ Absent rest none = ap (λ (l : List ℕ). formed other (l ++ rest)) (optional_none kind refl) ∙ none
-optional_apart kind other differ (Given x) rest none =
+optional_apart : (kind other : Frame) → eqb (index_of kind) (index_of other) ≡ false → (figure : Option ℕ) (rest : List ℕ) → formed other rest ≡ false → formed other (optional_line kind figure ++ rest) ≡ false
+optional_apart kind other differ None rest none = ap (λ (l : List ℕ). formed other (l ++ rest)) (optional_none kind refl) ∙ none
+optional_apart kind other differ (Some x) rest none =
     ap (λ (l : List ℕ). formed other (l ++ rest)) (optional_given kind refl)
     ∙ not_formed kind other differ (line_of kind (x ∷ []) ++ rest) (line_formed kind (x ∷ []) rest)
 
@@ -316,7 +314,7 @@ module _ (set : TaskSet) where
 
     -- each of its lines is clear
     module _ (most : length ts ≤ most_tasks) (few : length is ≤ most_interrupts) where
-      task_clear : (i : ℕ) → i < length ts → line_outcome text (suc (lines_to text i 0)) ≡ Done
+      task_clear : (i : ℕ) → i < length ts → line_outcome text (suc (lines_to text i 0)) ≡ Ok tt
       task_clear i h =
           let k = lines_to text i 0 in
           let none : interrupts_among text k ≡ [] = run_other task_formed text (opening_lines text) (formed Frame.Interrupt) interrupt_at task_no_interrupt i (run_less task_formed text (opening_lines text) i (length ts) (omega arith) shaped.tasks) ∙ none_opening text shaped.opened in
@@ -327,22 +325,22 @@ module _ (set : TaskSet) where
           later_task text k (lines_some text i 0) none (shaped.tasks i h)
           ∙ ap₂ (λ (a b : Bool). first_of (when a (Count (suc k))) (when b (Twice (suc k)))) room seen
 
-      interrupt_clear : (i : ℕ) → i < length is → line_outcome text (suc (lines_to text (length ts) i)) ≡ Done
+      interrupt_clear : (i : ℕ) → i < length is → line_outcome text (suc (lines_to text (length ts) i)) ≡ Ok tt
       interrupt_clear i h =
           let k = lines_to text (length ts) i in
           let count : length (interrupts_among text k) ≡ i = ap length (interrupts_back i (omega arith)) ∙ length-take-le i is (omega arith) in
           let room : eqb (length (interrupts_among text k)) most_interrupts ≡ false = ne_eqb (length (interrupts_among text k)) most_interrupts (λ (e : length (interrupts_among text k) ≡ most_interrupts). omega (arith, count)) in
           later_interrupt text k (lines_some text (length ts) i) (shaped.interrupts i h) ∙ ap (λ (b : Bool). when b (Count (suc k))) room
 
-      tasks_clear : (i : ℕ) → i ≤ length ts → till (line_outcome text) (lines_to text i 0) ≡ Done
+      tasks_clear : (i : ℕ) → i ≤ length ts → till (line_outcome text) (lines_to text i 0) ≡ Ok tt
       tasks_clear zero h = (taken_opening text shaped.opened).clear
       tasks_clear (suc i) h = till_suc (line_outcome text) (lines_to text i 0) ∙ rw (tasks_clear i (omega arith)) (task_clear i h)
 
-      lines_clear : (i : ℕ) → i ≤ length is → till (line_outcome text) (lines_to text (length ts) i) ≡ Done
+      lines_clear : (i : ℕ) → i ≤ length is → till (line_outcome text) (lines_to text (length ts) i) ≡ Ok tt
       lines_clear zero h = tasks_clear (length ts) (omega arith)
       lines_clear (suc i) h = till_suc (line_outcome text) (lines_to text (length ts) i) ∙ rw (lines_clear i (omega arith)) (interrupt_clear i h)
 
-      all_clear : 1 ≤ length ts → till (line_outcome text) (length text + 2) ≡ Done
+      all_clear : 1 ≤ length ts → till (line_outcome text) (length text + 2) ≡ Ok tt
       all_clear any =
           let n = lines_to text (length ts) (length is) in
           let lines : n ≡ suc (n - 1) = omega (arith, lines_some text (length ts) (length is)) in
@@ -378,7 +376,7 @@ module _ (set : TaskSet) where
     file_back = λ i. set_of (header_text i) (tasks_text i) (interrupts_text i)
 
     -- rows 5 and 6 let it pass
-    figures_pass : figures_outcome (set_of set.header ts is) ≡ Done
+    figures_pass : figures_outcome (set_of set.header ts is) ≡ Ok tt
     unfolding set_of
     figures_pass =
         let new = set_of set.header ts is in
@@ -418,4 +416,4 @@ all_places_lem set e most few =
 pub read_written_same : ReadWrittenSame
 read_written_same set e ok =
     let counts = ask_count set (writer_ask set ok) in
-    read_written set (all_places_lem set e (count_within set counts).1 (interrupts_within set counts)) ok ∙ ap (answer Done) (sym e)
+    read_written set (all_places_lem set e (count_within set counts).1 (interrupts_within set counts)) ok ∙ ap (answer (Ok tt)) (sym e)

@@ -1,5 +1,6 @@
 -- A file that is accepted can be written again, and has the same bytes: each of its lines is the line of its own figures.
 -- Assumes nothing.
+use Rattle.std.specs.Prelude.{None, Ok, Option, Some}
 use Prim.Native.Nat.{ℕ, zero, suc, pred, ◌^◌, ◌≤◌, ◌<◌}
 use mathlib.Core.Path.{◌≡◌, refl, sym, ◌∙◌, ap, ap₂}
 use mathlib.Core.Bool.{Bool, true, false, cond}
@@ -18,13 +19,10 @@ use Rattle.framelines.proofs.EachLaws.{each_nil, each_one, each_append}
 use Rattle.framesizes.specs.Overflow.{line_overflows, some_too_large}
 use Rattle.frames.specs.declared.table.Frame.{Frame}
 use Rattle.refusals.specs.declared.Refusal.TheVariants.{Count, Twice}
-use Rattle.refusals.specs.declared.Outcome.TheVariants.{Done}
 use Rattle.frameread.proofs.Formed.{field_below}
 use Rattle.frameread.proofs.KindLaws.{not_formed}
 use Rattle.frames_claims.specs.Values.{fields_from, fields_of}
 use Rattle.frames_claims.proofs.LineLaws.{line_fields}
-use Rattle.tasks.specs.declared.set.Optional.{Optional}
-use Rattle.tasks.specs.declared.set.Optional.TheVariants.{Absent, Given}
 use Rattle.tasks.specs.declared.set.Header.{Header}
 use Rattle.tasks.specs.declared.set.Interrupt.{Interrupt}
 use Rattle.tasks.specs.declared.set.Task.{Task}
@@ -179,7 +177,7 @@ optional_fits : (kind : Frame) (rest : List ℕ) → optional_overflows kind (gi
 unfolding optional_overflows line_overflows
 optional_fits kind rest = by_kind (formed kind rest) refl
   where
-    by_kind : (b : Bool) → formed kind rest ≡ b → optional_overflows kind (cond b (Given (field_of kind 0 rest)) Absent) ≡ false
+    by_kind : (b : Bool) → formed kind rest ≡ b → optional_overflows kind (cond b (Some (field_of kind 0 rest)) None) ≡ false
     by_kind true e = figure_fits (widths_of kind) (field_of kind 0 rest) (field_below kind rest e 0)
     by_kind false e = refl
 
@@ -211,13 +209,13 @@ unfolding task_formed
 task_fits rest f = ⊎_elim (plain_fits rest) (cached_fits rest) (or_either (formed Frame.Task rest) (formed Frame.Cached rest) f)
 
 -- a task's line that is clear has an id that none before it has
-id_new : (text : List ℕ) (k : ℕ) → 1 ≤ k → task_formed (past k text) ≡ true → line_outcome text (suc k) ≡ Done → some (has_id (task_at (past k text)).id) (tasks_among text k) ≡ false
+id_new : (text : List ℕ) (k : ℕ) → 1 ≤ k → task_formed (past k text) ≡ true → line_outcome text (suc k) ≡ Ok tt → some (has_id (task_at (past k text)).id) (tasks_among text k) ≡ false
 id_new text k one task clear =
     let b = some (has_id (task_at (past k text)).id) (tasks_among text k) in
     when_done b (Twice (suc k))
     (first_done (when (eqb (length (tasks_among text k)) most_tasks) (Count (suc k))) (when b (Twice (suc k))) (sym (later_task text k one (clear_none text k one task clear) task) ∙ clear)).1
 
-ids_new : (text : List ℕ) (i : ℕ) → Opened text → Run task_formed text (opening_lines text) i → ((j : ℕ) → 1 ≤ j → line_outcome text j ≡ Done) → twice_row (tasks_among text (lines_to text i 0)) ≡ false
+ids_new : (text : List ℕ) (i : ℕ) → Opened text → Run task_formed text (opening_lines text) i → ((j : ℕ) → 1 ≤ j → line_outcome text j ≡ Ok tt) → twice_row (tasks_among text (lines_to text i 0)) ≡ false
 ids_new text zero opened run clear = ap twice_row (among_opening text opened) ∙ twice_nil
 ids_new text (suc i) opened run clear =
     let k = lines_to text i 0 in
@@ -260,7 +258,7 @@ module _ (text : List ℕ) (taken : AcceptedFile text) (none : NoRow text) where
   same =
       let tail = task_lines (file_tasks text) ++ interrupt_lines (file_interrupts text) in
       (λ i. line_of Frame.Header (header_values (taken.header i)) ++ (optional_line Frame.Masked (taken.header i).masked ++ (optional_line Frame.Rule (taken.header i).rule ++ (task_lines (taken.tasks i) ++ interrupt_lines (taken.interrupts i)))))
-      ∙ ap₂ (λ (m r : Optional). line_of Frame.Header (header_values (file_header text)) ++ (optional_line Frame.Masked m ++ (optional_line Frame.Rule r ++ tail))) (file_masked text) (file_rule text)
+      ∙ ap₂ (λ (m r : Option ℕ). line_of Frame.Header (header_values (file_header text)) ++ (optional_line Frame.Masked m ++ (optional_line Frame.Rule r ++ tail))) (file_masked text) (file_rule text)
       ∙ text_again text (tasks_in text) (interrupt_count text) s taken.ended
 
 pub written_read : WrittenRead

@@ -1,5 +1,6 @@
 -- Laws of a file's shape: the lines before the tasks, so many tasks and so many interrupts, where they end, and what they hold.
 -- Assumes nothing.
+use Rattle.std.specs.Prelude.{None, Some}
 use Prim.Native.Nat.{ℕ, suc, pred, ◌+◌, ◌*◌, ◌≤◌}
 use native.Mathlib.Omega.{arith}
 use mathlib.Core.List.{List, []}
@@ -9,7 +10,6 @@ use lib.ListN.{length, drop}
 use Rattle.frameread.specs.Line.{after, formed, field_of}
 use Rattle.frames.specs.Table.{length_of}
 use Rattle.frames.specs.declared.table.Frame.{Frame}
-use Rattle.tasks.specs.declared.set.Optional.TheVariants.{Absent, Given}
 use Rattle.taskfile.specs.File.{past, given_by, bytes_by, masked_at, rule_line, rule_at, file_header, opening_lines, opening_bytes, tasks_among, interrupts_among, task_formed, task_kind, task_at, interrupt_at}
 use Rattle.taskfile.proofs.AmongLaws.{among_all, all_interrupts}
 use Rattle.taskfile.proofs.TaskLaws.{task_formed_lem, kind_most}
@@ -41,10 +41,10 @@ unfolding opening_bytes
 opening_most text = omega (arith, optional_most Frame.Masked (past 1 text), optional_most Frame.Rule (past (pred (rule_line text)) text))
 
 -- what a line that may be there gives, by whether it is there
-pub given_there : (kind : Frame) (rest : List ℕ) → formed kind rest ≡ true → given_by kind rest ≡ Given (field_of kind 0 rest)
+pub given_there : (kind : Frame) (rest : List ℕ) → formed kind rest ≡ true → given_by kind rest ≡ Some (field_of kind 0 rest)
 given_there kind rest e = rw e
 
-pub given_absent : (kind : Frame) (rest : List ℕ) → formed kind rest ≡ false → given_by kind rest ≡ Absent
+pub given_absent : (kind : Frame) (rest : List ℕ) → formed kind rest ≡ false → given_by kind rest ≡ None
 given_absent kind rest e = rw e
 
 -- and the board's figures have it

@@ -1,5 +1,6 @@
 -- The tasks' lines of an accepted file: its set remembers them in their order, and of which kind each is.
 -- Assumes nothing.
+use Rattle.std.specs.Prelude.{None, Some}
 use Prim.Native.Nat.{ℕ}
 use mathlib.Core.Bool.{Bool, true, false}
 use mathlib.Core.List.{List}
@@ -10,7 +11,6 @@ use Rattle.laws.proofs.Tests.{clash, or_either}
 use Rattle.frameread.specs.Line.{formed, field_of}
 use Rattle.frameread.proofs.KindLaws.{not_formed}
 use Rattle.frames.specs.declared.table.Frame.{Frame}
-use Rattle.tasks.specs.declared.set.Optional.TheVariants.{Absent, Given}
 use Rattle.tasks.specs.declared.set.Task.{Task}
 use Rattle.tasks.specs.Set.{zero_task}
 use Rattle.taskfile.specs.File.{opening_lines, task_formed, cache_at, task_at}
@@ -24,14 +24,14 @@ use Rattle.tasks_claims.proofs.Accepted.{read_accepted}
 
 module _ (rest : List ℕ) (task : task_formed rest ≡ true) where
   -- what a task's line gives tells of which kind it is, and an 03 line's figure
-  given_only : (cost : ℕ) → cache_at rest ≡ Given cost → (formed Frame.Cached rest ≡ true) × (field_of Frame.Cached 4 rest ≡ cost)
+  given_only : (cost : ℕ) → cache_at rest ≡ Some cost → (formed Frame.Cached rest ≡ true) × (field_of Frame.Cached 4 rest ≡ cost)
   given_only cost g = by_kind (formed Frame.Cached rest) refl
     where
       by_kind : (b : Bool) → formed Frame.Cached rest ≡ b → (formed Frame.Cached rest ≡ true) × (field_of Frame.Cached 4 rest ≡ cost)
       by_kind true e = let there = cache_given rest e in (e, (cc))
       by_kind false e = let none = cache_absent rest e in clash (cc)
 
-  absent_only : cache_at rest ≡ Absent → formed Frame.Task rest ≡ true
+  absent_only : cache_at rest ≡ None → formed Frame.Task rest ≡ true
   unfolding task_formed
   absent_only a =
       ⊎_elim
@@ -47,11 +47,11 @@ module _ (rest : List ℕ) (task : task_formed rest ≡ true) where
         line = task;
         figures = e;
         given = λ cost. (
-          λ (g : t.cache ≡ Given cost). given_only cost (sym told ∙ g),
-          λ (h : (formed Frame.Cached rest ≡ true) × (field_of Frame.Cached 4 rest ≡ cost)). told ∙ cache_given rest h.0 ∙ ap Given h.1,
+          λ (g : t.cache ≡ Some cost). given_only cost (sym told ∙ g),
+          λ (h : (formed Frame.Cached rest ≡ true) × (field_of Frame.Cached 4 rest ≡ cost)). told ∙ cache_given rest h.0 ∙ ap Some h.1,
         );
         absent = (
-          λ (a : t.cache ≡ Absent). absent_only (sym told ∙ a),
+          λ (a : t.cache ≡ None). absent_only (sym told ∙ a),
           λ (f : formed Frame.Task rest ≡ true). told ∙ cache_absent rest (not_formed Frame.Task Frame.Cached refl rest f),
         );
       }

@@ -1,5 +1,6 @@
 -- The writer's answer exactly when its rows say, what the buffer then holds, and that both are determined.
 -- Assumes nothing.
+use Rattle.std.specs.Prelude.{Err, Ok}
 use Prim.Native.Nat.{ℕ, ◌+◌, ◌≤◌, ◌<◌}
 use mathlib.Core.Path.{◌≡◌, refl, sym, ◌∙◌, ap}
 use mathlib.Core.Logic.{◌⊎◌, inl, inr}
@@ -14,8 +15,7 @@ use Rattle.laws.proofs.Tests.{clash}
 use Rattle.digits.specs.Stored.{stored}
 use Rattle.refusals.specs.declared.Refusal.{Refusal}
 use Rattle.refusals.specs.declared.Refusal.TheVariants.{Ask, Room}
-use Rattle.refusals.specs.declared.Written.{Written}
-use Rattle.refusals.specs.declared.Written.TheVariants.{Bytes, Refused}
+use Rattle.refusals.specs.Refused.{Written}
 use Rattle.digits.proofs.Stored.{stored_length}
 use Rattle.tasks.specs.declared.set.TaskSet.{TaskSet}
 use Rattle.tasktext.specs.Text.{text_of}
@@ -42,25 +42,25 @@ which set before = row (writer_asks set) refl
     row false e = room (ltb (length before) (length (text_of set))) refl e
 
 module _ (set : TaskSet) (before : List ℕ) where
-  ask_only : Case set before → write_of set before ≡ Refused Ask → writer_asks set ≡ true
+  ask_only : Case set before → write_of set before ≡ Err Ask → writer_asks set ≡ true
   ask_only (asked p) e = p
-  ask_only (short p h) e = let f : write_of set before ≡ Refused Room = write_room set before p h in clash (cc)
-  ask_only (fits p h) e = let f : write_of set before ≡ Bytes (length (text_of set)) = write_bytes set before p h in clash (cc)
+  ask_only (short p h) e = let f : write_of set before ≡ Err Room = write_room set before p h in clash (cc)
+  ask_only (fits p h) e = let f : write_of set before ≡ Ok (length (text_of set)) = write_bytes set before p h in clash (cc)
 
-  room_only : Case set before → write_of set before ≡ Refused Room → (writer_asks set ≡ false) × (length before < length (text_of set))
-  room_only (asked p) e = let f : write_of set before ≡ Refused Ask = write_ask set before p in clash (cc)
+  room_only : Case set before → write_of set before ≡ Err Room → (writer_asks set ≡ false) × (length before < length (text_of set))
+  room_only (asked p) e = let f : write_of set before ≡ Err Ask = write_ask set before p in clash (cc)
   room_only (short p h) e = (p, h)
-  room_only (fits p h) e = let f : write_of set before ≡ Bytes (length (text_of set)) = write_bytes set before p h in clash (cc)
+  room_only (fits p h) e = let f : write_of set before ≡ Ok (length (text_of set)) = write_bytes set before p h in clash (cc)
 
-  bytes_only : (n : ℕ) → Case set before → write_of set before ≡ Bytes n → (writer_asks set ≡ false) × ((length (text_of set) ≤ length before) × (n ≡ length (text_of set)))
-  bytes_only n (asked p) e = let f : write_of set before ≡ Refused Ask = write_ask set before p in clash (cc)
-  bytes_only n (short p h) e = let f : write_of set before ≡ Refused Room = write_room set before p h in clash (cc)
-  bytes_only n (fits p h) e = let f : write_of set before ≡ Bytes (length (text_of set)) = write_bytes set before p h in (p, (h, (cc)))
+  bytes_only : (n : ℕ) → Case set before → write_of set before ≡ Ok n → (writer_asks set ≡ false) × ((length (text_of set) ≤ length before) × (n ≡ length (text_of set)))
+  bytes_only n (asked p) e = let f : write_of set before ≡ Err Ask = write_ask set before p in clash (cc)
+  bytes_only n (short p h) e = let f : write_of set before ≡ Err Room = write_room set before p h in clash (cc)
+  bytes_only n (fits p h) e = let f : write_of set before ≡ Ok (length (text_of set)) = write_bytes set before p h in (p, (h, (cc)))
 
-  others_none : Case set before → (r : Refusal) → write_of set before ≡ Refused r → (r ≡ Ask) ⊎ (r ≡ Room)
-  others_none (asked p) r e = let f : write_of set before ≡ Refused Ask = write_ask set before p in inl (cc)
-  others_none (short p h) r e = let f : write_of set before ≡ Refused Room = write_room set before p h in inr (cc)
-  others_none (fits p h) r e = let f : write_of set before ≡ Bytes (length (text_of set)) = write_bytes set before p h in clash (cc)
+  others_none : Case set before → (r : Refusal) → write_of set before ≡ Err r → (r ≡ Ask) ⊎ (r ≡ Room)
+  others_none (asked p) r e = let f : write_of set before ≡ Err Ask = write_ask set before p in inl (cc)
+  others_none (short p h) r e = let f : write_of set before ≡ Err Room = write_room set before p h in inr (cc)
+  others_none (fits p h) r e = let f : write_of set before ≡ Ok (length (text_of set)) = write_bytes set before p h in clash (cc)
 
 pub writes_exactly : WritesExactly
 writes_exactly set before =
@@ -69,7 +69,7 @@ writes_exactly set before =
       room = (room_only set before (which set before), λ (h : (writer_asks set ≡ false) × (length before < length (text_of set))). write_room set before h.0 h.1);
       bytes = λ n. (
         bytes_only set before n (which set before),
-        λ (h : (writer_asks set ≡ false) × ((length (text_of set) ≤ length before) × (n ≡ length (text_of set)))). write_bytes set before h.0 h.1.0 ∙ ap Bytes (sym h.1.1),
+        λ (h : (writer_asks set ≡ false) × ((length (text_of set) ≤ length before) × (n ≡ length (text_of set)))). write_bytes set before h.0 h.1.0 ∙ ap Ok (sym h.1.1),
       );
       others = others_none set before (which set before);
     }
@@ -87,18 +87,18 @@ start_drop before text n e =
 
 module _ (set : TaskSet) (before left : List ℕ) (written : Written) (wrote : Wrote set before written left) where
   -- what an accepted write leaves
-  accepted : (n : ℕ) → written ≡ Bytes n → left ≡ stored before 0 (text_of set)
+  accepted : (n : ℕ) → written ≡ Ok n → left ≡ stored before 0 (text_of set)
   accepted n e = wrote.1 ∙ ap (λ (w : Written). leaves w before (text_of set)) (sym wrote.0 ∙ e)
 
-  refused : (r : Refusal) → written ≡ Refused r → left ≡ before
+  refused : (r : Refusal) → written ≡ Err r → left ≡ before
   refused r e = wrote.1 ∙ ap (λ (w : Written). leaves w before (text_of set)) (sym wrote.0 ∙ e)
 
-  long : (n : ℕ) → written ≡ Bytes n → (length (text_of set) ≤ length before) × (n ≡ length (text_of set))
+  long : (n : ℕ) → written ≡ Ok n → (length (text_of set) ≤ length before) × (n ≡ length (text_of set))
   long n e = (bytes_only set before n (which set before) (sym wrote.0 ∙ e)).1
 
   kept : (w : Written) → written ≡ w → length left ≡ length before
-  kept (Bytes n) e = ap length (accepted n e) ∙ stored_length before 0 (text_of set) (omega (arith, (long n e).0))
-  kept (Refused r) e = ap length (refused r e)
+  kept (Ok n) e = ap length (accepted n e) ∙ stored_length before 0 (text_of set) (omega (arith, (long n e).0))
+  kept (Err r) e = ap length (refused r e)
 
 pub writes_leave : WritesLeave
 writes_leave set before left written wrote =

@@ -1,23 +1,20 @@
 -- What is claimed of task files: each refusal of reading exactly when its row says, what an accepted file is,
 -- what a write answers and leaves, and that reading and writing undo each other.
 -- Document 01, "Refusal numbers and their order" (RULES 6) and "How tight each promise is"; document 02, Req 04, 05, 07 and 08.
-use Rattle.std.specs.Prelude.{ℕ, zero, suc, pred, ◌+◌, ◌<◌, ◌≤◌, List, [], Bool, true, false, ◌≡◌, ◌↔◌, ◌⊎◌, length, take, drop, get_or}
+use Rattle.std.specs.Prelude.{ℕ, zero, suc, pred, ◌+◌, ◌<◌, ◌≤◌, List, [], Bool, true, false, ◌≡◌, ◌↔◌, ◌⊎◌, length, take, drop, get_or, Err, None, Ok, Option, Some}
 use Rattle.frameread.specs.Line.{formed, field_of}
 use Rattle.frames.specs.Table.{length_of}
 use Rattle.refusals.specs.Refused.{number_of}
 use Rattle.frames.specs.declared.table.Frame.{Frame}
 use Rattle.refusals.specs.declared.Refusal.{Refusal}
 use Rattle.refusals.specs.declared.Refusal.TheVariants.{Line, Order, Count, Twice, Board, Range, Ask, Room}
-use Rattle.refusals.specs.declared.Outcome.TheVariants.{Done, Refused}
 use Rattle.taskread.specs.declared.read.ReadAnswer.{ReadAnswer}
 use Rattle.tasks.specs.Set.{most_tasks, most_interrupts, zero_task, zero_interrupt, zero_set, members, interrupts_in, set_of}
 use Rattle.taskrows.specs.Rows.{board_row, range_row, interrupt_row}
-use Rattle.tasks.specs.declared.set.Optional.{Optional}
-use Rattle.tasks.specs.declared.set.Optional.TheVariants.{Absent, Given}
 use Rattle.taskfile.specs.File.{past, from, present, is_header, is_task, is_masked, is_rule, is_interrupt, task_formed, task_kind, task_at, given_by, rule_line, interrupt_at, interrupts_among, line_row, order_row, count_line_row, twice_line_row, line_outcome, file_header, opening_lines, opening_bytes, file_tasks, file_interrupts}
 use Rattle.readbytes.specs.Furthest.{furthest}
 use Rattle.taskread.specs.Read.{read_of, answer}
-use Rattle.refusals.specs.declared.Written.{Written}
+use Rattle.refusals.specs.Refused.{Written}
 use Rattle.tasks.specs.declared.set.Interrupt.{Interrupt}
 use Rattle.tasks.specs.declared.set.Task.{Task}
 use Rattle.tasks.specs.declared.set.TaskSet.{TaskSet}
@@ -56,10 +53,10 @@ holds_at TWICE text k = twice_line_row text k
 
 -- no row holds at any line before line k, or at any line
 abbrev pub Clear : List ℕ → ℕ → Type 0
-Clear text k = (j : ℕ) → 1 ≤ j → j < k → line_outcome text j ≡ Done
+Clear text k = (j : ℕ) → 1 ≤ j → j < k → line_outcome text j ≡ Ok tt
 
 abbrev pub AllClear : List ℕ → Type 0
-AllClear text = (j : ℕ) → 1 ≤ j → line_outcome text j ≡ Done
+AllClear text = (j : ℕ) → 1 ≤ j → line_outcome text j ≡ Ok tt
 
 -- rows 1 to 4 with place k: no row holds before line k, and of those that hold there this is the lowest
 pub record FirstAt (row : LineRow) (text : List ℕ) (k : ℕ) : Type 0 where
@@ -69,12 +66,12 @@ pub record FirstAt (row : LineRow) (text : List ℕ) (k : ℕ) : Type 0 where
   pub holds : holds_at row text k ≡ true
 
 abbrev pub ReadExactlyLine : Type 0
-ReadExactlyLine = (row : LineRow) (text : List ℕ) (k : ℕ) → ((read_of text).outcome ≡ Refused (refusal_at row k)) ↔ FirstAt row text k
+ReadExactlyLine = (row : LineRow) (text : List ℕ) (k : ℕ) → ((read_of text).outcome ≡ Err (refusal_at row k)) ↔ FirstAt row text k
 
 -- row 5: every line is clear, and the board's figures break it
 abbrev pub ReadExactlyBoard : Type 0
 ReadExactlyBoard =
-    (text : List ℕ) → ((read_of text).outcome ≡ Refused Board) ↔ (AllClear text × (board_row (file_header text) ≡ true))
+    (text : List ℕ) → ((read_of text).outcome ≡ Err Board) ↔ (AllClear text × (board_row (file_header text) ≡ true))
 
 -- row 6 with place k: every line is clear, the board's figures are right, and task k is the first out of range
 pub record FirstRange (text : List ℕ) (k : ℕ) : Type 0 where
@@ -86,7 +83,7 @@ pub record FirstRange (text : List ℕ) (k : ℕ) : Type 0 where
   pub earlier : (j : ℕ) → 1 ≤ j → j < k → range_row (task_of text j) ≡ false
 
 abbrev pub ReadExactlyRange : Type 0
-ReadExactlyRange = (text : List ℕ) (k : ℕ) → k ≤ most_tasks → ((read_of text).outcome ≡ Refused (Range k)) ↔ FirstRange text k
+ReadExactlyRange = (text : List ℕ) (k : ℕ) → k ≤ most_tasks → ((read_of text).outcome ≡ Err (Range k)) ↔ FirstRange text k
 
 -- row 6 with place 64 and k: no task is out of range, and interrupt k is the first that is
 pub record FirstInterrupt (text : List ℕ) (k : ℕ) : Type 0 where
@@ -99,7 +96,7 @@ pub record FirstInterrupt (text : List ℕ) (k : ℕ) : Type 0 where
 
 abbrev pub ReadExactlyInterrupt : Type 0
 ReadExactlyInterrupt =
-    (text : List ℕ) (k : ℕ) → 1 ≤ k → ((read_of text).outcome ≡ Refused (Range (most_tasks + k))) ↔ FirstInterrupt text k
+    (text : List ℕ) (k : ℕ) → 1 ≤ k → ((read_of text).outcome ≡ Err (Range (most_tasks + k))) ↔ FirstInterrupt text k
 
 -- accepted: none of rows 1 to 6 holds
 pub record NoRow (text : List ℕ) : Type 0 where
@@ -109,11 +106,11 @@ pub record NoRow (text : List ℕ) : Type 0 where
   pub interrupts : (j : ℕ) → 1 ≤ j → j ≤ interrupt_count text → interrupt_row (file_header text).processors (interrupt_of text j) ≡ false
 
 abbrev pub ReadExactlyDone : Type 0
-ReadExactlyDone = (text : List ℕ) → ((read_of text).outcome ≡ Done) ↔ NoRow text
+ReadExactlyDone = (text : List ℕ) → ((read_of text).outcome ≡ Ok tt) ↔ NoRow text
 
 -- the reader gives 1 to 6, and with a refusal the all-zero set
 abbrev pub ReadRefuses : Type 0
-ReadRefuses = (text : List ℕ) (r : Refusal) → (read_of text).outcome ≡ Refused r → (number_of r ≤ 6) × ((read_of text).set ≡ zero_set)
+ReadRefuses = (text : List ℕ) (r : Refusal) → (read_of text).outcome ≡ Err r → (number_of r ≤ 6) × ((read_of text).set ≡ zero_set)
 
 -- two answers that keep the reader's promise coincide
 abbrev pub ReadDetermined : Type 0
@@ -169,32 +166,32 @@ pub record AcceptedFile (text : List ℕ) : Type 0 where
   pub interrupts : interrupts_in (read_of text).set ≡ file_interrupts text
 
 abbrev pub ReadAccepted : Type 0
-ReadAccepted = (text : List ℕ) → (read_of text).outcome ≡ Done → AcceptedFile text
+ReadAccepted = (text : List ℕ) → (read_of text).outcome ≡ Ok tt → AcceptedFile text
 
 -- a line that may be there is remembered: there is a figure exactly where the text starts with such a line of that figure, and none
 -- exactly where it starts with no such line
-pub record Remembered (kind : Frame) (rest : List ℕ) (figure : Optional) : Type 0 where
+pub record Remembered (kind : Frame) (rest : List ℕ) (figure : Option ℕ) : Type 0 where
   pub told : figure ≡ given_by kind rest
-  pub given : (x : ℕ) → (figure ≡ Given x) ↔ ((formed kind rest ≡ true) × (field_of kind 0 rest ≡ x))
-  pub absent : (figure ≡ Absent) ↔ (formed kind rest ≡ false)
+  pub given : (x : ℕ) → (figure ≡ Some x) ↔ ((formed kind rest ≡ true) × (field_of kind 0 rest ≡ x))
+  pub absent : (figure ≡ None) ↔ (formed kind rest ≡ false)
 
 -- the set of an accepted file remembers its 05 line, which is line 2
 abbrev pub MaskedRemembered : Type 0
-MaskedRemembered = (text : List ℕ) → (read_of text).outcome ≡ Done → Remembered Frame.Masked (from text 2) (read_of text).set.header.masked
+MaskedRemembered = (text : List ℕ) → (read_of text).outcome ≡ Ok tt → Remembered Frame.Masked (from text 2) (read_of text).set.header.masked
 
 -- and its 06 line, which stands directly behind the 05 line or, without one, behind the 01 line
 abbrev pub RuleRemembered : Type 0
 RuleRemembered =
-    (text : List ℕ) → (read_of text).outcome ≡ Done → Remembered Frame.Rule (from text (rule_line text)) (read_of text).set.header.rule
+    (text : List ℕ) → (read_of text).outcome ≡ Ok tt → Remembered Frame.Rule (from text (rule_line text)) (read_of text).set.header.rule
 
 -- no line of an accepted file but line 2 is a 05 line
 abbrev pub MaskedOnlyAtTwo : Type 0
-MaskedOnlyAtTwo = (text : List ℕ) (k : ℕ) → (read_of text).outcome ≡ Done → 1 ≤ k → is_masked text k ≡ true → k ≡ 2
+MaskedOnlyAtTwo = (text : List ℕ) (k : ℕ) → (read_of text).outcome ≡ Ok tt → 1 ≤ k → is_masked text k ≡ true → k ≡ 2
 
 -- and none is a 06 line but the one directly behind the 05 line or, without one, behind the 01 line
 abbrev pub RuleOnlyThere : Type 0
 RuleOnlyThere =
-    (text : List ℕ) (k : ℕ) → (read_of text).outcome ≡ Done → 1 ≤ k → is_rule text k ≡ true → ((k ≡ 2) × (is_masked text 2 ≡ false)) ⊎ ((k ≡ 3) × (is_masked text 2 ≡ true))
+    (text : List ℕ) (k : ℕ) → (read_of text).outcome ≡ Ok tt → 1 ≤ k → is_rule text k ≡ true → ((k ≡ 2) × (is_masked text 2 ≡ false)) ⊎ ((k ≡ 3) × (is_masked text 2 ≡ true))
 
 -- the set of an accepted file remembers its 07 lines in their order: interrupt k has the figures of the k-th line behind the tasks
 pub record Listed (text : List ℕ) : Type 0 where
@@ -203,37 +200,37 @@ pub record Listed (text : List ℕ) : Type 0 where
   pub figures : (k : ℕ) → k < interrupt_count text → get_or (interrupts_in (read_of text).set) k zero_interrupt ≡ interrupt_at (from text (suc (lines_to text (tasks_in text) k)))
 
 abbrev pub InterruptsRemembered : Type 0
-InterruptsRemembered = (text : List ℕ) → (read_of text).outcome ≡ Done → Listed text
+InterruptsRemembered = (text : List ℕ) → (read_of text).outcome ≡ Ok tt → Listed text
 
 -- a task that the set keeps of a line: it has the line's figures, a cache cost of its own exactly where that is an 03 line with that
 -- figure, and none exactly where it is an 02 line
 pub record TaskKept (rest : List ℕ) (t : Task) : Type 0 where
   pub line : task_formed rest ≡ true
   pub figures : t ≡ task_at rest
-  pub given : (cost : ℕ) → (t.cache ≡ Given cost) ↔ ((formed Frame.Cached rest ≡ true) × (field_of Frame.Cached 4 rest ≡ cost))
-  pub absent : (t.cache ≡ Absent) ↔ (formed Frame.Task rest ≡ true)
+  pub given : (cost : ℕ) → (t.cache ≡ Some cost) ↔ ((formed Frame.Cached rest ≡ true) × (field_of Frame.Cached 4 rest ≡ cost))
+  pub absent : (t.cache ≡ None) ↔ (formed Frame.Task rest ≡ true)
 
 -- the set of an accepted file remembers its tasks' lines in their order, however 02 and 03 lines alternate
 abbrev pub TasksRemembered : Type 0
 TasksRemembered =
-    (text : List ℕ) (k : ℕ) → (read_of text).outcome ≡ Done → k < tasks_in text → TaskKept (from text (suc (lines_to text k 0))) (get_or (members (read_of text).set) k zero_task)
+    (text : List ℕ) (k : ℕ) → (read_of text).outcome ≡ Ok tt → k < tasks_in text → TaskKept (from text (suc (lines_to text k 0))) (get_or (members (read_of text).set) k zero_task)
 
 -- a task line behind an 07 line is ORDER there, and a 33rd 07 line COUNT, where no row holds at any line before
 abbrev pub TaskTooLate : Type 0
 TaskTooLate =
-    (text : List ℕ) (j k : ℕ) → 1 ≤ j → j < k → Clear text k → is_interrupt text j ≡ true → is_task text k ≡ true → (read_of text).outcome ≡ Refused (Order k)
+    (text : List ℕ) (j k : ℕ) → 1 ≤ j → j < k → Clear text k → is_interrupt text j ≡ true → is_task text k ≡ true → (read_of text).outcome ≡ Err (Order k)
 
 abbrev pub InterruptTooMany : Type 0
 InterruptTooMany =
-    (text : List ℕ) (k : ℕ) → 1 < k → Clear text k → is_interrupt text k ≡ true → length (interrupts_among text (pred k)) ≡ most_interrupts → (read_of text).outcome ≡ Refused (Count k)
+    (text : List ℕ) (k : ℕ) → 1 < k → Clear text k → is_interrupt text k ≡ true → length (interrupts_among text (pred k)) ≡ most_interrupts → (read_of text).outcome ≡ Err (Count k)
 
 -- a file without a task is COUNT at the line after the last: line 2 behind an 01 line, line 3 behind an 01 and a 05 line, the next one
 -- behind a 06 line, and so behind any lines that are clear, 07 lines too
 pub record NoTask (text : List ℕ) : Type 0 where
-  pub header : is_header text 1 ≡ true → past 1 text ≡ [] → (read_of text).outcome ≡ Refused (Count 2)
-  pub masked : is_header text 1 ≡ true → is_masked text 2 ≡ true → past 2 text ≡ [] → (read_of text).outcome ≡ Refused (Count 3)
-  pub rule : is_header text 1 ≡ true → is_rule text (rule_line text) ≡ true → past (rule_line text) text ≡ [] → (read_of text).outcome ≡ Refused (Count (suc (rule_line text)))
-  pub last : (k : ℕ) → Clear text (suc (suc k)) → present text (suc k) ≡ true → past (suc k) text ≡ [] → tasks_in text ≡ 0 → (read_of text).outcome ≡ Refused (Count (suc (suc k)))
+  pub header : is_header text 1 ≡ true → past 1 text ≡ [] → (read_of text).outcome ≡ Err (Count 2)
+  pub masked : is_header text 1 ≡ true → is_masked text 2 ≡ true → past 2 text ≡ [] → (read_of text).outcome ≡ Err (Count 3)
+  pub rule : is_header text 1 ≡ true → is_rule text (rule_line text) ≡ true → past (rule_line text) text ≡ [] → (read_of text).outcome ≡ Err (Count (suc (rule_line text)))
+  pub last : (k : ℕ) → Clear text (suc (suc k)) → present text (suc k) ≡ true → past (suc k) text ≡ [] → tasks_in text ≡ 0 → (read_of text).outcome ≡ Err (Count (suc (suc k)))
 
 abbrev pub NoTaskPlace : Type 0
 NoTaskPlace = (text : List ℕ) → NoTask text
@@ -241,10 +238,10 @@ NoTaskPlace = (text : List ℕ) → NoTask text
 -- ASK exactly where row 11 holds of the set. ROOM exactly where it does not and the buffer is shorter than the text.
 -- A number of bytes exactly where neither holds, and it is the text's length. No other refusal is given.
 pub record WriteExactly (set : TaskSet) (before : List ℕ) : Type 0 where
-  pub ask : (write_of set before ≡ Written.Refused Ask) ↔ (writer_asks set ≡ true)
-  pub room : (write_of set before ≡ Written.Refused Room) ↔ ((writer_asks set ≡ false) × (length before < length (text_of set)))
-  pub bytes : (n : ℕ) → (write_of set before ≡ Written.Bytes n) ↔ ((writer_asks set ≡ false) × ((length (text_of set) ≤ length before) × (n ≡ length (text_of set))))
-  pub others : (r : Refusal) → write_of set before ≡ Written.Refused r → (r ≡ Ask) ⊎ (r ≡ Room)
+  pub ask : (write_of set before ≡ Err Ask) ↔ (writer_asks set ≡ true)
+  pub room : (write_of set before ≡ Err Room) ↔ ((writer_asks set ≡ false) × (length before < length (text_of set)))
+  pub bytes : (n : ℕ) → (write_of set before ≡ Ok n) ↔ ((writer_asks set ≡ false) × ((length (text_of set) ≤ length before) × (n ≡ length (text_of set))))
+  pub others : (r : Refusal) → write_of set before ≡ Err r → (r ≡ Ask) ⊎ (r ≡ Room)
 
 abbrev pub WritesExactly : Type 0
 WritesExactly = (set : TaskSet) (before : List ℕ) → WriteExactly set before
@@ -252,9 +249,9 @@ WritesExactly = (set : TaskSet) (before : List ℕ) → WriteExactly set before
 -- An accepted write leaves the text at the buffer's start and each byte behind it; a refused one leaves all. The length stays.
 pub record WriteLeaves (before : List ℕ) (set : TaskSet) (written : Written) (left : List ℕ) : Type 0 where
   pub size : length left ≡ length before
-  pub text : (n : ℕ) → written ≡ Written.Bytes n → take n left ≡ text_of set
-  pub behind : (n : ℕ) → written ≡ Written.Bytes n → drop n left ≡ drop n before
-  pub nothing : (r : Refusal) → written ≡ Written.Refused r → left ≡ before
+  pub text : (n : ℕ) → written ≡ Ok n → take n left ≡ text_of set
+  pub behind : (n : ℕ) → written ≡ Ok n → drop n left ≡ drop n before
+  pub nothing : (r : Refusal) → written ≡ Err r → left ≡ before
 
 abbrev pub WritesLeave : Type 0
 WritesLeave = (set : TaskSet) (before left : List ℕ) (written : Written) → Wrote set before written left → WriteLeaves before set written left
@@ -272,14 +269,14 @@ pub record Whole (set : TaskSet) : Type 0 where
 -- A set that can be written, read again, is the same set, its unused room at zero.
 abbrev pub ReadWritten : Type 0
 ReadWritten =
-    (set : TaskSet) → Whole set → writer_asks set ≡ false → read_of (text_of set) ≡ answer Done (set_of set.header (members set) (interrupts_in set))
+    (set : TaskSet) → Whole set → writer_asks set ≡ false → read_of (text_of set) ≡ answer (Ok tt) (set_of set.header (members set) (interrupts_in set))
 
 -- So one whose unused room is zero comes back as it was.
 abbrev pub ReadWrittenSame : Type 0
 ReadWrittenSame =
-    (set : TaskSet) → set ≡ set_of set.header (members set) (interrupts_in set) → writer_asks set ≡ false → read_of (text_of set) ≡ answer Done set
+    (set : TaskSet) → set ≡ set_of set.header (members set) (interrupts_in set) → writer_asks set ≡ false → read_of (text_of set) ≡ answer (Ok tt) set
 
 -- A file that is accepted can be written again, and has the same bytes.
 abbrev pub WrittenRead : Type 0
 WrittenRead =
-    (text : List ℕ) → (read_of text).outcome ≡ Done → (writer_asks (read_of text).set ≡ false) × (text_of (read_of text).set ≡ text)
+    (text : List ℕ) → (read_of text).outcome ≡ Ok tt → (writer_asks (read_of text).set ≡ false) × (text_of (read_of text).set ≡ text)

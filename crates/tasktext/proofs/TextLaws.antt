@@ -1,5 +1,6 @@
 -- Laws of a set's text: the fields of a task's line, the bytes of the tasks' lines and of the text, and the text stored in five steps.
 -- Assumes nothing.
+use Rattle.std.specs.Prelude.{None, Option, Some}
 use Prim.Native.Nat.{ℕ, ◌+◌, ◌*◌, ◌≤◌, ◌<◌}
 use mathlib.Core.Path.{◌≡◌, ◌∙◌, ap, ap₂}
 use mathlib.Core.List.{List, ◌++◌, append_assoc}
@@ -16,8 +17,6 @@ use Rattle.frames.specs.declared.table.Frame.{Frame}
 use Rattle.framewrite.proofs.LineLaws.{line_length}
 use Rattle.framelines.proofs.EachLaws.{each_next, each_most, each_length}
 use Rattle.digits.proofs.Stored.{stored_stored}
-use Rattle.tasks.specs.declared.set.Optional.{Optional}
-use Rattle.tasks.specs.declared.set.Optional.TheVariants.{Absent, Given}
 use Rattle.tasks.specs.declared.set.Task.{Task}
 use Rattle.tasks.specs.declared.set.TaskSet.{TaskSet}
 use Rattle.tasks.specs.Set.{members, interrupts_in, zero_task}
@@ -27,10 +26,10 @@ use Rattle.optionallines.specs.Lines.{optional_line, interrupt_lines}
 use Rattle.tasktext.specs.Text.{task_line, task_lines, text_of}
 
 -- a task has a figure for each field of its line
-fields_few : (cache : Optional) → fields_in (frame_by cache) ≤ 5
+fields_few : (cache : Option ℕ) → fields_in (frame_by cache) ≤ 5
 unfolding widths_of
-fields_few Absent = omega arith
-fields_few (Given cost) = omega arith
+fields_few None = omega arith
+fields_few (Some cost) = omega arith
 
 pub task_sized : (t : Task) → fields_in (task_frame t) ≤ length (task_values t)
 task_sized t = fields_few t.cache

@@ -19,16 +19,13 @@ pub fn put_tasks(out: &mut [u8], at: usize, set: TaskSet) -> usize
     ensures value { result ≡ at + bytes (task_lines (members set)) }
     ensures out_after { out.new ≡ stored out.old at (task_lines (members set)) }
 {
-    let n = set.count;
     let mut next = at;
-    let mut i = 0;
-    while i < n {
+    for i in 0..set.count {
         let task = set.tasks[i];
         let frame = task_frame(task);
         let row = row_of(frame);
         let values = task_values(task);
         next = put_row(out, next, row, &values);
-        i += 1;
     }
     next
 }

@@ -24,13 +24,12 @@ pub fn header_values(header: Header) -> [u64; 7]
 pub fn task_values(task: Task) -> [u64; 5]
     ensures { result ≡ task_values task }
 {
-    let cache = task.cache;
     [
         task.id as u64,
         task.cost as u64,
         task.deadline as u64,
         task.period as u64,
-        cache.given_or(0) as u64,
+        task.cache.unwrap_or(0) as u64,
     ]
 }
 

@@ -1,5 +1,6 @@
 -- Laws of the task writer's answer: its row 11 by parts, and the answer and the buffer in each of the three cases.
 -- Assumes nothing.
+use Rattle.std.specs.Prelude.{Err, Ok}
 use Prim.Native.Nat.{ℕ, suc, ◌≤◌, ◌<◌}
 use mathlib.Core.Path.{◌≡◌, refl, sym, ◌∙◌, ap}
 use mathlib.Core.Bool.{Bool, true, false, not, cond, ◌||◌}
@@ -9,8 +10,7 @@ use lib.ListN.{length}
 use borrow.Author.Tests.{lt-ltb, le-ltb}
 use Rattle.laws.proofs.Tests.{or_left, or_right}
 use Rattle.refusals.specs.declared.Refusal.TheVariants.{Ask, Room}
-use Rattle.refusals.specs.declared.Written.{Written}
-use Rattle.refusals.specs.declared.Written.TheVariants.{Bytes, Refused}
+use Rattle.refusals.specs.Refused.{Written}
 use Rattle.tasks.specs.declared.set.TaskSet.{TaskSet}
 use Rattle.tasks.specs.Set.{members, interrupts_in}
 use Rattle.tasks.specs.Search.{some, first_from}
@@ -56,15 +56,15 @@ writer_interrupts set p = or_right (some range_row (members set)) _ (past_board 
 
 -- the answer where row 11 holds, where row 12 does, and where neither does
 module _ (set : TaskSet) (buffer : List ℕ) where
-  pub write_ask : writer_asks set ≡ true → write_of set buffer ≡ Refused Ask
+  pub write_ask : writer_asks set ≡ true → write_of set buffer ≡ Err Ask
   unfolding write_of
   write_ask p = rw p
 
-  pub write_room : writer_asks set ≡ false → length buffer < length (text_of set) → write_of set buffer ≡ Refused Room
+  pub write_room : writer_asks set ≡ false → length buffer < length (text_of set) → write_of set buffer ≡ Err Room
   unfolding write_of
   write_room p h = rw (p, lt-ltb (length buffer) (length (text_of set)) h)
 
-  pub write_bytes : writer_asks set ≡ false → length (text_of set) ≤ length buffer → write_of set buffer ≡ Bytes (length (text_of set))
+  pub write_bytes : writer_asks set ≡ false → length (text_of set) ≤ length buffer → write_of set buffer ≡ Ok (length (text_of set))
   unfolding write_of
   write_bytes p h = rw (p, le-ltb (length buffer) (length (text_of set)) h)
 

@@ -1,9 +1,8 @@
 -- What writing a task set answers, and what the lent bytes then hold.
 -- Document 01, rows 11 and 12 of the refusals (RULES 6.5); document 02, Req 08.
-use Rattle.std.specs.Prelude.{ℕ, ◌≡◌, List, Bool, cond, ◌||◌, length, ltb}
+use Rattle.std.specs.Prelude.{ℕ, ◌≡◌, List, Bool, cond, ◌||◌, length, ltb, Err, Ok}
 use Rattle.refusals.specs.declared.Refusal.TheVariants.{Ask, Room}
-use Rattle.refusals.specs.declared.Written.{Written}
-use Rattle.refusals.specs.declared.Written.TheVariants.{Bytes, Refused}
+use Rattle.refusals.specs.Refused.{Written}
 use Rattle.tasks.specs.declared.set.TaskSet.{TaskSet}
 use Rattle.refusals.specs.Leaves.{leaves}
 use Rattle.tasks.specs.Set.{members, interrupts_in}
@@ -21,8 +20,8 @@ writer_asks set =
 -- 11, then 12; else the text's length
 unfoldable pub write_of : TaskSet → (buffer : List ℕ) → Written
 write_of set buffer =
-    cond (writer_asks set) (Refused Ask)
-    (cond (ltb (length buffer) (length (text_of set))) (Refused Room) (Bytes (length (text_of set))))
+    cond (writer_asks set) (Err Ask)
+    (cond (ltb (length buffer) (length (text_of set))) (Err Room) (Ok (length (text_of set))))
 
 -- What the writer promises of its answer, and of the buffer that it leaves.
 abbrev pub Wrote : TaskSet → (before : List ℕ) → Written → (left : List ℕ) → Type 0

@@ -15,13 +15,13 @@ pub fn write(set: TaskSet, out: &mut [u8]) -> Written
     ensures { Wrote set out.old result out.new }
 {
     if writer_asks(set) {
-        return Written::Refused(Refusal::Ask);
+        return Err(Refusal::Ask);
     }
     let needed = text_length(set);
     let short = out.len() < needed;
     if short {
-        return Written::Refused(Refusal::Room);
+        return Err(Refusal::Room);
     }
     put_text(out, set);
-    Written::Bytes(needed)
+    Ok(needed)
 }

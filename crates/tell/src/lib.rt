@@ -2,23 +2,22 @@
 // What they are stands in told/specs/Told.antt.
 #![tactic(auto)]
 
-ghost use Rattle.std.specs.Prelude.{◌≡◌};
-ghost use Rattle.refusals.specs.declared.Outcome.TheVariants.{Done};
+ghost use Rattle.std.specs.Prelude.{◌≡◌, Ok};
 ghost use Rattle.told.specs.Told.{status_of, told_of, leaves_numbers};
 
-use put_figures::put_figures;
 use refusals::{Outcome, Refusal};
+use store::store;
 use told_code::code;
 
 // Puts the numbers at the answer's start; ROOM and nothing stored where it has fewer places.
 pub fn put_numbers(answer: &mut [u64], numbers: &[u64]) -> u64
-    ensures value { result ≡ status_of (told_of Done numbers.now answer.old) }
-    ensures answer_after { answer.new ≡ leaves_numbers (told_of Done numbers.now answer.old) numbers.now answer.old }
+    ensures value { result ≡ status_of (told_of (Ok tt) numbers.now answer.old) }
+    ensures answer_after { answer.new ≡ leaves_numbers (told_of (Ok tt) numbers.now answer.old) numbers.now answer.old }
 {
     if answer.len() < numbers.len() {
         return code(Refusal::Room);
     }
-    put_figures(answer, 0, numbers);
+    store(answer, 0, numbers);
     0
 }
 
@@ -28,7 +27,7 @@ pub fn tell(answer: &mut [u64], numbers: &[u64], outcome: Outcome) -> u64
     ensures answer_after { answer.new ≡ leaves_numbers (told_of outcome numbers.now answer.old) numbers.now answer.old }
 {
     match outcome {
-        Outcome::Done => put_numbers(answer, numbers),
-        Outcome::Refused(refusal) => code(refusal),
+        Ok(()) => put_numbers(answer, numbers),
+        Err(refusal) => code(refusal),
     }
 }

@@ -23,14 +23,10 @@ pub fn text_length(set: TaskSet) -> usize
     let masked = optional_length(Frame::Masked, ticks);
     let number = header.rule;
     let rule = optional_length(Frame::Rule, number);
-    let n = set.count;
     let mut tasks = 0;
-    let mut i = 0;
-    while i < n {
-        let task = set.tasks[i];
-        let frame = task_frame(task);
+    for i in 0..set.count {
+        let frame = task_frame(set.tasks[i]);
         tasks += lines_length(frame, 1);
-        i += 1;
     }
     let last = lines_length(Frame::Interrupt, set.interrupts.count);
     first + masked + rule + tasks + last

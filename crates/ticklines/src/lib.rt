@@ -44,8 +44,7 @@ pub fn put_tick(
     let ring = turn.ring as usize;
     let mut next = at;
     let mut least = turn.ring * turn.slot;
-    let mut i = 0;
-    while i < ring {
+    for i in 0..ring {
         let mut end = until[i];
         if end == tick {
             let processor = i as u64 + 1;
@@ -55,10 +54,7 @@ pub fn put_tick(
             servers[i] = put.server;
             until[i] = end;
         }
-        if end < least {
-            least = end;
-        }
-        i += 1;
+        least = least.min(end);
     }
     Next {
         at: next,

@@ -43,14 +43,10 @@ pub fn first_broken(set: TaskSet, row: TaskRow) -> usize
     ensures { result ≡ first_task (row_of row set.header) (members set) }
 {
     let header = set.header;
-    let count = set.count;
-    let mut i = 0;
-    while i < count {
-        let task = set.tasks[i];
-        if breaks(row, header, task) {
+    for i in 0..set.count {
+        if breaks(row, header, set.tasks[i]) {
             return i + 1;
         }
-        i += 1;
     }
     0
 }

@@ -1,5 +1,6 @@
 -- Laws of answers told in numbers: numbers that have room or not.
 -- Assumes nothing.
+use Rattle.std.specs.Prelude.{Err, Ok}
 use Prim.Native.Nat.{ℕ, ◌≤◌, ◌<◌}
 use mathlib.Core.List.{List}
 use mathlib.Core.Path.{◌≡◌, refl, sym, ◌∙◌, ap, subst}
@@ -8,8 +9,7 @@ use lib.ListN.{length}
 use Rattle.digits.specs.Stored.{stored}
 use Rattle.refusals.specs.declared.Refusal.{Refusal}
 use Rattle.refusals.specs.declared.Refusal.TheVariants.{Room}
-use Rattle.refusals.specs.declared.Outcome.{Outcome}
-use Rattle.refusals.specs.declared.Outcome.TheVariants.{Done, Refused}
+use Rattle.refusals.specs.Refused.{Outcome}
 use Rattle.told.specs.Told.{status_of, told_of, leaves_numbers}
 
 -- what an answer holds and its status, by name
@@ -17,11 +17,11 @@ abbrev pub Told : Outcome → (numbers answer : List ℕ) (status : ℕ) (left :
 Told o numbers answer status left = (status ≡ status_of (told_of o numbers answer)) × (left ≡ leaves_numbers (told_of o numbers answer) numbers answer)
 
 module _ (numbers answer : List ℕ) where
-  no_room : length answer < length numbers → told_of Done numbers answer ≡ Refused Room
+  no_room : length answer < length numbers → told_of (Ok tt) numbers answer ≡ Err Room
   unfolding told_of
   no_room h = rw (lt-ltb (length answer) (length numbers) h)
 
-  has_room : length numbers ≤ length answer → told_of Done numbers answer ≡ Done
+  has_room : length numbers ≤ length answer → told_of (Ok tt) numbers answer ≡ Ok tt
   unfolding told_of
   has_room h = rw (le-ltb (length answer) (length numbers) h)
 
@@ -30,15 +30,15 @@ module _ (numbers answer : List ℕ) where
   told_as o q e s l = (s ∙ sym (ap status_of e), l ∙ sym (ap (λ (p : Outcome). leaves_numbers p numbers answer) e))
 
   -- too few places: ROOM, and nothing stored
-  pub told_room : {status : ℕ} → length answer < length numbers → status ≡ status_of (Refused Room) → Told Done numbers answer status answer
-  told_room h s = told_as Done (Refused Room) (no_room h) s refl
+  pub told_room : {status : ℕ} → length answer < length numbers → status ≡ status_of (Err Room) → Told (Ok tt) numbers answer status answer
+  told_room h s = told_as (Ok tt) (Err Room) (no_room h) s refl
 
   -- the numbers have room, and are stored
-  pub told_stored : {left : List ℕ} → length numbers ≤ length answer → left ≡ stored answer 0 numbers → Told Done numbers answer 0 left
-  told_stored h l = told_as Done Done (has_room h) refl l
+  pub told_stored : {left : List ℕ} → length numbers ≤ length answer → left ≡ stored answer 0 numbers → Told (Ok tt) numbers answer 0 left
+  told_stored h l = told_as (Ok tt) (Ok tt) (has_room h) refl l
 
   -- a refused question is handed on, and nothing is stored
-  pub told_refused : (r : Refusal) {status : ℕ} → status ≡ status_of (Refused r) → Told (Refused r) numbers answer status answer
+  pub told_refused : (r : Refusal) {status : ℕ} → status ≡ status_of (Err r) → Told (Err r) numbers answer status answer
   unfolding told_of
   told_refused r s = (s, refl)
 

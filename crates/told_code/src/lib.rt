@@ -1,8 +1,7 @@
 // A refusal as one number, and the numbers of a verdict. What they are stands in told/specs/Told.antt.
 #![tactic(auto)]
 
-ghost use Rattle.std.specs.Prelude.{◌≡◌};
-ghost use Rattle.refusals.specs.declared.Outcome.TheVariants.{Refused};
+ghost use Rattle.std.specs.Prelude.{◌≡◌, Err};
 ghost use Rattle.verdict.specs.Numbers.{verdict_numbers};
 ghost use Rattle.told.specs.Told.{status_of};
 
@@ -12,7 +11,7 @@ use verdict::answer::Verdict;
 
 // number · 256 + place
 pub fn code(refusal: Refusal) -> u64
-    ensures { result ≡ status_of (Refused refusal) }
+    ensures { result ≡ status_of (Err refusal) }
 {
     let row = number(refusal);
     let at = place(refusal) as u64;

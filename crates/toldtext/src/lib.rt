@@ -13,10 +13,10 @@ pub fn tell(written: Written, length: &mut usize) -> u64
     ensures length_after { length.new ≡ written_length written length.old }
 {
     match written {
-        Written::Bytes(bytes) => {
+        Ok(bytes) => {
             *length = bytes;
             0
         }
-        Written::Refused(refusal) => code(refusal),
+        Err(refusal) => code(refusal),
     }
 }

@@ -2,11 +2,11 @@
 // The gate holds what it prints to the file stdout, which was made by the independent program of tests/.
 #![tactic(auto)]
 
-use refusals::{Outcome, Refusal, Written};
+use refusals::{Refusal, Written};
 use shell::argument::{argument, has_argument};
 use shell::failure::tell_failure;
 use shell::front::front;
-use shell::input::{BUFFER, Input, read_input};
+use shell::input::{BUFFER, read_input};
 use std::env::Env;
 use std::fs::{Files, open};
 use std::io;
@@ -30,8 +30,8 @@ fn say_same<P: Print>(rt: &P, same: bool) -> io::Result<()> {
 fn say_written<P: Print>(rt: &P, set: TaskSet, text: &[u8]) -> io::Result<()> {
     let mut again = [0u8; BUFFER];
     match taskwrite_code::write(set, &mut again) {
-        Written::Bytes(n) => say_same(rt, front(&again, n) == text),
-        Written::Refused(refusal) => {
+        Ok(n) => say_same(rt, front(&again, n) == text),
+        Err(refusal) => {
             print!(rt; "read, not written: ")?;
             say_refusal(rt, refusal)
         }
@@ -41,8 +41,8 @@ fn say_written<P: Print>(rt: &P, set: TaskSet, text: &[u8]) -> io::Result<()> {
 fn try_text<P: Print>(rt: &P, text: &[u8]) -> io::Result<()> {
     let answer = taskread_code::read(text);
     match answer.outcome {
-        Outcome::Done => say_written(rt, answer.set, text),
-        Outcome::Refused(refusal) => say_refusal(rt, refusal),
+        Ok(()) => say_written(rt, answer.set, text),
+        Err(refusal) => say_refusal(rt, refusal),
     }
 }
 
@@ -57,8 +57,8 @@ fn try_file<T: Files + Print + Eprint>(rt: &T, name: &str) -> io::Result<()> {
     };
     let mut text = [0u8; BUFFER];
     let n = match read_input(&mut file, &mut text) {
-        Input::Bytes(n) => n,
-        Input::Failed(error) => {
+        Ok(n) => n,
+        Err(error) => {
             tell_failure(rt, name, &error);
             return Ok(());
         }

@@ -15,9 +15,7 @@ fn amid_count(reserves: &[u64], turn: Turn) -> u64
     ensures { result ≡ amid turn.slot (take turn.servers reserves.now) turn.ring }
 {
     let mut count: u64 = 0;
-    let mut p: u64 = 0;
-    while p < turn.ring {
-        p += 1;
+    for p in 1..=turn.ring {
         let stand = first(reserves, turn.servers, turn.slot, p);
         let place = (stand.server - 1) as usize;
         if stand.left < reserves[place] {

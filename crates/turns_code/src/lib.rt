@@ -12,7 +12,7 @@ ghost use Rattle.packing.specs.Turns.{in_turn, in_file_order};
 ghost use Rattle.turns_code.specs.Turned.{Turned, Assigned};
 
 use packing::{Fit, Order};
-use put_figures::put_figures;
+use store::store;
 use tasks::set::TaskSet;
 
 // The order in which a rule places tasks.
@@ -49,13 +49,11 @@ pub fn in_turn(figures: &[u64], turns: &[u64], n: usize) -> [u64; 4 * TaskSet::M
     ensures { result ≡ stored (replicate (4 * most_tasks) 0) 0 (own_numbers (in_turn (take n turns.now) (figures_to figures.now n))) }
 {
     let mut numbers = [0u64; 4 * TaskSet::MOST_TASKS];
-    let mut j: usize = 0;
-    while j < n {
+    for j in 0..n {
         let place = turns[j] as usize;
         let from = 4 * place;
         let until = from + 4;
-        put_figures(&mut numbers, 4 * j, &figures[from..until]);
-        j += 1;
+        store(&mut numbers, 4 * j, &figures[from..until]);
     }
     numbers
 }
@@ -67,9 +65,7 @@ pub fn in_file_order(turns: &[u64], placement: &[u64], n: usize) -> [u64; TaskSe
     ensures { result ≡ padded (in_file_order (take n turns.now) (take n placement.now)) }
 {
     let mut servers = [0u64; TaskSet::MOST_TASKS];
-    let mut j = n;
-    while 0 < j {
-        j -= 1;
+    for j in (0..n).rev() {
         let at = turns[j] as usize;
         servers[at] = placement[j];
     }

@@ -13,11 +13,10 @@ pub fn among_accepted(tally: Tally) -> Tally
 {
     let names = tally.names + 1;
     let accepted = tally.accepted + 1;
-    let refused = tally.refused;
     Tally {
         names,
         accepted,
-        refused,
+        ..tally
     }
 }
 
@@ -28,11 +27,10 @@ pub fn under_number(tally: Tally, number: usize) -> Tally
     ensures { result ≡ under tally number }
 {
     let mut refused = tally.refused;
-    let met = refused[number];
-    refused[number] = met + 1;
+    refused[number] += 1;
     Tally {
         names: tally.names + 1,
-        accepted: tally.accepted,
         refused,
+        ..tally
     }
 }

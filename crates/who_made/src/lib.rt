@@ -8,7 +8,7 @@ ghost use Rattle.whoruns.specs.WhoRuns.{refused_who, who_runs};
 
 use plan::plan::Plan;
 use planprocessor_code::{is_processor, who_stands};
-use refusals::{Outcome, Refusal};
+use refusals::Refusal;
 use ring::clock::Tick;
 use tasks::set::TaskSet;
 use whoruns::WhoAnswer;
@@ -17,7 +17,7 @@ pub fn refused_who(refusal: Refusal) -> WhoAnswer
     ensures { result ≡ refused_who refusal }
 {
     WhoAnswer {
-        outcome: Outcome::Refused(refusal),
+        outcome: Err(refusal),
         server: 0,
         left: 0,
     }
@@ -33,7 +33,7 @@ pub fn who_made(set: TaskSet, plan: Plan, processor: u64, tick: Tick) -> WhoAnsw
     }
     let stand = who_stands(plan, processor, tick);
     WhoAnswer {
-        outcome: Outcome::Done,
+        outcome: Ok(()),
         server: stand.server,
         left: stand.left,
     }

@@ -11,17 +11,14 @@ pub fn whole_server(reserves: &[u64], n: usize, slot: u64, k: u64) -> u64
     ensures { result ≡ whole_server slot (take n reserves.now) k }
 {
     let mut more = k;
-    let mut i: usize = 0;
-    while i < n {
-        let reserve = reserves[i];
-        if slot <= reserve {
+    for (i, reserve) in reserves[..n].iter().enumerate() {
+        if slot <= *reserve {
             let here = more == 0;
             if here {
                 return i as u64 + 1;
             }
             more -= 1;
         }
-        i += 1;
     }
     0
 }

@@ -1,8 +1,8 @@
 -- Each claim of specs/Claims.antt, proved.
 -- Assumes nothing.
+use Rattle.std.specs.Prelude.{Some}
 use Prim.Native.Nat.{◌≤◌}
 use mathlib.Core.Path.{◌≡◌, sym, ap, ◌∙◌}
-use Rattle.wholes.specs.declared.Multiple.TheVariants.{Within}
 use Rattle.wholes.specs.Claims.{MeasureMeans, MultipleMeans, MultipleOfMeans, WithinMeans, CeilingMeans}
 use Rattle.wholes.proofs.MeasureLaws.{common_measure_lem, measure_unique}
 use Rattle.wholes.proofs.MultipleLaws.{least_multiple_lem, least_unique, least_multiple_of_lem, least_of_unique}
@@ -20,7 +20,7 @@ multiple_of_means = record { is = least_multiple_of_lem; one = λ a bs m n x y. 
 
 pub within_means : WithinMeans
 within_means = record {
-  number = λ limit m n. (within_value limit m n, λ (w : (n ≡ m) × (m ≤ limit)). within_is limit m w.1 ∙ ap Within (sym w.0));
+  number = λ limit m n. (within_value limit m n, λ (w : (n ≡ m) × (m ≤ limit)). within_is limit m w.1 ∙ ap Some (sym w.0));
   none = λ limit m. (past_value limit m, past_is limit m);
 }
 

@@ -1,10 +1,9 @@
 -- What is claimed of the three definitions that compute: each is what its record says, and nothing else is.
 -- They are proved in proofs/Claims.antt.
-use Rattle.std.specs.Prelude.{ℕ, ◌≤◌, ◌<◌, ◌≡◌, ◌↔◌, List}
+use Rattle.std.specs.Prelude.{ℕ, ◌≤◌, ◌<◌, ◌≡◌, ◌↔◌, List, None, Some}
 use Rattle.wholes.specs.Measure.{CommonMeasure, common_measure}
 use Rattle.wholes.specs.Multiple.{LeastMultiple, least_multiple, LeastMultipleOf, least_multiple_of, within}
 use Rattle.wholes.specs.Ceiling.{Ceiling, ceiling_of}
-use Rattle.wholes.specs.declared.Multiple.TheVariants.{Within, Past}
 
 -- the common measure of two numbers
 pub record MeasureMeans : Type 0 where
@@ -23,8 +22,8 @@ pub record MultipleOfMeans : Type 0 where
 
 -- under a limit: the number itself exactly where it is at most the limit, none exactly where it is past it
 pub record WithinMeans : Type 0 where
-  pub number : (limit m n : ℕ) → (within limit m ≡ Within n) ↔ ((n ≡ m) × (m ≤ limit))
-  pub none : (limit m : ℕ) → (within limit m ≡ Past) ↔ (limit < m)
+  pub number : (limit m n : ℕ) → (within limit m ≡ Some n) ↔ ((n ≡ m) × (m ≤ limit))
+  pub none : (limit m : ℕ) → (within limit m ≡ None) ↔ (limit < m)
 
 -- a quotient rounded up
 pub record CeilingMeans : Type 0 where

@@ -1,10 +1,8 @@
 -- The least common multiple of two numbers, and of a first number and a list; and what a function answers under a limit.
 -- Document 01: "The horizon H is the least common multiple of S and every T of the file, at most 10,000,000" (RULES 1.4).
-use Rattle.std.specs.Prelude.{ℕ, ◌*◌, ◌/◌, ◌≤◌, ◌<◌, List, [], ◌∷◌, cond, leb, length, get_or}
+use Rattle.std.specs.Prelude.{ℕ, ◌*◌, ◌/◌, ◌≤◌, ◌<◌, List, [], ◌∷◌, cond, leb, length, get_or, None, Option, Some}
 use Rattle.std.specs.Int.{◌∣◌}
 use Rattle.wholes.specs.Measure.{common_measure}
-use Rattle.wholes.specs.declared.Multiple.{Multiple}
-use Rattle.wholes.specs.declared.Multiple.TheVariants.{Within, Past}
 
 -- m is a multiple of both, and divides every number that is. The least common multiple with 0 is 0.
 pub record LeastMultiple (a b m : ℕ) : Type 0 where
@@ -30,8 +28,8 @@ least_multiple_of a [] = a
 least_multiple_of a (b ∷ bs) = least_multiple_of (least_multiple a b) bs
 
 -- m itself where it is at most the limit
-unfoldable pub within : (limit m : ℕ) → Multiple
-within limit m = cond (leb m limit) (Within m) Past
+unfoldable pub within : (limit m : ℕ) → Option ℕ
+within limit m = cond (leb m limit) (Some m) None
 
 -- every number of the list is at least 1
 abbrev pub AllPositive : List ℕ → Type 0

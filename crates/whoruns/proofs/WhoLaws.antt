@@ -1,10 +1,10 @@
 -- Laws of the question who runs, of a plan that the planner makes of its set, and of another.
 -- Assumes nothing.
+use Rattle.std.specs.Prelude.{Ok}
 use Prim.Native.Nat.{ℕ}
 use mathlib.Core.Path.{◌≡◌}
 use mathlib.Core.Bool.{true, false}
 use Rattle.refusals.specs.declared.Refusal.TheVariants.{Ask}
-use Rattle.refusals.specs.declared.Outcome.TheVariants.{Done}
 use Rattle.ring.specs.declared.clock.Tick.{Tick}
 use Rattle.ring.specs.declared.cover.Stand.{Stand}
 use Rattle.ring.specs.Who.{who_of}
@@ -22,7 +22,7 @@ module _ (set : TaskSet) (plan : Plan) (m : makes set plan ≡ true) where
   who_absent p x e = rw (m, e)
 
   pub who_there : (p : ℕ) (x : Tick) (stand : Stand) → is_processor plan p ≡ true → stand ≡ who_of set.header.slot (set_reserves set) p x
-      → record { outcome = Done; server = stand.server; left = stand.left } ≡ who_runs set plan p x
+      → record { outcome = Ok tt; server = stand.server; left = stand.left } ≡ who_runs set plan p x
   unfolding who_runs
   who_there p x stand e f = rw (m, e, f)
 

@@ -2,7 +2,7 @@
 -- Assumes nothing.
 use mathlib.Core.Path.{◌∙◌, ap}
 use native.Mathlib.Omega.{arith}
-use Rattle.refusals.specs.declared.Written.{Written}
+use Rattle.refusals.specs.Refused.{Written}
 use Rattle.refusals.specs.Leaves.{leaves}
 use Rattle.planfit.proofs.FitLaws.{fitted_bytes}
 use Rattle.wordline.specs.Claims as claims

@@ -6,7 +6,7 @@ use mathlib.Core.List.{List}
 use lib.ListN.{length, take, drop}
 use lib.Seq.{take_at}
 use Rattle.digits.specs.Stored.{stored}
-use Rattle.refusals.specs.declared.Written.{Written}
+use Rattle.refusals.specs.Refused.{Written}
 use Rattle.wordline.specs.Lined.{Lined}
 
 -- the front of a buffer that holds a line at its start is the line

@@ -1,6 +1,6 @@
 -- A line into a lent buffer: stored at its start where it fits, else ROOM and nothing stored. No line is longer than the longest.
 use Rattle.std.specs.Prelude.{ℕ, ◌≤◌, List, length}
-use Rattle.refusals.specs.declared.Written.{Written}
+use Rattle.refusals.specs.Refused.{Written}
 use Rattle.planfit.specs.Fit.{Fits}
 
 -- the bytes of the longest line: 90 of words, with six numbers of at most 20 digits for their signs

@@ -8,8 +8,8 @@ ghost use Rattle.wordline.specs.Words.{signs, said};
 ghost use Rattle.wordline.specs.Lined.{longest_line, Lined};
 
 use decimaltext::put_decimal;
-use fieldwrite::put_bytes;
 use refusals::{Refusal, Written};
+use store::store;
 
 // No line is longer.
 pub const LONGEST: usize = 204;
@@ -23,17 +23,14 @@ pub fn put_words(out: &mut [u8], words: &[u8], numbers: &[u64]) -> usize
 {
     let mut at = 0;
     let mut next = 0;
-    let mut i = 0;
-    while i < words.len() {
-        let byte = words[i];
-        if byte == b'#' {
+    for byte in words {
+        if *byte == b'#' {
             at = put_decimal(out, at, numbers[next]);
             next += 1;
         } else {
-            out[at] = byte;
+            out[at] = *byte;
             at += 1;
         }
-        i += 1;
     }
     at
 }
@@ -47,8 +44,8 @@ pub fn fit_words(words: &[u8], numbers: &[u64], out: &mut [u8]) -> Written
     let mut line = [0u8; LONGEST];
     let n = put_words(&mut line, words, numbers);
     if out.len() < n {
-        return Written::Refused(Refusal::Room);
+        return Err(Refusal::Room);
     }
-    put_bytes(out, 0, &line[..n]);
-    Written::Bytes(n)
+    store(out, 0, &line[..n]);
+    Ok(n)
 }

@@ -17,7 +17,7 @@ pub fn write_plan(set: TaskSet, plan: Plan, out: &mut [u8]) -> Written
     ensures { (result ≡ write_plan set plan out.old) × (out.new ≡ leaves (write_plan set plan out.old) out.old (plan_text set plan)) }
 {
     if !makes_plan(set, plan) {
-        return Written::Refused(Refusal::Ask);
+        return Err(Refusal::Ask);
     }
     fit_plan(set, plan, out)
 }

@@ -8,15 +8,15 @@ use Rattle.wordline.proofs.LineLaws.{lined_as}
 use Rattle.answerline.proofs.LineLaws.{refusal_lined}
 use Rattle.answerline.proofs.who_line.Goals as goal
 
-pub returns-in-Done : goal.returns-in-Done
-returns-in-Done c =
+pub returns-in-Ok : goal.returns-in-Ok
+returns-in-Ok c =
     let a = c.args in
     lined_as c.fit_stand.ensures
-    (when_done refusal_text (λ (w : WhoAnswer). w.outcome) (λ (w : WhoAnswer). stand_line w.server w.left a.processor a.tick) c.who_in-who.ensures c.in-Done.is)
+    (when_done refusal_text (λ (w : WhoAnswer). w.outcome) (λ (w : WhoAnswer). stand_line w.server w.left a.processor a.tick) c.who_in-who.ensures c.in-Ok.is)
 
-pub returns-in-Refused : goal.returns-in-Refused
-returns-in-Refused c =
+pub returns-in-Err : goal.returns-in-Err
+returns-in-Err c =
     let a = c.args in
-    let refusal = c.in-Refused in
+    let refusal = c.in-Err in
     lined_as (refusal_lined refusal.refusal c.fit_refusal.ensures)
     (when_refused refusal_text (λ (w : WhoAnswer). w.outcome) (λ (w : WhoAnswer). stand_line w.server w.left a.processor a.tick) c.who_in-who.ensures refusal.is)

@@ -20,23 +20,23 @@ file m = of_file _ m.rows_read-rows.ensures m.read-file.ensures m.settle-made.en
 pass_served-requires : tie.Need-pass_served-requires
 pass_served-requires c κs =
     let m = c.before.before in
-    ((file m).clear c.in-Done.is, (file m).servers c.in-Done.is)
+    ((file m).clear c.in-Ok.is, (file m).servers c.in-Ok.is)
 
-returns-in-Done : tie.Need-returns-in-Done
+returns-in-Ok : tie.Need-returns-in-Ok
 unfolding pass_in
-returns-in-Done c =
+returns-in-Ok c =
     let t = c.before in
     let m = t.before.before in
     let a = (begun m).args in
-    c.pass_served.ensures ∙ ap (pass_of_file a.server a.reserve) ((file m).planned t.in-Done.is refl)
+    c.pass_served.ensures ∙ ap (pass_of_file a.server a.reserve) ((file m).planned t.in-Ok.is refl)
 
-returns-in-Refused : tie.Need-returns-in-Refused
+returns-in-Err : tie.Need-returns-in-Err
 unfolding pass_in
-returns-in-Refused c =
+returns-in-Err c =
     let t = c.before in
     let m = t.before in
     let a = (begun m).args in
-    c.refused_pass.ensures ∙ ap (pass_of_file a.server a.reserve) ((file m).refused t.in-Refused.is)
+    c.refused_pass.ensures ∙ ap (pass_of_file a.server a.reserve) ((file m).refused t.in-Err.is)
 
 pub pass_in_spec : {M : Type 1} → statement M
 pass_in_spec =
@@ -49,5 +49,5 @@ pass_in_spec =
     pass_served-requires
     (λ c. search rules)
     (λ c κs. search rules)
-    returns-in-Done
-    returns-in-Refused)
+    returns-in-Ok
+    returns-in-Err)

@@ -21,26 +21,26 @@ file m = of_file _ m.rows_read-rows.ensures m.read-file.ensures m.settle-made.en
 plan_of-requires : tie.Need-plan_of-requires
 plan_of-requires c κs =
     let m = c.before.before in
-    ((outcome_clear _ ((file m).clear c.in-Done.is)).0, (file m).servers c.in-Done.is)
+    ((outcome_clear _ ((file m).clear c.in-Ok.is)).0, (file m).servers c.in-Ok.is)
 
 who_made-requires : tie.Need-who_made-requires
-who_made-requires c κs = set_makes _ ((file c.before.before.before).clear c.in-Done.is) c.plan_of.ensures
+who_made-requires c κs = set_makes _ ((file c.before.before.before).clear c.in-Ok.is) c.plan_of.ensures
 
-returns-in-Done : tie.Need-returns-in-Done
+returns-in-Ok : tie.Need-returns-in-Ok
 unfolding who_in
-returns-in-Done c =
+returns-in-Ok c =
     let t = c.before.before in
     let m = t.before.before in
     let a = (begun m).args in
-    c.who_made.ensures ∙ ap (who_of_file a.processor a.tick) ((file m).planned t.in-Done.is c.plan_of.ensures)
+    c.who_made.ensures ∙ ap (who_of_file a.processor a.tick) ((file m).planned t.in-Ok.is c.plan_of.ensures)
 
-returns-in-Refused : tie.Need-returns-in-Refused
+returns-in-Err : tie.Need-returns-in-Err
 unfolding who_in
-returns-in-Refused c =
+returns-in-Err c =
     let t = c.before in
     let m = t.before in
     let a = (begun m).args in
-    c.refused_who.ensures ∙ ap (who_of_file a.processor a.tick) ((file m).refused t.in-Refused.is)
+    c.refused_who.ensures ∙ ap (who_of_file a.processor a.tick) ((file m).refused t.in-Err.is)
 
 pub who_in_spec : {M : Type 1} → statement M
 who_in_spec =
@@ -54,5 +54,5 @@ who_in_spec =
     who_made-requires
     (λ c. search rules)
     (λ c κs. search rules)
-    returns-in-Done
-    returns-in-Refused)
+    returns-in-Ok
+    returns-in-Err)

@@ -1,7 +1,7 @@
 -- `askwords::asked` meets its contract, by the two numbers and the word.
 -- Assumes nothing.
+use Rattle.std.specs.Prelude.{Some}
 use mathlib.Core.Path.{◌≡◌, sym, ◌∙◌}
-use Rattle.decimals.specs.declared.Number.TheVariants.{Of}
 use Rattle.decimals.specs.Decimal.{decimal_of}
 use Rattle.askwords.proofs.QuestionLaws.{same_word, first_wrong, second_wrong, asks_who, asks_pass, asks_neither}
 use borrow.Author.Rules.{rules}
@@ -9,11 +9,11 @@ use Rattle.askwords.proofs.asked.Statement.{statement}
 use Rattle.askwords.proofs.asked.Tie as tie
 
 -- the two numbers, where they are read
-first_is : (c : tie.In-Of) → decimal_of c.args.first.now ≡ Of c.in-Of.one
-first_is c = sym c.decimal.ensures ∙ c.in-Of.is
+first_is : (c : tie.In-Some) → decimal_of c.args.first.now ≡ Some c.in-Some.one
+first_is c = sym c.decimal.ensures ∙ c.in-Some.is
 
-second_is : (c : tie.In-Of-decimal) → decimal_of c.args.second.now ≡ Of c.in-Of-decimal.other
-second_is c = sym c.decimal-2.ensures ∙ c.in-Of-decimal.is
+second_is : (c : tie.In-Some-decimal) → decimal_of c.args.second.now ≡ Some c.in-Some-decimal.other
+second_is c = sym c.decimal-2.ensures ∙ c.in-Some-decimal.is
 
 returns-in_default : tie.Need-returns-in_default
 returns-in_default c =

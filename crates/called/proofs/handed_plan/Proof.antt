@@ -3,7 +3,7 @@ use Prim.Native.Nat.{ℕ}
 use mathlib.Core.Path.{◌≡◌, ◌∙◌, ap}
 use mathlib.Core.List.{List}
 use borrow.Author.Rules.{rules}
-use Rattle.refusals.specs.declared.Outcome.{Outcome}
+use Rattle.refusals.specs.Refused.{Outcome}
 use Rattle.planner.specs.declared.PlanAnswer.{PlanAnswer}
 use Rattle.planner.specs.Planner.{plan_of}
 use Rattle.told.specs.Told.{status_of, leaves_numbers}
@@ -25,17 +25,17 @@ told answer set = told_by (λ (m : PlanAnswer). m.outcome) (λ (m : PlanAnswer).
 made : (c : tie.After-make-made) → c.make-made.result ≡ plan_of (set_from c.args.set.now)
 made c = c.make-made.ensures ∙ ap plan_of c.set_from.ensures
 
-returns-in-Done : tie.Need-returns-in-Done
-returns-in-Done c =
+returns-in-Ok : tie.Need-returns-in-Ok
+returns-in-Ok c =
     let m = c.before.before.before.before.before.before in
     let a = m.args in
-    told a.answer.now a.set.now (made m) c.in-Done.is c.put_plan.ensures
+    told a.answer.now a.set.now (made m) c.in-Ok.is c.put_plan.ensures
 
-returns-in-Refused : tie.Need-returns-in-Refused
-returns-in-Refused c =
+returns-in-Err : tie.Need-returns-in-Err
+returns-in-Err c =
     let m = c.before.before.before in
     let a = m.args in
-    told a.answer.now a.set.now (made m) c.in-Refused.is (told_refused _ a.answer.now _ c.code.ensures)
+    told a.answer.now a.set.now (made m) c.in-Err.is (told_refused _ a.answer.now _ c.code.ensures)
 
 pub handed_plan_spec : {M : Type 1} → statement M
 handed_plan_spec =
@@ -48,5 +48,5 @@ handed_plan_spec =
     (λ c. search rules)
     (λ c κs. search rules)
     (λ c. search rules)
-    returns-in-Done
-    returns-in-Refused)
+    returns-in-Ok
+    returns-in-Err)

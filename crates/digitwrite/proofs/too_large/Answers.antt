@@ -1,4 +1,4 @@
--- `digitwrite::too_large_lem` meets its contract: what is left after as many digits as the width is nothing exactly when the number fits.
+-- `digitwrite::too_large` meets its contract: what is left after as many digits as the width is nothing exactly when the number fits.
 -- Assumes nothing.
 use Prim.Native.Nat.{ℕ, ◌/◌, ◌^◌}
 use mathlib.Core.Path.{◌≡◌, sym, ◌∙◌, ap}
@@ -10,18 +10,18 @@ use lib.Dec.{eqb}
 use Rattle.digits.proofs.Numbers.{digits_left}
 use Rattle.digitwrite.proofs.too_large.Goals as goal
 
-pub loop-passed-init : goal.loop-passed-init
-loop-passed-init c = (omega arith, sym (div-one c.args.value))
+pub loop-init : goal.loop-init
+loop-init c = (omega arith, sym (div-one c.args.value))
 
-pub loop-passed-preserved : goal.loop-passed-preserved
-loop-passed-preserved c =
+pub loop-preserved : goal.loop-preserved
+loop-preserved c =
     let v = c.args.value in
-    let l = c.loop-passed in
-    (omega arith, ap (λ (n : ℕ). n / 16) l.invariant.1 ∙ div-div-eq-div-mul v (16 ^ l.passed) 16 ∙ ap (λ (n : ℕ). v / n) (sym (pow-suc 16 l.passed) ∙ ap (λ (n : ℕ). 16 ^ n) (sym (add-one l.passed))))
+    let l = c.loop in
+    (omega arith, ap (λ (n : ℕ). n / 16) l.invariant.1 ∙ div-div-eq-div-mul v (16 ^ l.counter) 16 ∙ ap (λ (n : ℕ). v / n) (sym (pow-suc 16 l.counter) ∙ ap (λ (n : ℕ). 16 ^ n) (sym (add-one l.counter))))
 
 pub returns : goal.returns
 returns c =
     let a = c.args in
-    let l = c.loop-passed in
-    let all : l.passed ≡ a.width = omega arith in
+    let l = c.loop in
+    let all : l.counter ≡ a.width = omega arith in
     ap (λ (n : ℕ). not (eqb n 0)) (l.invariant.1 ∙ ap (λ (n : ℕ). a.value / 16 ^ n) all) ∙ digits_left a.width a.value

@@ -5,4 +5,4 @@ use Rattle.fieldwrite.proofs.put_mark.Goals as goal
 
 pub returns : goal.returns
 unfolding mark_of
-returns c = c.put_bytes.ensures
+returns c = c.store.ensures

@@ -11,22 +11,22 @@ use Rattle.frameread_code.proofs.kind_at.Goals as goal
 
 pub loop-i-init : goal.loop-i-init
 unfolding kind_at
-loop-i-init c = (omega arith, refl)
+loop-i-init c = refl
 
 pub returns-then-is_line : goal.returns-then-is_line
 returns-then-is_line c =
     let a = c.args in
     let l = c.loop-i in
-    sym (search_found all_frames (drop a.at a.text.now) l.i Header (omega arith) (sym c.is_line.ensures ∙ c.if-is_line.true)) ∙ l.invariant.1
+    sym (search_found all_frames (drop a.at a.text.now) l.i Header (omega arith) (sym c.is_line.ensures ∙ c.if-is_line.true)) ∙ l.invariant
 
 pub loop-i-preserved : goal.loop-i-preserved
 loop-i-preserved c =
     let a = c.args in
     let l = c.loop-i in
-    (omega arith, sym (search_next all_frames (drop a.at a.text.now) l.i Header (omega arith) (sym c.is_line.ensures ∙ c.if-is_line.false)) ∙ l.invariant.1)
+    sym (search_next all_frames (drop a.at a.text.now) l.i Header (omega arith) (sym c.is_line.ensures ∙ c.if-is_line.false)) ∙ l.invariant
 
 pub returns : goal.returns
 returns c =
     let a = c.args in
     let l = c.loop-i in
-    sym (search_over all_frames (drop a.at a.text.now) l.i (omega arith)) ∙ l.invariant.1
+    sym (search_over all_frames (drop a.at a.text.now) l.i (omega arith)) ∙ l.invariant

@@ -6,4 +6,4 @@ pub returns-then-absent : goal.returns-then-absent
 returns-then-absent c = rw (← c.number_at-absent.ensures, eq-eqb _ _ c.if-absent.true)
 
 pub returns : goal.returns
-returns c = rw (c.number_at.ensures, ← c.number_at-absent.ensures, ne_eqb _ _ c.if-absent.false)
+returns c = rw (c.half_at.ensures, ← c.number_at-absent.ensures, ne_eqb _ _ c.if-absent.false)

@@ -1,17 +1,7 @@
--- `handedplan::placement_from` meets its contract. The loop's invariant: the places passed hold their numbers.
--- The measure is what is left of the room. Assumes nothing.
-use Prim.Native.Nat.{ℕ, ◌+◌}
-use native.Mathlib.Omega.{arith}
-use Rattle.places.proofs.PaddedLaws.{filled_none}
-use Rattle.handed.specs.Handed.{number_at, placement_at}
-use Rattle.handed.proofs.HandedLaws.{filled_there, filled_up}
+-- `handedplan::placement_from` meets its contract: each place holds its number. Assumes nothing.
+use Rattle.std.proofs.Common.{rules}
+use Rattle.places.proofs.MadeLaws.{made_to}
 use Rattle.handedplan.proofs.placement_from.Goals as goal
 
-pub loop-i-init : goal.loop-i-init
-loop-i-init c = (omega arith, filled_none _)
-
-pub loop-i-preserved : goal.loop-i-preserved
-loop-i-preserved c = (omega arith, filled_there (λ (i : ℕ). number_at c.args.numbers.now (placement_at + i)) c.loop-i.invariant.1 (omega arith) c.number_at.ensures)
-
 pub returns : goal.returns
-returns c = filled_up c.loop-i.invariant.1 (omega arith)
+returns c = made_to _ _ _ (λ i y q l k. search rules) c.from_fn.ensures.items

@@ -6,12 +6,12 @@ pub returns : goal.returns
 unfolding plan_from
 returns c =
     rw (
-      c.servers_from-server.ensures,
-      c.placement_from-placement.ensures,
-      c.first_from-first.ensures,
       c.number_at.ensures,
       c.number_at-2.ensures,
       c.number_at-3.ensures,
       c.number_at-4.ensures,
       c.number_at-5.ensures,
+      c.servers_from.ensures,
+      c.placement_from.ensures,
+      c.first_from.ensures,
     )

@@ -1,30 +1,18 @@
--- `handedservers::server_from` meets its contract. The loop's invariant: the places passed are those of the numbers.
--- The measure is what is left of the room. Assumes nothing.
-use Prim.Native.Nat.{ℕ, ◌%◌, ◌^◌}
-use native.Mathlib.Omega.{arith}
-use mathlib.Core.Path.{refl, ap, ◌∙◌}
-use Rattle.places.proofs.PaddedLaws.{filled_none, filled_next}
+-- `handedservers::server_from` meets its contract: each place holds the byte of its number. Assumes nothing.
+use Prim.Native.Nat.{ℕ, ◌+◌}
+use Rattle.std.proofs.Common.{rules}
 use Rattle.handed.specs.Handed.{byte_at}
+use Rattle.places.proofs.MadeLaws.{made_to}
 use Rattle.handedservers.specs.Servers.{server_from}
-use Rattle.handed.proofs.HandedLaws.{filled_up}
 use Rattle.handedservers.proofs.server_from.Goals as goal
-
-pub loop-i-init : goal.loop-i-init
-loop-i-init c = (omega arith, filled_none _)
-
-pub loop-i-preserved : goal.loop-i-preserved
-loop-i-preserved c = (
-  omega arith,
-  filled_next c.loop-i.invariant.1 refl (omega arith) (ap (λ (n : ℕ). n % 2 ^ 8) c.number_at.ensures ∙ ap (byte_at c.args.numbers.now) (omega arith)),
-)
 
 pub returns : goal.returns
 unfolding server_from
 returns c =
     rw (
-      filled_up c.loop-i.invariant.1 (omega arith),
-      c.number_at-count.ensures,
-      c.number_at-reserve.ensures,
+      made_to _ (λ (k : ℕ). byte_at c.args.numbers.now (c.args.at + k)) _ (λ i y q l k. search rules) c.from_fn.ensures.items,
+      c.number_at.ensures,
       c.number_at-2.ensures,
-      c.number_at-cache.ensures,
+      c.number_at-3.ensures,
+      c.number_at-4.ensures,
     )

@@ -1,8 +1,8 @@
 -- `header_at` meets its contract: each field of a formed line fits its type.
+use Rattle.std.specs.Prelude.{None}
 use native.Mathlib.Omega.{arith}
 use Rattle.frames.specs.Table.{widths_of}
 use Rattle.frames.specs.declared.table.Frame.{Frame}
-use Rattle.tasks.specs.declared.set.Optional.TheVariants.{Absent}
 use Rattle.taskfile.proofs.Standing.{field_within}
 use Rattle.taskfile.specs.File.{header_at}
 use Rattle.headerline_code.proofs.header_at.Goals as goal
@@ -44,4 +44,4 @@ overflow_cast-result-7 c =
 
 pub returns : goal.returns
 unfolding header_at
-returns c = λ i. record { processors = c.field.ensures i; slot = c.field-2.ensures i; relj = c.field-3.ensures i; relo = c.field-4.ensures i; ctswo = c.field-5.ensures i; resd = c.field-6.ensures i; cpmdo = c.field-7.ensures i; masked = Absent; rule = Absent }
+returns c = λ i. record { processors = c.field.ensures i; slot = c.field-2.ensures i; relj = c.field-3.ensures i; relo = c.field-4.ensures i; ctswo = c.field-5.ensures i; resd = c.field-6.ensures i; cpmdo = c.field-7.ensures i; masked = None; rule = None }

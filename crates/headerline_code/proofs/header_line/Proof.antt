@@ -1,4 +1,7 @@
 -- `header_line` meets its contract: what line 1 is, and what it then answers.
+use Rattle.refusals.specs.declared.Refusal.{Refusal}
+use Rattle.tasks.specs.declared.set.Header.{Header}
+use Rattle.std.specs.Prelude.{None, Ok, Result}
 use mathlib.Core.Path.{◌≡◌, sym, ap, ◌∙◌}
 use mathlib.Core.Bool.{true, false}
 use mathlib.Core.List.{List}
@@ -6,11 +9,9 @@ use Prim.Native.Nat.{ℕ}
 use native.Mathlib.Omega.{arith}
 use Rattle.frameread.specs.Line.{formed, kind_at}
 use Rattle.frames.specs.declared.table.Frame.{Frame}
-use Rattle.frameread.specs.declared.Found.{Found}
-use Rattle.refusals.specs.declared.Outcome.{Outcome}
-use Rattle.headerline.specs.declared.HeaderLine.{HeaderLine}
+use Rattle.refusals.specs.Refused.{Outcome}
 use Rattle.taskfile.specs.File.{line_outcome, header_at, empty}
-use Rattle.headerline.specs.Answer.{header_or}
+use Rattle.lineanswer.specs.Answer.{line_or}
 use Rattle.frameread.proofs.KindLaws.{kind_formed, kind_none}
 use Rattle.taskfile.proofs.Past.{nothing_left}
 use Rattle.taskfile.proofs.Lines.{admits_none, first_missing, first_header, first_other}
@@ -20,8 +21,8 @@ use Rattle.headerline_code.proofs.header_line.Statement.{statement}
 use Rattle.headerline_code.proofs.header_line.Tie as tie
 
 -- the answer for an outcome of the line
-abbrev given : List ℕ → Outcome → HeaderLine
-given text o = header_or o (header_at text)
+abbrev given : List ℕ → Outcome → Result Header Refusal
+given text o = line_or o (header_at text)
 
 returns-then-text-eq0 : tie.Need-returns-then-text-eq0
 returns-then-text-eq0 c =
@@ -35,13 +36,13 @@ there c = byte_there 0 c.args.text.now (omega (arith, c.if-text-eq0.false))
 returns-in_default : tie.Need-returns-in_default
 returns-in_default c =
     let text : List ℕ = c.args.text.now in
-    let nothing : kind_at text ≡ Found.Nothing = sym c.kind_at-found.ensures ∙ c.in_default.is in
+    let nothing : kind_at text ≡ None = sym c.kind_at-found.ensures ∙ c.in_default.is in
     sym (ap (given text) (first_other text (there c.before.before) (admits_none text (kind_none text nothing))))
 
 -- the frame that was found is formed
-is-formed : (c : tie.In-Frame) → formed c.in-Frame.frame c.args.text.now ≡ true
+is-formed : (c : tie.In-Some) → formed c.in-Some.frame c.args.text.now ≡ true
 is-formed c =
-    kind_formed c.in-Frame.frame c.args.text.now (sym c.kind_at-found.ensures ∙ c.in-Frame.is)
+    kind_formed c.in-Some.frame c.args.text.now (sym c.kind_at-found.ensures ∙ c.in-Some.is)
 
 header_at-header-requires : tie.Need-header_at-header-requires
 header_at-header-requires c κs = ap (λ (f : Frame). formed f c.args.text.now) (sym c.in-Header.is) ∙ is-formed c.before
@@ -50,18 +51,18 @@ returns-in-Header : tie.Need-returns-in-Header
 returns-in-Header c =
     let text : List ℕ = c.args.text.now in
     let header : formed Frame.Header text ≡ true = ap (λ (f : Frame). formed f text) (sym c.in-Header.is) ∙ is-formed c.before.before in
-    ap HeaderLine.Header c.header_at-header.ensures ∙ sym (ap (given text) (first_header text header))
+    ap Ok c.header_at-header.ensures ∙ sym (ap (given text) (first_header text header))
 
 returns-in_default-frame : tie.Need-returns-in_default-frame
 returns-in_default-frame c =
     let text : List ℕ = c.args.text.now in
-    let other = other_frame c.in-Frame.frame text c.in_default-frame.in_default-frame-own.keys3 (is-formed c.before) in
+    let other = other_frame c.in-Some.frame text c.in_default-frame.in_default-frame-own.keys3 (is-formed c.before) in
     sym (ap (given text) (first_other text (there c.before.before.before) other))
 
 returns-in-Task : tie.Need-returns-in-Task
 returns-in-Task c =
     let text : List ℕ = c.args.text.now in
-    sym (ap (given text) (first_said c.in-Frame.frame text (is-formed c.before) c.in-Task.in-Task-own.keys2))
+    sym (ap (given text) (first_said c.in-Some.frame text (is-formed c.before) c.in-Task.in-Task-own.keys2))
 
 pub header_line_spec : {M : Type 1} → statement M
 header_line_spec =

@@ -1,4 +1,5 @@
 -- `interrupt_row` meets its contract: what a line behind the tasks is, and what it then answers.
+use Rattle.std.specs.Prelude.{None}
 use mathlib.Core.Path.{◌≡◌, sym, ap, ◌∙◌}
 use mathlib.Core.Bool.{true}
 use mathlib.Core.List.{List}
@@ -7,7 +8,6 @@ use native.Mathlib.Omega.{arith}
 use lib.ListN.{drop}
 use Rattle.frameread.specs.Line.{formed, kind_at}
 use Rattle.frames.specs.declared.table.Frame.{Frame}
-use Rattle.frameread.specs.declared.Found.{Found}
 use Rattle.frameread.proofs.KindLaws.{kind_formed, kind_none}
 use Rattle.tasks.specs.Set.{most_interrupts}
 use Rattle.taskfile.proofs.Lines.{admits_none}
@@ -23,13 +23,13 @@ rest s = drop s.args.at s.args.text.now
 returns-in_default : tie.Need-returns-in_default
 returns-in_default c =
     let s = c.before.before.before in
-    let nothing : kind_at (rest s) ≡ Found.Nothing = sym c.kind_at-found.ensures ∙ c.in_default.is in
+    let nothing : kind_at (rest s) ≡ None = sym c.kind_at-found.ensures ∙ c.in_default.is in
     sym (said_line s.requires.0.taken s.requires.1.0 (admits_none (rest s) (kind_none (rest s) nothing)))
 
 -- the frame that was found is formed
-is-formed : (c : tie.In-Frame) → formed c.in-Frame.frame (rest c.before.before.before) ≡ true
+is-formed : (c : tie.In-Some) → formed c.in-Some.frame (rest c.before.before.before) ≡ true
 is-formed c =
-    kind_formed c.in-Frame.frame (rest c.before.before.before) (sym c.kind_at-found.ensures ∙ c.in-Frame.is)
+    kind_formed c.in-Some.frame (rest c.before.before.before) (sym c.kind_at-found.ensures ∙ c.in-Some.is)
 
 -- it is an 07 line
 interrupt : (c : tie.In-Interrupt) → formed Frame.Interrupt (rest c.before.before.before.before) ≡ true
@@ -44,12 +44,12 @@ returns-then-full c =
 returns-in_default-frame : tie.Need-returns-in_default-frame
 returns-in_default-frame c =
     let s = c.before.before.before.before in
-    let other = other_frame c.in-Frame.frame (rest s) c.in_default-frame.in_default-frame-own.keys3 (is-formed c.before) in
+    let other = other_frame c.in-Some.frame (rest s) c.in_default-frame.in_default-frame-own.keys3 (is-formed c.before) in
     sym (said_line s.requires.0.taken s.requires.1.0 other)
 
 returns-in-Header : tie.Need-returns-in-Header
 returns-in-Header c =
-    sym (said_behind c.requires.0 c.in-Frame.frame (is-formed c.before) c.in-Header.in-Header-own.keys1)
+    sym (said_behind c.requires.0 c.in-Some.frame (is-formed c.before) c.in-Header.in-Header-own.keys1)
 
 returns-else-full : tie.Need-returns-else-full
 returns-else-full c =

@@ -1,5 +1,6 @@
 -- `interrupt_lines` meets its contract.
 -- The loop's invariant: the lines so far are taken, the interrupts are what they hold, and the cursor stands behind them.
+use Rattle.std.specs.Prelude.{Ok}
 use Prim.Native.Nat.{◌+◌, ◌-◌, ◌≤◌, ◌<◌}
 use native.Mathlib.Omega.{arith}
 use mathlib.Core.Path.{◌≡◌, sym, ◌∙◌}
@@ -7,7 +8,6 @@ use borrow.Author.Rules.{rules}
 use lib.ListN.{length}
 use Rattle.frames.specs.Table.{most_digits}
 use Rattle.frames.proofs.Tables.{length_most}
-use Rattle.refusals.specs.declared.Outcome.TheVariants.{Done}
 use Rattle.refusals.proofs.FirstLaws.{done_refused}
 use Rattle.tasks.specs.Set.{most_interrupts}
 use Rattle.taskfile.specs.File.{line_outcome}
@@ -35,15 +35,15 @@ returns-in_default c =
     ended_refused c.loop-at.invariant c.interrupt_row-outcome.ensures (λ done. done_refused (sym done ∙ c.in_default.is))
 
 -- and where it is clear
-clear : (c : tie.In-Done invariant-loop-at decreases-loop-at) → line_outcome c.args.text.now (c.loop-at.lines + 1) ≡ Done
-clear c = sym c.interrupt_row-outcome.ensures ∙ c.in-Done.is
+clear : (c : tie.In-Ok invariant-loop-at decreases-loop-at) → line_outcome c.args.text.now (c.loop-at.lines + 1) ≡ Ok tt
+clear c = sym c.interrupt_row-outcome.ensures ∙ c.in-Ok.is
 
 interrupt_at-interrupt-requires : tie.Need-interrupt_at-interrupt-requires invariant-loop-at decreases-loop-at
 interrupt_at-interrupt-requires c κs =
     (omega (arith, c.loop-at-test.true), interrupt_there c.loop-at.invariant c.loop-at-test.true (clear c))
 
 -- there is room for the interrupt
-room : (c : tie.In-Done invariant-loop-at decreases-loop-at) → c.loop-at.interrupts.count < most_interrupts
+room : (c : tie.In-Ok invariant-loop-at decreases-loop-at) → c.loop-at.interrupts.count < most_interrupts
 room c =
     interrupt_room c.loop-at.invariant c.loop-at-test.true (clear c)
 

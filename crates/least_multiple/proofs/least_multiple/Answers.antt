@@ -1,20 +1,20 @@
 -- `wholes::least_multiple` meets its contract: the quotient is at most the limit's exactly when the multiple is at most the limit.
 -- Assumes nothing.
+use Rattle.std.specs.Prelude.{Some}
 use Prim.Native.Nat.{ℕ, ◌*◌, ◌/◌, ◌≤◌, ◌<◌}
 use mathlib.Core.Path.{◌≡◌, sym, ap, ◌∙◌}
 use native.Mathlib.Nat.{pos_of_ne-zero, le-div_iff_mul-le, div-lt_iff_lt-mul}
 use native.Mathlib.Omega.{arith}
 use Rattle.wholes.specs.Measure.{common_measure}
 use Rattle.wholes.specs.Multiple.{least_multiple, within}
-use Rattle.wholes.specs.declared.Multiple.TheVariants.{Within}
 use Rattle.wholes.proofs.MeasureLaws.{measure_pos}
 use Rattle.wholes.proofs.MultipleLaws.{multiple_zero, multiple_by}
 use Rattle.wholes.proofs.WithinLaws.{within_is, past_is}
 use Rattle.least_multiple.proofs.least_multiple.Goals as goal
 
 -- the number computed is the multiple, and is at most the limit
-answer : (limit m n : ℕ) → n ≡ m → n ≤ limit → Within n ≡ within limit m
-answer limit m n e h = ap Within e ∙ sym (within_is limit m (omega arith))
+answer : (limit m n : ℕ) → n ≡ m → n ≤ limit → Some n ≡ within limit m
+answer limit m n e h = ap Some e ∙ sym (within_is limit m (omega arith))
 
 -- the quotient is at most the limit's, so the multiple is at most the limit
 fits : (q b limit : ℕ) → (b ≡ 0 → ⊥) → q ≤ limit / b → q * b ≤ limit

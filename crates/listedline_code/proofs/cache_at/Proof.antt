@@ -1,4 +1,5 @@
 -- `cache_at` meets its contract: an 03 line has the cost in a field that fits its type, and no other kind has one.
+use Rattle.std.specs.Prelude.{Some}
 use mathlib.Core.Bool.{true}
 use mathlib.Core.List.{List, ◌++◌, map}
 use mathlib.Core.Path.{◌≡◌, sym, ap, ◌∙◌}
@@ -9,7 +10,6 @@ use types.Run.{miss}
 use Rattle.frameread.specs.Line.{formed}
 use Rattle.frames.specs.Table.{widths_of, index_of, all_frames}
 use Rattle.frames.specs.declared.table.Frame.{Frame}
-use Rattle.tasks.specs.declared.set.Optional.TheVariants.{Given}
 use Rattle.taskfile.proofs.TaskLaws.{cache_given, cache_absent}
 use Rattle.taskfile.proofs.Standing.{field_within, other_kind}
 use borrow.Author.Rules.{rules}
@@ -34,7 +34,7 @@ unfolding widths_of
 overflow_cast-cost c = omega (arith, field_within Frame.Cached _ c.field-cost.result _ (cached c.before) c.field-cost.ensures)
 
 returns-in-Cached : tie.Need-returns-in-Cached
-returns-in-Cached c = ap Given c.field-cost.ensures ∙ sym (cache_given (rest c.before.before.before) (cached c.before))
+returns-in-Cached c = ap Some c.field-cost.ensures ∙ sym (cache_given (rest c.before.before.before) (cached c.before))
 
 -- the tags of the other kinds
 abbrev others : List ℕ

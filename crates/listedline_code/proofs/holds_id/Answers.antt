@@ -1,32 +1,13 @@
--- `holds_id` meets its contract.
--- The loop's invariant: no id before place i is this one.
-use Prim.Native.Nat.{ℕ}
-use native.Mathlib.Nat.{le_refl}
-use native.Mathlib.Omega.{arith}
-use mathlib.Core.Path.{◌≡◌, sym, ◌∙◌, ap}
-use mathlib.Core.List.{List}
-use lib.Dec.{eqb}
-use lib.ListN.{length, take}
-use lib.Seq.{take-length}
-use borrow.Author.Tests.{eq-eqb, ne_eqb}
+-- The library's test of a list is the search's.
+use Rattle.std.proofs.Common.{◌≡◌, ℕ, List, [], ◌∷◌, Bool, ◌||◌, ◌∙◌, refl, ap}
+use Rattle.std.specs.List.{list_any}
 use Rattle.tasks.specs.Search.{some}
-use Rattle.tasks.proofs.SearchLaws.{passed_none, passed_next, found_some, all_some}
 use Rattle.listedline_code.proofs.holds_id.Goals as goal
 
--- all of them are looked through
-whole : (id : ℕ) (ids : List ℕ) → some (λ (j : ℕ). eqb j id) (take (length ids) ids) ≡ some (λ (j : ℕ). eqb j id) ids
-whole id ids = ap (some (λ (j : ℕ). eqb j id)) (take-length ids)
-
-pub loop-i-init : goal.loop-i-init
-loop-i-init c = passed_none (le_refl _)
-
-pub returns-then-ids-i : goal.returns-then-ids-i
-returns-then-ids-i c =
-    sym (found_some c.loop-i.invariant (omega arith) (eq-eqb _ _ c.if-ids-i.true)) ∙ whole c.args.id c.args.ids.now
-
-pub loop-i-preserved : goal.loop-i-preserved
-loop-i-preserved c = passed_next c.loop-i.invariant (omega arith) (ne_eqb _ _ c.if-ids-i.false)
+any_some : (p : ℕ → Bool) (xs : List ℕ) → list_any p xs ≡ some p xs
+unfolding some
+any_some p [] = refl
+any_some p (x ∷ xs) = ap (λ b. p x || b) (any_some p xs)
 
 pub returns : goal.returns
-returns c =
-    sym (all_some c.loop-i.invariant (omega arith)) ∙ whole c.args.id c.args.ids.now
+returns c = c.contains.ensures.value ∙ any_some _ c.args.ids.now

@@ -1,25 +1,26 @@
 -- `listed_line` meets its contract: rows 3 and 4 at a task's line, in their order.
+use Rattle.refusals.specs.declared.Refusal.{Refusal}
+use Rattle.std.specs.Prelude.{Ok, Result}
 use Prim.Native.Nat.{◌+◌}
 use mathlib.Core.Path.{◌≡◌, sym, ap, ◌∙◌}
 use mathlib.Core.Bool.{Bool, true, false}
 use lib.Dec.{eqb}
 use lib.ListN.{drop}
 use Rattle.refusals.specs.declared.Refusal.TheVariants.{Twice}
-use Rattle.refusals.specs.declared.Outcome.{Outcome}
+use Rattle.refusals.specs.Refused.{Outcome}
 use Rattle.refusals.specs.First.{when}
 use Rattle.tasks.specs.declared.set.Task.{Task}
 use Rattle.tasks.specs.Search.{some}
-use Rattle.listedline.specs.declared.TaskLine.{TaskLine}
 use Rattle.taskfile.specs.File.{line_outcome, task_at}
-use Rattle.listedline.specs.Answer.{task_or}
+use Rattle.lineanswer.specs.Answer.{line_or}
 use Rattle.taskfile.proofs.Standing.{said_count, said_twice}
 use borrow.Author.Rules.{rules}
 use Rattle.listedline_code.proofs.listed_line.Statement.{statement}
 use Rattle.listedline_code.proofs.listed_line.Tie as tie
 
 -- the answer for an outcome of the line
-abbrev given : tie.Start → Outcome → TaskLine
-given s o = task_or o (task_at (drop s.args.at s.args.text.now))
+abbrev given : tie.Start → Outcome → Result Task Refusal
+given s o = line_or o (task_at (drop s.args.at s.args.text.now))
 
 returns-then-full : tie.Need-returns-then-full
 returns-then-full c =
@@ -37,7 +38,7 @@ returns-then-holds_id c = sym (ap (given c.before.before.before.before.before.be
 
 returns : tie.Need-returns
 returns c =
-    ap TaskLine.Task c.task_at-task.ensures
+    ap Ok c.task_at-task.ensures
     ∙ sym (ap (given c.before.before.before.before.before.before) (by-id c.before false c.if-holds_id.false))
 
 pub listed_line_spec : {M : Type 1} → statement M

@@ -18,4 +18,4 @@ returns-clause-value c =
 
 pub returns-clause-name_after : goal.returns-clause-name_after
 returns-clause-name_after c =
-    c.put_bytes.ensures ∙ (cut_fits c.args.part.now c.args.from c.find-end.ensures.place c.args.name.now c.args.held (omega arith)).1
+    c.store.ensures ∙ (cut_fits c.args.part.now c.args.from c.find-end.ensures.place c.args.name.now c.args.held (omega arith)).1

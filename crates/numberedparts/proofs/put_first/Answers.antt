@@ -1,5 +1,5 @@
 -- `numberedparts::put_first` meets its contract. The loop's invariant: the first reserves passed are put one behind the other.
--- The measure is what is left of the room. Assumes nothing.
+-- Assumes nothing.
 use Prim.Native.Nat.{◌+◌, ◌*◌}
 use native.Mathlib.Omega.{arith}
 use mathlib.Core.Path.{◌∙◌, ap}
@@ -12,15 +12,15 @@ use Rattle.numberedparts.proofs.put_first.Goals as goal
 pub loop-p-init : goal.loop-p-init
 loop-p-init c = put_none _ _ _
 
-pub put_figures-requires : goal.put_figures-requires
-put_figures-requires c = omega (arith, c.loop-p.invariant.same)
+pub store-requires : goal.store-requires
+store-requires c = omega (arith, c.loop-p.invariant.same)
 
 pub loop-p-preserved : goal.loop-p-preserved
 loop-p-preserved c =
-    let put = c.put_figures in
+    let put = c.store in
     let first = c.args.plan.first in
     put_next (stand_numbers_at first) 2 (stands_each first) c.args.numbers.now first_at c.requires c.loop-p.invariant (omega arith)
-    (put.ensures ∙ ap (stored c.loop-p.numbers (first_at + 2 * c.loop-p.p)) (stand_there first c.loop-p.p)) put.auto.numbers
+    (put.ensures ∙ ap (stored c.loop-p.numbers (first_at + 2 * c.loop-p.p)) (stand_there first c.loop-p.p)) put.auto.out
 
 pub shape_of-numbers : goal.shape_of-numbers
 shape_of-numbers c = c.loop-p.invariant.same

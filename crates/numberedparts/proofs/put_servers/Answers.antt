@@ -1,5 +1,5 @@
 -- `numberedparts::put_servers` meets its contract. The loop's invariant: the servers passed are put one behind the other.
--- The measure is what is left of the room. Assumes nothing.
+-- Assumes nothing.
 use Prim.Native.Nat.{◌+◌, ◌*◌}
 use native.Mathlib.Omega.{arith}
 use mathlib.Core.Path.{◌∙◌, ap}

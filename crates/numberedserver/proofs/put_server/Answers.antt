@@ -4,4 +4,4 @@ use Rattle.numberedserver.proofs.put_server.Goals as goal
 
 pub returns : goal.returns
 returns c =
-    server_stored c.args.numbers.now c.args.at c.args.server c.wide_places-places.ensures c.requires c.put_figures.ensures c.put_figures-2.ensures c.put_figures-3.ensures
+    server_stored c.args.numbers.now c.args.at c.args.server c.wide_places-places.ensures c.requires c.store.ensures c.store-2.ensures c.store-3.ensures

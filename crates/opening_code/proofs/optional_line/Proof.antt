@@ -1,4 +1,5 @@
 -- `optional_line` meets its contract: the text at the cursor starts with a line of the kind or it does not.
+use Rattle.std.specs.Prelude.{Some}
 use Prim.Native.Nat.{ℕ, ◌+◌, ◌≤◌, ◌^◌}
 use native.Mathlib.Omega.{arith}
 use native.Mathlib.Nat.{pow-le-pow_right}
@@ -12,7 +13,6 @@ use borrow.Author.Tests.{not-true, not-false}
 use Rattle.frameread.specs.Line.{formed}
 use Rattle.frames.specs.Table.{most_digits, width_of}
 use Rattle.frames.proofs.Tables.{length_most}
-use Rattle.tasks.specs.declared.set.Optional.TheVariants.{Given}
 use Rattle.taskfile.proofs.Standing.{field_within}
 use Rattle.opening.proofs.OptionalLaws.{optional_given, optional_none}
 use Rattle.opening_code.proofs.optional_line.Statement.{statement}
@@ -61,7 +61,7 @@ overflow_add-line c = omega (arith, c.requires.1.0)
 returns : tie.Need-returns
 returns c =
     let s = c.before.before.before.before.before in
-    (λ i. record { figure = Given (c.field-figure.ensures i); at = s.args.at + (c.length.ensures i + 1); lines = s.args.lines + 1 })
+    (λ i. record { figure = Some (c.field-figure.ensures i); at = s.args.at + (c.length.ensures i + 1); lines = s.args.lines + 1 })
     ∙ sym (optional_given s.args.kind (rest s) s.args.at s.args.lines (there c.before.before))
 
 pub optional_line_spec : {M : Type 1} → statement M

@@ -12,12 +12,12 @@ use Rattle.optionallines_code.proofs.put_optional.Tie as tie
 put_line-requires : tie.Need-put_line-requires
 unfolding widths_of
 put_line-requires c κs =
-    (omega (arith, c.requires.0), omega (arith, c.requires.1, optional_bytes c.args.frame c.in-Given.is))
+    (omega (arith, c.requires.0), omega (arith, c.requires.1, optional_bytes c.args.frame c.in-Some.is))
 
-returns-in-Given : tie.Need-returns-in-Given
-returns-in-Given c =
+returns-in-Some : tie.Need-returns-in-Some
+returns-in-Some c =
     let written = c.before.before in
-    written.put_line.ensures ∙ ap (stored written.args.out.now written.args.at) (sym (optional_given _ written.in-Given.is))
+    written.put_line.ensures ∙ ap (stored written.args.out.now written.args.at) (sym (optional_given _ written.in-Some.is))
 
 returns-in_default : tie.Need-returns-in_default
 returns-in_default c =
@@ -33,5 +33,5 @@ put_optional_spec =
     put_line-requires
     (λ c. search rules)
     (λ c. search rules)
-    returns-in-Given
+    returns-in-Some
     returns-in_default)

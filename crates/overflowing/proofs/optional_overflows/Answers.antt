@@ -16,4 +16,4 @@ overflows-requires c = omega (arith, c.requires)
 
 pub returns : goal.returns
 unfolding optional_overflows
-returns c = c.overflows.ensures ∙ sym (ap (optional_overflows _) c.in-Given.is)
+returns c = c.overflows.ensures ∙ sym (ap (optional_overflows _) c.in-Some.is)

@@ -1,11 +1,11 @@
 -- `makes_plan` meets its contract: the planner's own plan is made and compared.
 -- Assumes nothing.
+use Rattle.std.specs.Prelude.{Ok}
 use borrow.Author.Rules.{rules}
 use mathlib.Core.Path.{◌≡◌, sym, ap, ◌∙◌}
 use lib.ListN.{length}
 use native.Mathlib.Omega.{arith}
 use Rattle.tasks.specs.Set.{most_tasks}
-use Rattle.refusals.specs.declared.Outcome.TheVariants.{Done}
 use Rattle.planner.specs.declared.PlanAnswer.{PlanAnswer}
 use Rattle.layout.specs.Made.{plan_made}
 use Rattle.planner.specs.Planner.{plan_outcome}
@@ -19,11 +19,11 @@ full : (c : tie.Start) → length c.args.set.tasks ≡ most_tasks
 full c = c.well_formed.0.1.1.1.1.0.1.0.1
 
 -- where the planner is done, its plan is the set's
-done : (c : tie.In-Done) → plan_outcome c.args.set ≡ Done
+done : (c : tie.In-Ok) → plan_outcome c.args.set ≡ Ok tt
 done c =
-    sym (plan_outcome_lem c.args.set) ∙ sym (ap (λ (a : PlanAnswer). a.outcome) c.make-made.ensures) ∙ c.in-Done.is
+    sym (plan_outcome_lem c.args.set) ∙ sym (ap (λ (a : PlanAnswer). a.outcome) c.make-made.ensures) ∙ c.in-Ok.is
 
-made : (c : tie.In-Done) → c.make-made.result.plan ≡ plan_made c.args.set
+made : (c : tie.In-Ok) → c.make-made.result.plan ≡ plan_made c.args.set
 made c = ap (λ (a : PlanAnswer). a.plan) c.make-made.ensures ∙ plan_is c.args.set (done c)
 
 returns-in_default : tie.Need-returns-in_default

@@ -21,17 +21,17 @@ file m = of_file _ m.rows_read-rows.ensures m.read-file.ensures m.settle-made.en
 fit_laid-requires : tie.Need-fit_laid-requires
 fit_laid-requires c κs =
     let m = c.before.before.before in
-    ((file m).clear c.in-Done.is, (file m).servers c.in-Done.is)
+    ((file m).clear c.in-Ok.is, (file m).servers c.in-Ok.is)
 
-returns-in-Done : tie.Need-returns-in-Done
+returns-in-Ok : tie.Need-returns-in-Ok
 unfolding answered
-returns-in-Done c =
-    fits_as (ap printed ((file c.before.before.before.before.before.before).planned c.in-Done.is refl)) c.fit_laid.ensures
+returns-in-Ok c =
+    fits_as (ap printed ((file c.before.before.before.before.before.before).planned c.in-Ok.is refl)) c.fit_laid.ensures
 
-returns-in-Refused : tie.Need-returns-in-Refused
+returns-in-Err : tie.Need-returns-in-Err
 unfolding answered
-returns-in-Refused c =
-    fits_as (ap printed ((file c.before.before.before.before.before).refused c.in-Refused.is)) c.fit_refusal.ensures
+returns-in-Err c =
+    fits_as (ap printed ((file c.before.before.before.before.before).refused c.in-Err.is)) c.fit_refusal.ensures
 
 pub answer_spec : {M : Type 1} → statement M
 answer_spec =
@@ -45,6 +45,6 @@ answer_spec =
     (λ c. search rules)
     (λ c κs. search rules)
     (λ c. search rules)
-    returns-in-Done
+    returns-in-Ok
     (λ c. search rules)
-    returns-in-Refused)
+    returns-in-Err)

@@ -1,8 +1,8 @@
 -- `make` meets its contract: the set's servers are laid out, or the refusal is handed on.
 -- Assumes nothing.
+use Rattle.std.specs.Prelude.{Ok}
 use mathlib.Core.Path.{◌≡◌, sym, ◌∙◌}
 use borrow.Author.Rules.{rules}
-use Rattle.refusals.specs.declared.Outcome.TheVariants.{Done}
 use Rattle.planner.specs.Planner.{plan_outcome}
 use Rattle.planner.proofs.Made.{outcome_clear, plan_done}
 use Rattle.settling.specs.Settled.{settled_of}
@@ -19,12 +19,12 @@ module _ (c : tie.After-settle-made) where
   made : c.settle-made.result ≡ settled_of c.args.set
   made = settled_rows _ c.rows_of-rows.ensures c.settle-made.ensures
 
-returns-in-Refused : tie.Need-returns-in-Refused
-returns-in-Refused c =
-    c.refused.ensures ∙ plan_refused _ (sym (settled_outcome _ (made c.before.before)) ∙ c.in-Refused.is)
+returns-in-Err : tie.Need-returns-in-Err
+returns-in-Err c =
+    c.refused.ensures ∙ plan_refused _ (sym (settled_outcome _ (made c.before.before)) ∙ c.in-Err.is)
 
 module _ (c : tie.In_default) where
-  done : plan_outcome c.args.set ≡ Done
+  done : plan_outcome c.args.set ≡ Ok tt
   done = sym (settled_outcome _ (made c.before)) ∙ c.in_default.is
 
 plan_of-requires : tie.Need-plan_of-requires
@@ -43,7 +43,7 @@ make_spec =
     settle-made-requires
     (λ c. search rules)
     (λ c κs. search rules)
-    returns-in-Refused
+    returns-in-Err
     (λ c. search rules)
     plan_of-requires
     returns)

@@ -142,9 +142,9 @@ module _ (c : tie.After-serve-servers) where
 board_of-outcome-requires : tie.Need-board_of-outcome-requires
 board_of-outcome-requires c κs = (placeable c, served c)
 
-returns-in-Refused : tie.Need-returns-in-Refused
-returns-in-Refused c =
-    c.unsettled-in-Refused.ensures ∙ settled_full (set c.before.before.before) (placeable c.before.before.before) (sym c.board_of-outcome.ensures ∙ c.in-Refused.is)
+returns-in-Err : tie.Need-returns-in-Err
+returns-in-Err c =
+    c.unsettled-in-Err.ensures ∙ settled_full (set c.before.before.before) (placeable c.before.before.before) (sym c.board_of-outcome.ensures ∙ c.in-Err.is)
 
 returns : tie.Need-returns
 returns c =
@@ -171,6 +171,6 @@ placed_spec =
     board_of-outcome-requires
     (λ c. search rules)
     (λ c κs. search rules)
-    returns-in-Refused
+    returns-in-Err
     (λ c. search rules)
     returns)

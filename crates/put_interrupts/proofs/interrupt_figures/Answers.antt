@@ -17,8 +17,8 @@ use Rattle.put_interrupts.proofs.interrupt_figures.Goals as goal
 pub loop-k-init : goal.loop-k-init
 loop-k-init c = filled_none _ _ _
 
-pub put_figures-requires : goal.put_figures-requires
-put_figures-requires c = rw c.interrupt_values-figures.ensures (omega (arith, c.loop-k.invariant.same))
+pub store-requires : goal.store-requires
+store-requires c = rw c.interrupt_values-figures.ensures (omega (arith, c.loop-k.invariant.same))
 
 pub loop-k-preserved : goal.loop-k-preserved
 unfolding widths_of
@@ -27,7 +27,7 @@ loop-k-preserved c =
     let each = c.args.interrupts.each in
     let there = c.interrupt_values-figures.ensures in
     filled_next (interrupt_figures each) (fields_in Frame.Interrupt) (figures_each Frame.Interrupt interrupt_values zero_interrupt each interrupt_sized) (omega arith) l.invariant c.loop-k-test.true
-    (c.put_figures.ensures ∙ ap (stored l.values (5 * l.k)) (there ∙ figures_at_lem Frame.Interrupt interrupt_values zero_interrupt each l.k)) c.put_figures.auto.numbers
+    (c.store.ensures ∙ ap (stored l.values (5 * l.k)) (there ∙ figures_at_lem Frame.Interrupt interrupt_values zero_interrupt each l.k)) c.store.auto.out
 
 pub returns : goal.returns
 unfolding widths_of

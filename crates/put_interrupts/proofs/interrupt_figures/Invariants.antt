@@ -1,10 +1,6 @@
-use Prim.Native.Nat.{◌-◌}
 use Rattle.framelines.proofs.FillLaws.{Filled}
 use Rattle.optionallines.specs.Lines.{most_figures, interrupt_figures}
 use Rattle.put_interrupts.proofs.interrupt_figures.Given as goal
 
 abbrev pub invariant-loop-k : goal.invariant-loop-k
-invariant-loop-k l = Filled (interrupt_figures l.interrupts.each) most_figures l.n l.values l.k
-
-abbrev pub decreases-loop-k : goal.decreases-loop-k
-decreases-loop-k l = l.n - l.k
+invariant-loop-k l = Filled (interrupt_figures l.interrupts.each) most_figures l.interrupts.count l.values l.k

@@ -3,7 +3,7 @@ use Prim.Native.Nat.{◌+◌, ◌≤◌}
 use native.Mathlib.Omega.{arith}
 use mathlib.Core.Path.{◌≡◌, ap, ◌∙◌}
 use borrow.Author.Rules.{rules}
-use Rattle.refusals.specs.declared.Outcome.{Outcome}
+use Rattle.refusals.specs.Refused.{Outcome}
 use Rattle.tasks.specs.declared.set.TaskSet.{TaskSet}
 use Rattle.tasks.specs.Set.{most_tasks, most_interrupts, interrupts_with, set_of, set_with}
 use Rattle.taskread.specs.Read.{answer}
@@ -33,7 +33,7 @@ returns-then-empty : tie.Need-returns-then-empty
 returns-then-empty c =
     let told = c.before.before.before in
     let lines = told.before in
-    c.answered-then-empty.ensures ∙ ended_none lines.requires.1.1 lines.interrupt_lines-rest.ensures told.in-Done.is c.if-empty.true
+    c.answered-then-empty.ensures ∙ ended_none lines.requires.1.1 lines.interrupt_lines-rest.ensures told.in-Ok.is c.if-empty.true
 
 -- there is room for the tasks, and for the interrupts, of which there were none
 few : (s : tie.Start) → (s.args.tasks.count ≤ most_tasks) × (s.args.tasks.interrupts.count ≡ 0)
@@ -53,7 +53,7 @@ returns c =
     let set : TaskSet = set_with lines.args.tasks lines.interrupt_lines-rest.result.interrupts in
     c.answered-2.ensures
     ∙ (ap (λ (o : Outcome). answer o set) c.figures.ensures
-    ∙ ended_all lines.requires.1.1 lines.interrupt_lines-rest.ensures told.in-Done.is c.if-empty.false)
+    ∙ ended_all lines.requires.1.1 lines.interrupt_lines-rest.ensures told.in-Ok.is c.if-empty.false)
 
 pub finished_spec : {M : Type 1} → statement M
 finished_spec =

@@ -1,26 +1,30 @@
--- `sums::ring_ticks` meets its contract. The loop's invariant: the sum is that of the first i reserves.
--- The measure is what is left of n. Assumes nothing.
-use native.Mathlib.Omega.{arith}
-use Rattle.reserves.proofs.Starts.{ring_nil}
-use Rattle.reserves.proofs.SummedLaws.{summed_none, summed_all, ticks_more, ticks_same, ticks_room}
+-- The sum of those below a slot is the ring's ticks, of which there are few.
+-- Assumes nothing.
+use Rattle.std.proofs.Common.{ℕ, ◌<◌, List, take, ◌∙◌, rules, tests, arith}
+use Rattle.std.specs.List.{sum, filter}
+use Rattle.std.proofs.lemmas.Iterator.{YieldsList-from_slice}
+use Rattle.std.proofs.lemmas.Iterator.Consumers.{YieldsList-from_filter, fits_from_yields_list, sum_from_yields_List}
+use native.Mathlib.Nat.{le_refl}
+use lib.Dec.{ltb}
+use Rattle.reserves.specs.Slotted.{SlottedFirst}
+use Rattle.reserves.proofs.Starts.{ring_room}
+use Rattle.reserves_code.proofs.ChainLaws.{ticks_chain}
 use Rattle.reserves_code.proofs.ring_ticks.Goals as goal
-use Rattle.reserves_code.proofs.ring_ticks.Goals.{else-reserve-slot, then-reserve-slot}
 
-pub loop-i-init : goal.loop-i-init
-loop-i-init c = summed_none (ring_nil _)
+-- the sum has room
+small : (S : ℕ) (rs : List ℕ) (n : ℕ) → SlottedFirst S rs n → sum (filter (λ (R : ℕ). ltb R S) (take n rs)) < 18446744073709551616
+small S rs n laid = omega (arith, ticks_chain S (take n rs), ring_room laid n (le_refl n), laid.slot_below)
 
-pub overflow_add-sum : goal.overflow_add-sum
-overflow_add-sum c =
-    let laid = c.requires in
-    omega (arith, laid.slot_below, laid.within c.loop-i.i c.loop-i-test.true, ticks_room laid c.loop-i.invariant)
+pub sum-requires-clause-fits : goal.sum-requires-clause-fits
+sum-requires-clause-fits c =
+    let rs = take c.args.n c.args.reserves.now in
+    fits_from_yields_list c.filter.result _
+    (YieldsList-from_filter _ (λ (R : ℕ). ltb R c.args.slot) (YieldsList-from_slice rs (search rules)) c.filter.ensures.closure (λ x r q k. search (rules, tests)))
+    (small _ _ _ c.requires)
 
 pub returns : goal.returns
-returns c = summed_all c.loop-i.invariant c.loop-i-test.false
-
-pub loop-i-preserved : goal.loop-i-preserved
-loop-i-preserved c =
-    let h = c.loop-i-test.true in
-    (elim c.if-reserve-slot.branch [
-      | then-reserve-slot w ↦ ticks_more c.requires c.loop-i.invariant h (omega (arith, w.if-reserve-slot.true)) w.sum-is
-      | else-reserve-slot w ↦ ticks_same c.requires c.loop-i.invariant h (omega (arith, w.if-reserve-slot.false)) w.sum-is
-    ])
+returns c =
+    let rs = take c.args.n c.args.reserves.now in
+    sum_from_yields_List c.filter.result _ c.sum.ensures.ran
+    (YieldsList-from_filter _ (λ (R : ℕ). ltb R c.args.slot) (YieldsList-from_slice rs (search rules)) c.filter.ensures.closure (λ x r q k. search (rules, tests)))
+    ∙ ticks_chain c.args.slot rs

@@ -14,7 +14,7 @@ pub returns : goal.returns
 unfolding asked
 returns c =
     let a = c.args in
-    c.larger.ensures ∙ ap₂ max c.last_of_loads-own.ensures c.last_of_greatest-theirs.ensures ∙
+    c.max.ensures ∙ ap₂ max c.last_of_loads-own.ensures c.last_of_greatest-theirs.ensures ∙
     sym
     (last_together (demand (loads_of a.loads.now a.n)) (greatest_of_all (interrupts_of a.loads.now a.n)) a.hi
     (λ t u h. demand_mono (loads_of a.loads.now a.n) c.requires.0.loads.sound h)

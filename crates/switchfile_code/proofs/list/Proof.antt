@@ -20,18 +20,18 @@ file m = of_file _ m.rows_read-rows.ensures m.read-file.ensures m.settle-made.en
 fit_laid-requires : tie.Need-fit_laid-requires
 fit_laid-requires c κs =
     let m = c.before.before.before in
-    ((file m).clear c.in-Done.is, (file m).servers c.in-Done.is)
+    ((file m).clear c.in-Ok.is, (file m).servers c.in-Ok.is)
 
-returns-in-Done : tie.Need-returns-in-Done
-returns-in-Done c =
+returns-in-Ok : tie.Need-returns-in-Ok
+returns-in-Ok c =
     let t = c.before.before.before.before in
     let m = t.before.before in
-    list_fits (begun m).args.text.now (begun m).args.out.now ((file m).planned t.in-Done.is refl) refl c.fit_laid.ensures
+    list_fits (begun m).args.text.now (begun m).args.out.now ((file m).planned t.in-Ok.is refl) refl c.fit_laid.ensures
 
-returns-in-Refused : tie.Need-returns-in-Refused
-returns-in-Refused c =
+returns-in-Err : tie.Need-returns-in-Err
+returns-in-Err c =
     let m = c.before in
-    list_refused (begun m).args.text.now (begun m).args.out.now ((file m).refused c.in-Refused.is) refl
+    list_refused (begun m).args.text.now (begun m).args.out.now ((file m).refused c.in-Err.is) refl
 
 pub list_spec : {M : Type 1} → statement M
 list_spec =
@@ -44,5 +44,5 @@ list_spec =
     fit_laid-requires
     (λ c. search rules)
     (λ c. search rules)
-    returns-in-Done
-    returns-in-Refused)
+    returns-in-Ok
+    returns-in-Err)

@@ -3,8 +3,8 @@ use mathlib.Core.Path.{sym, ap}
 use Rattle.taskframe.specs.Frames.{frame_by}
 use Rattle.taskframe.proofs.task_frame.Goals as goal
 
-pub returns-in-Given : goal.returns-in-Given
-returns-in-Given c = sym (ap frame_by c.in-Given.is)
+pub returns-in-Some : goal.returns-in-Some
+returns-in-Some c = sym (ap frame_by c.in-Some.is)
 
-pub returns-in-Absent : goal.returns-in-Absent
-returns-in-Absent c = sym (ap frame_by c.in-Absent.is)
+pub returns-in-None : goal.returns-in-None
+returns-in-None c = sym (ap frame_by c.in-None.is)

@@ -1,5 +1,6 @@
 -- `task_lines` meets its contract.
 -- The loop's invariant: the lines so far are taken, the set and the ids are what they hold, and the cursor stands behind them.
+use Rattle.std.specs.Prelude.{Ok}
 use Prim.Native.Nat.{ℕ, ◌+◌, ◌-◌, ◌≤◌, ◌<◌}
 use native.Mathlib.Omega.{arith}
 use mathlib.Core.Bool.{false}
@@ -17,8 +18,7 @@ use Rattle.tasks.specs.declared.set.Task.{Task}
 use Rattle.tasks.specs.Set.{most_tasks}
 use Rattle.taskframe.specs.Frames.{task_frame}
 use Rattle.taskfile.specs.File.{line_outcome, task_at}
-use Rattle.listedline.specs.declared.TaskLine.{TaskLine}
-use Rattle.listedline.specs.Answer.{task_or}
+use Rattle.lineanswer.specs.Answer.{line_or}
 use Rattle.tasklines.proofs.Tasking.{Held, held_few, held_opening, held_task, held_over, held_before, task_room, ended_done, ended_refused}
 use Rattle.tasklines_code.proofs.task_lines.Statement.{statement}
 use Rattle.tasklines_code.proofs.task_lines.Tie as tie
@@ -53,22 +53,22 @@ task_line-line-requires c κs =
 
 returns-in_default : tie.Need-returns-in_default invariant-loop-at decreases-loop-at
 returns-in_default c =
-    ended_refused c.loop-at.invariant c.in_default.field-0 c.task_line-line.ensures c.in_default.is c.task_outcome.ensures
+    ended_refused c.loop-at.invariant c.in_default.field-0 c.task_line-line.ensures c.in_default.is c.of_line.ensures
 
 -- the turn in which a task was told
-abbrev turn : tie.In-Task invariant-loop-at decreases-loop-at → tie.In-loop-at invariant-loop-at decreases-loop-at
+abbrev turn : tie.In-Ok invariant-loop-at decreases-loop-at → tie.In-loop-at invariant-loop-at decreases-loop-at
 turn c = c.before.before.before.before.before
 
-abbrev text_of : tie.In-Task invariant-loop-at decreases-loop-at → List ℕ
+abbrev text_of : tie.In-Ok invariant-loop-at decreases-loop-at → List ℕ
 text_of c = (turn c).before.before.before.before.before.args.text.now
 
 -- what the line gives where it is a task
-gives : (c : tie.In-Task invariant-loop-at decreases-loop-at) → task_or (line_outcome (text_of c) ((turn c).loop-at.lines + 1)) (task_at (drop (turn c).loop-at.at (text_of c))) ≡ TaskLine.Task c.in-Task.task
-gives c = sym c.task_line-line.ensures ∙ c.in-Task.is
+gives : (c : tie.In-Ok invariant-loop-at decreases-loop-at) → line_or (line_outcome (text_of c) ((turn c).loop-at.lines + 1)) (task_at (drop (turn c).loop-at.at (text_of c))) ≡ Ok c.in-Ok.task
+gives c = sym c.task_line-line.ensures ∙ c.in-Ok.is
 
 -- there is room for the task
-room : (c : tie.In-Task invariant-loop-at decreases-loop-at) → (turn c).loop-at.set.count < most_tasks
-room c = task_room c.in-Task.task (turn c).loop-at.invariant (turn c).loop-at-test.true (other c.before.before.before) (gives c)
+room : (c : tie.In-Ok invariant-loop-at decreases-loop-at) → (turn c).loop-at.set.count < most_tasks
+room c = task_room c.in-Ok.task (turn c).loop-at.invariant (turn c).loop-at-test.true (other c.before.before.before) (gives c)
 
 offset_bounds-set-count : tie.Need-offset_bounds-set-count invariant-loop-at decreases-loop-at
 offset_bounds-set-count c = omega (arith, room c)
@@ -105,7 +105,7 @@ loop-at-smaller c = omega (arith, c.length.ensures, (turn c.before.before).loop-
 loop-at-preserved : tie.Need-loop-at-preserved invariant-loop-at decreases-loop-at
 loop-at-preserved c =
     let k = c.before.before in
-    let task : Task = k.in-Task.task in
+    let task : Task = k.in-Ok.task in
     let size : c.length.result ≡ length_of (task_frame task) = c.length.ensures ∙ ap length_of c.task_frame-frame.ensures in
     rw size
     (held_task task (turn k).loop-at.invariant (turn k).loop-at-test.true (other k.before.before.before) (gives k))

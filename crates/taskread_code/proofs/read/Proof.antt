@@ -1,10 +1,10 @@
 -- `read::read` meets its contract: line 1, the tasks, then what stands behind them.
+use Rattle.std.specs.Prelude.{Ok}
 use Prim.Native.Nat.{ℕ}
 use mathlib.Core.List.{List}
 use mathlib.Core.Path.{◌≡◌, sym, ◌∙◌}
 use borrow.Author.Rules.{rules}
-use Rattle.refusals.specs.declared.Outcome.TheVariants.{Done}
-use Rattle.headerline.proofs.Answers.{header_given}
+use Rattle.lineanswer.proofs.Answers.{line_given}
 use Rattle.taskfile.specs.File.{line_outcome, header_at}
 use Rattle.taskread.proofs.Reading.{first_refused, later_refused}
 use Rattle.taskread_code.proofs.read.Statement.{statement}
@@ -14,15 +14,15 @@ returns-in_default : tie.Need-returns-in_default
 returns-in_default c =
     let outcome = c.before.before in
     let told = outcome.in_default in
-    c.answered.ensures ∙ first_refused outcome.args.text.now told.field-0 c.zero.result outcome.header_line-first.ensures told.is outcome.header_outcome.ensures
+    c.answered.ensures ∙ first_refused outcome.args.text.now told.field-0 c.zero.result outcome.header_line-first.ensures told.is outcome.of_line.ensures
 
 -- line 1 is clear, and the header has its figures
-first-line : (c : tie.In-Header) →
+first-line : (c : tie.In-Ok) →
     let text : List ℕ = c.args.text.now in
-    (line_outcome text 1 ≡ Done) × (c.in-Header.header ≡ header_at text)
+    (line_outcome text 1 ≡ Ok tt) × (c.in-Ok.header ≡ header_at text)
 first-line c =
     let text : List ℕ = c.args.text.now in
-    header_given (line_outcome text 1) (header_at text) c.in-Header.header (sym c.header_line-first.ensures ∙ c.in-Header.is)
+    line_given (line_outcome text 1) (header_at text) c.in-Ok.header (sym c.header_line-first.ensures ∙ c.in-Ok.is)
 
 opened-requires : tie.Need-opened-requires
 opened-requires c κs = first-line c
@@ -38,7 +38,7 @@ returns-in_default-outcome c =
 finished-requires : tie.Need-finished-requires
 finished-requires c κs =
     let ended = c.task_lines-listed.ensures in
-    (ended.done c.in-Done.is, (ended.tasked.none, ended.all))
+    (ended.done c.in-Ok-outcome.is, (ended.tasked.none, ended.all))
 
 returns : tie.Need-returns
 returns c = c.finished.ensures

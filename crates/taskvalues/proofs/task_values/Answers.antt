@@ -2,4 +2,4 @@
 use Rattle.taskvalues.proofs.task_values.Goals as goal
 
 pub returns : goal.returns
-returns c = cc c.given_or.ensures
+returns c = cc c.unwrap_or.ensures

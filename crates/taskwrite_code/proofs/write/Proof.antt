@@ -1,5 +1,6 @@
 -- The three answers in their order: row 11, row 12, the text.
 -- Assumes nothing.
+use Rattle.std.specs.Prelude.{Err, Ok}
 use Prim.Native.Nat.{◌≤◌, ◌<◌}
 use borrow.Author.Rules.{rules}
 use native.Mathlib.Omega.{arith}
@@ -7,7 +8,6 @@ use mathlib.Core.Bool.{false}
 use mathlib.Core.Path.{◌≡◌, refl, sym, ◌∙◌, ap}
 use lib.ListN.{length}
 use Rattle.refusals.specs.declared.Refusal.TheVariants.{Ask, Room}
-use Rattle.refusals.specs.declared.Written.TheVariants.{Bytes, Refused}
 use Rattle.tasks.specs.Set.{most_tasks, most_interrupts}
 use Rattle.tasktext.specs.Text.{text_of}
 use Rattle.taskwrite.specs.Write.{writer_asks}
@@ -19,7 +19,7 @@ use Rattle.taskwrite_code.proofs.write.Tie as tie
 returns-then-writer_asks : tie.Need-returns-then-writer_asks
 returns-then-writer_asks c =
     let a = c.args in
-    answered a.set a.out.now (Refused Ask) a.out.now (write_ask a.set a.out.now (sym c.writer_asks.ensures ∙ c.if-writer_asks.true)) refl
+    answered a.set a.out.now (Err Ask) a.out.now (write_ask a.set a.out.now (sym c.writer_asks.ensures ∙ c.if-writer_asks.true)) refl
 
 -- past row 11 the set can be written, and its counts are within the room
 taken : (d : tie.Else-writer_asks) → writer_asks d.args.set ≡ false
@@ -43,7 +43,7 @@ returns-then-short c =
     let d = c.before in
     let a = d.args in
     let short : length a.out.now < length (text_of a.set) = omega (arith, c.if-short.true-raw, size d) in
-    answered a.set a.out.now (Refused Room) a.out.now (write_room a.set a.out.now (taken d.before) short) refl
+    answered a.set a.out.now (Err Room) a.out.now (write_room a.set a.out.now (taken d.before) short) refl
 
 put_text-requires : tie.Need-put_text-requires
 put_text-requires c κs =
@@ -57,8 +57,8 @@ returns c =
     let d = e.before in
     let a = d.args in
     let room : length (text_of a.set) ≤ length a.out.now = omega (arith, e.if-short.false-raw, size d) in
-    answered a.set a.out.now (Bytes d.text_length-needed.result) c.put_text.new.out
-    (write_bytes a.set a.out.now (taken d.before) room ∙ ap Bytes (sym (size d)))
+    answered a.set a.out.now (Ok d.text_length-needed.result) c.put_text.new.out
+    (write_bytes a.set a.out.now (taken d.before) room ∙ ap Ok (sym (size d)))
     c.put_text.ensures
 
 pub write_spec : {M : Type 1} → statement M

@@ -16,9 +16,9 @@ returns-then-answer-numbers-clause-answer_after c =
 pub returns-clause-value : goal.returns-clause-value
 returns-clause-value c =
     let a = c.args in
-    (told_stored a.numbers.now a.answer.now c.if-answer-numbers.false c.put_figures.ensures).0
+    (told_stored a.numbers.now a.answer.now c.if-answer-numbers.false c.store.ensures).0
 
 pub returns-clause-answer_after : goal.returns-clause-answer_after
 returns-clause-answer_after c =
     let a = c.args in
-    (told_stored a.numbers.now a.answer.now c.if-answer-numbers.false c.put_figures.ensures).1
+    (told_stored a.numbers.now a.answer.now c.if-answer-numbers.false c.store.ensures).1

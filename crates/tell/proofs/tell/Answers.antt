@@ -2,12 +2,12 @@
 use Rattle.told.proofs.ToldLaws.{told_of_lem, told_refused}
 use Rattle.tell.proofs.tell.Goals as goal
 
-pub returns-in-Refused-clause-answer_after : goal.returns-in-Refused-clause-answer_after
-returns-in-Refused-clause-answer_after c =
+pub returns-in-Err-clause-answer_after : goal.returns-in-Err-clause-answer_after
+returns-in-Err-clause-answer_after c =
     let a = c.args in
-    (told_of_lem a.numbers.now a.answer.now c.in-Refused.is (told_refused a.numbers.now a.answer.now _ c.code.ensures)).1
+    (told_of_lem a.numbers.now a.answer.now c.in-Err.is (told_refused a.numbers.now a.answer.now _ c.code.ensures)).1
 
-pub returns-in-Refused-clause-value : goal.returns-in-Refused-clause-value
-returns-in-Refused-clause-value c =
+pub returns-in-Err-clause-value : goal.returns-in-Err-clause-value
+returns-in-Err-clause-value c =
     let a = c.args in
-    (told_of_lem a.numbers.now a.answer.now c.in-Refused.is (told_refused a.numbers.now a.answer.now _ c.code.ensures)).0
+    (told_of_lem a.numbers.now a.answer.now c.in-Err.is (told_refused a.numbers.now a.answer.now _ c.code.ensures)).0

@@ -13,17 +13,17 @@ returns-then-answer-eq0 c =
     let a = c.args in
     listed_nowhere a.tasks.now a.out.now a.answer.now (omega (arith, c.if-answer-eq0.true)) c.no_place.ensures
 
-returns-in-Bytes : tie.Need-returns-in-Bytes
-returns-in-Bytes c =
+returns-in-Ok : tie.Need-returns-in-Ok
+returns-in-Ok c =
     let a = c.args in
     listed_bytes a.tasks.now a.out.now a.answer.now _ (omega (arith, c.if-answer-eq0.false))
-    (sym c.list-written.ensures.0 ∙ c.in-Bytes.is) c.list-written.ensures.1
+    (sym c.list-written.ensures.0 ∙ c.in-Ok.is) c.list-written.ensures.1
 
-returns-in-Refused : tie.Need-returns-in-Refused
-returns-in-Refused c =
+returns-in-Err : tie.Need-returns-in-Err
+returns-in-Err c =
     let a = c.args in
     listed_refused a.tasks.now a.out.now a.answer.now _ (omega (arith, c.if-answer-eq0.false))
-    (sym c.list-written.ensures.0 ∙ c.in-Refused.is) c.list-written.ensures.1 c.code.ensures
+    (sym c.list-written.ensures.0 ∙ c.in-Err.is) c.list-written.ensures.1 c.code.ensures
 
 pub rack_switches_spec : {M : Type 1} → statement M
 rack_switches_spec =
@@ -38,6 +38,6 @@ rack_switches_spec =
     (λ c κs. search rules)
     (λ c. search rules)
     (λ c. search rules)
-    returns-in-Bytes
+    returns-in-Ok
     (λ c. search rules)
-    returns-in-Refused)
+    returns-in-Err)

@@ -7,5 +7,5 @@ pub loop-done-preserved : goal.loop-done-preserved
 loop-done-preserved g c = (
   search rules,
   search rules,
-  read_more _ _ _ _ _ _ _ _ c.loop-done.invariant.0 (search rules) c.loop-done.invariant.2 c.in-Bytes.ensures.bytes.0,
+  read_more _ _ _ _ _ _ _ _ c.loop-done.invariant.0 (search rules) c.loop-done.invariant.2 c.in_ok-more.ensures.bytes.0,
 )

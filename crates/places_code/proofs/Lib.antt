@@ -1,0 +1,2 @@
+-- The laws that the proof of `places_of` needs.
+pub mod ListedLaws

@@ -1,0 +1,2 @@
+-- What the chains over the reserves give.
+pub mod ChainLaws
