@@ -26,7 +26,14 @@ own_most : (frame : Frame) → (row_of frame).fields ≤ most_fields
 unfolding row_of
 own_most frame = fields_most frame
 
+own_fields : (frame : Frame) → (row_of frame).fields ≡ fields_in frame
+unfolding row_of
+own_fields frame = refl
+
 module _ (frame : Frame) {row : Row} (e : row ≡ row_of frame) where
+  pub row_fields : row.fields ≡ fields_in frame
+  row_fields = ap (λ (r : Row). r.fields) e ∙ own_fields frame
+
   pub widths_are : take row.fields row.widths ≡ widths_of frame
   widths_are = ap (λ (r : Row). take r.fields r.widths) e ∙ own_widths frame
 

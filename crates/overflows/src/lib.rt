@@ -23,7 +23,7 @@ pub fn overflows(frame: Frame, values: &[u64]) -> bool
     ensures { result ≡ line_overflows frame values.now }
 {
     let row = row_of(frame);
-    row.widths[..row.fields]
+    row.widths[..fields_in(frame)]
         .iter()
         .zip(values)
         .any(|(width, value)| too_large(*width as usize, *value))
